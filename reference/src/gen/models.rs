@@ -1,0 +1,276 @@
+//! Random well-formed models of varied size, and a few fixed ones.
+
+use super::rng::Rng;
+use crate::model::{
+    Atom, Atoms, Counter, Edge, Model, Relation, Update, MAX_ATOMS, MAX_CLOCKS, MAX_CLOCK_CONSTANT,
+    MAX_COUNTERS, MAX_COUNTER_VALUE, MAX_EDGES, MAX_LOCATIONS, MAX_OFFSET, NO_ATOMS,
+};
+
+/// How large a random model may grow.
+#[derive(Clone, Copy, PartialEq, Eq, Debug)]
+pub enum Size {
+    /// Lists small enough to enumerate all satisfying assignments.
+    Tiny,
+    Medium,
+    /// Up to the limits of the document.
+    Full,
+}
+
+struct Limits {
+    locations: u8,
+    clocks: u8,
+    counters: u8,
+    edges: u8,
+    atoms: u8,
+    clock_constant: u8,
+    greatest: u8,
+}
+
+impl Size {
+    fn limits(self) -> Limits {
+        match self {
+            Size::Tiny => Limits {
+                locations: 3,
+                clocks: 1,
+                counters: 2,
+                edges: 3,
+                atoms: 2,
+                clock_constant: 1,
+                greatest: 2,
+            },
+            Size::Medium => Limits {
+                locations: 6,
+                clocks: 2,
+                counters: 2,
+                edges: 10,
+                atoms: 3,
+                clock_constant: 6,
+                greatest: 7,
+            },
+            Size::Full => Limits {
+                locations: MAX_LOCATIONS as u8,
+                clocks: MAX_CLOCKS as u8,
+                counters: MAX_COUNTERS as u8,
+                edges: MAX_EDGES as u8,
+                atoms: MAX_ATOMS as u8,
+                clock_constant: MAX_CLOCK_CONSTANT,
+                greatest: MAX_COUNTER_VALUE,
+            },
+        }
+    }
+}
+
+const CLOCK_RELATIONS: [Relation; 5] = [
+    Relation::Less,
+    Relation::LessEqual,
+    Relation::Equal,
+    Relation::GreaterEqual,
+    Relation::Greater,
+];
+
+/// A well-formed model within the limits of a size.
+pub fn model(rng: &mut Rng, size: Size) -> Model {
+    let limits = size.limits();
+    let mut model = Model::blank();
+    model.locations = rng.between(1, limits.locations);
+    model.init = rng.below(usize::from(model.locations)) as u8;
+    model.target = rng.below(usize::from(model.locations)) as u8;
+    model.clocks = rng.between(0, limits.clocks);
+    model.counters = rng.between(0, limits.counters);
+    for index in 0..usize::from(model.counters) {
+        let greatest = rng.between(0, limits.greatest);
+        model.counter[index] = Counter {
+            greatest,
+            initial: rng.between(0, greatest),
+        };
+    }
+    for index in 0..usize::from(model.locations) {
+        let initial = index == usize::from(model.init);
+        model.invariant[index] = invariant(rng, &model, &limits, initial);
+    }
+    model.edges = rng.between(0, limits.edges);
+    for index in 0..usize::from(model.edges) {
+        model.edge[index] = edge(rng, &model, &limits);
+    }
+    model
+}
+
+/// A model of a random size, most of them small.
+pub fn any_model(rng: &mut Rng) -> Model {
+    let size = rng.pick(&[
+        Size::Tiny,
+        Size::Tiny,
+        Size::Medium,
+        Size::Medium,
+        Size::Full,
+    ]);
+    model(rng, size)
+}
+
+/// An invariant. Half are empty, and that of the initial location mostly holds
+/// at the start, so that many models have runs.
+fn invariant(rng: &mut Rng, model: &Model, limits: &Limits, initial: bool) -> Atoms {
+    let mut atoms = NO_ATOMS;
+    if model.clocks == 0 || rng.one_in(2) {
+        return atoms;
+    }
+    let holds_at_zero = initial && !rng.one_in(8);
+    let upper_bounds = holds_at_zero || !rng.one_in(3);
+    let count = usize::from(rng.between(0, limits.atoms));
+    for slot in &mut atoms[..count] {
+        *slot = clock_atom(rng, model, limits, upper_bounds);
+    }
+    atoms
+}
+
+fn clock_atom(rng: &mut Rng, model: &Model, limits: &Limits, upper_bound: bool) -> Atom {
+    let index = rng.below(usize::from(model.clocks)) as u8;
+    let relation = if upper_bound {
+        Relation::LessEqual
+    } else {
+        rng.pick(&CLOCK_RELATIONS)
+    };
+    Atom::clock(index, relation, rng.between(0, limits.clock_constant))
+}
+
+/// A counter atom; the constant may lie above the counter's greatest value.
+fn counter_atom(rng: &mut Rng, model: &Model, limits: &Limits) -> Atom {
+    let index = rng.below(usize::from(model.counters)) as u8;
+    let constant = if rng.one_in(8) {
+        MAX_COUNTER_VALUE
+    } else {
+        limits.greatest
+    };
+    Atom::counter(index, rng.pick(&Relation::ALL), rng.between(0, constant))
+}
+
+fn guard(rng: &mut Rng, model: &Model, limits: &Limits) -> Atoms {
+    let mut atoms = NO_ATOMS;
+    if model.clocks + model.counters == 0 || rng.one_in(3) {
+        return atoms;
+    }
+    let count = usize::from(rng.between(0, limits.atoms));
+    for slot in &mut atoms[..count] {
+        let on_clock = model.counters == 0 || (model.clocks > 0 && rng.one_in(2));
+        *slot = if on_clock {
+            clock_atom(rng, model, limits, false)
+        } else {
+            counter_atom(rng, model, limits)
+        };
+    }
+    atoms
+}
+
+fn edge(rng: &mut Rng, model: &Model, limits: &Limits) -> Edge {
+    let mut edge = Edge::BLANK;
+    edge.source = rng.below(usize::from(model.locations)) as u8;
+    edge.target = rng.below(usize::from(model.locations)) as u8;
+    edge.guard = guard(rng, model, limits);
+    for index in 0..usize::from(model.counters) {
+        edge.updates[index] = update(rng, model, limits);
+    }
+    for index in 0..usize::from(model.clocks) {
+        edge.resets[index] = rng.one_in(3);
+    }
+    edge
+}
+
+/// An update; some lead out of every range.
+fn update(rng: &mut Rng, model: &Model, limits: &Limits) -> Update {
+    let source = rng.below(usize::from(model.counters)) as u8;
+    let far = rng.one_in(12);
+    match rng.below(4) {
+        0 | 1 => Update::Keep,
+        2 => Update::Constant(rng.between(
+            0,
+            if far {
+                MAX_COUNTER_VALUE
+            } else {
+                limits.greatest
+            },
+        )),
+        _ => {
+            let reach = if far { MAX_OFFSET as u8 } else { 2 };
+            let offset = rng.between(0, 2 * reach) as i8 - reach as i8;
+            Update::Sum { source, offset }
+        }
+    }
+}
+
+/// The model with the greatest totals: 16 locations, four counters of 32
+/// values, four clocks, 32 edges. Every atom fails for every value (`x0<0`), so
+/// that each gives the most clauses, except one guard atom: some clock atom
+/// must bear the constant 30 to lift the ceiling to 31, and such an atom fails
+/// for at most 31 of the 32 values. In a guard it costs one clause a step, in an
+/// invariant it would cost one a state, which is one more. Counters and clocks
+/// are kept: one three-literal clause for each value is the most an update or
+/// clock can give.
+pub fn largest() -> Model {
+    let mut model = Model::blank();
+    model.locations = MAX_LOCATIONS as u8;
+    model.clocks = MAX_CLOCKS as u8;
+    model.counters = MAX_COUNTERS as u8;
+    model.counter = [Counter {
+        greatest: MAX_COUNTER_VALUE,
+        initial: 0,
+    }; MAX_COUNTERS];
+    let never = Atom::clock(0, Relation::Less, 0);
+    model.invariant = [[never; MAX_ATOMS]; MAX_LOCATIONS];
+    model.edges = MAX_EDGES as u8;
+    model.edge = [Edge {
+        guard: [never; MAX_ATOMS],
+        ..Edge::BLANK
+    }; MAX_EDGES];
+    model.edge[0].guard[0] = Atom::clock(0, Relation::Greater, MAX_CLOCK_CONSTANT);
+    model
+}
+
+/// Model A of the document.
+pub fn model_a() -> Model {
+    let mut model = Model::blank();
+    model.locations = 2;
+    model.target = 1;
+    model.edges = 1;
+    model.edge[0] = Edge {
+        target: 1,
+        ..Edge::BLANK
+    };
+    model
+}
+
+/// Logger model B of the document.
+pub fn model_b() -> Model {
+    let mut model = Model::blank();
+    model.locations = 4;
+    model.target = 3;
+    model.clocks = 1;
+    model.counters = 1;
+    model.counter[0] = Counter {
+        greatest: 1,
+        initial: 0,
+    };
+    model.invariant[1][0] = Atom::clock(0, Relation::LessEqual, 3);
+    model.edges = 3;
+    model.edge[0] = Edge {
+        target: 1,
+        ..Edge::BLANK
+    };
+    model.edge[0].resets[0] = true;
+    model.edge[1] = Edge {
+        source: 1,
+        target: 2,
+        ..Edge::BLANK
+    };
+    model.edge[1].guard[0] = Atom::clock(0, Relation::LessEqual, 2);
+    model.edge[1].updates[0] = Update::Sum {
+        source: 0,
+        offset: 1,
+    };
+    model.edge[2] = Edge {
+        source: 1,
+        target: 3,
+        ..Edge::BLANK
+    };
+    model.edge[2].guard[0] = Atom::clock(0, Relation::GreaterEqual, 3);
+    model
+}

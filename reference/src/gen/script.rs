@@ -1,0 +1,229 @@
+//! Cases for a program that changes a record line by line and answers questions
+//! about it: its input and the reference's answers.
+//!
+//! Lines: `0 0` begins with the blank model; `1 FIELD N` sets a number at the
+//! head (locations, init, target, clocks, counters, edges); `2 I G N` a counter;
+//! `3 L K ATOM` an atom of an invariant; `4 E FROM TO` an edge's ends; `5 E K ATOM`
+//! an atom of a guard; `6 E K UPDATE` an update; `7 E K R` a reset. An atom is
+//! its sort (0 none, 1 clock, 2 counter), index, relation and constant; an update
+//! its sort (0 keep, 1 constant, 2 sum), number and offset plus 32. Questions:
+//! `10` refusal; `11` refusal and ceiling; `12 BOUND` refusal, S, H, N; `13 RUN`
+//! refusal and place; `14 STATE BYTE` refusal and state. A line that begins with
+//! `#` is written out again.
+
+use super::rng::Rng;
+use super::{models, records, runs};
+use crate::model::{
+    ceiling, choice_length, state_length, test_record, test_record_and_bound, variables, Atom,
+    Counter, Edge, Model, Relation, Update, MAX_BOUND,
+};
+use crate::refusal::number_and_place;
+use crate::state::State;
+use crate::step::{step_call, walk};
+
+/// What goes in and what must come out.
+#[derive(Default)]
+pub struct Script {
+    pub input: String,
+    pub answers: String,
+}
+
+impl Script {
+    fn tell(&mut self, numbers: &[u32]) {
+        push_line(&mut self.input, numbers);
+    }
+
+    fn answer(&mut self, numbers: &[u32]) {
+        push_line(&mut self.answers, numbers);
+    }
+}
+
+fn push_line(text: &mut String, numbers: &[u32]) {
+    let words: Vec<String> = numbers.iter().map(u32::to_string).collect();
+    text.push_str(&words.join(" "));
+    text.push('\n');
+}
+
+/// The script of a seed; nothing but its first line where an update's offset
+/// lies outside -32 to 32.
+pub fn script(seed: u64) -> Script {
+    let mut rng = Rng::new(seed);
+    let mut script = Script::default();
+    let heading = format!("# seed={seed}\n");
+    script.input.push_str(&heading);
+    script.answers.push_str(&heading);
+    match rng.below(3) {
+        0 => ask_record(&mut rng, &mut script),
+        1 => ask_step(&mut rng, &mut script),
+        _ => ask_run(&mut rng, &mut script),
+    }
+    script
+}
+
+fn ask_record(rng: &mut Rng, script: &mut Script) {
+    let model = records::record(rng);
+    if !build(&model, script) {
+        return;
+    }
+    let (number, _) = number_and_place(&test_record(&model));
+    script.tell(&[10]);
+    script.answer(&[number]);
+    script.tell(&[11]);
+    let top = if number == 0 { ceiling(&model) } else { 0 };
+    script.answer(&[number, top]);
+    let bound = rng.pick(&[0, 1, 2, 7, 31, 63, MAX_BOUND, MAX_BOUND + 1, 255]);
+    script.tell(&[12, bound as u32]);
+    let (number, _) = number_and_place(&test_record_and_bound(&model, bound));
+    if number == 0 {
+        script.answer(&[
+            0,
+            state_length(&model),
+            choice_length(&model),
+            variables(&model, bound),
+        ]);
+    } else {
+        script.answer(&[number, 0, 0, 0]);
+    }
+}
+
+fn ask_step(rng: &mut Rng, script: &mut Script) {
+    let sound = models::any_model(rng);
+    let model = if rng.one_in(8) {
+        records::record(rng)
+    } else {
+        sound.clone()
+    };
+    if !build(&model, script) {
+        return;
+    }
+    for _ in 0..4 {
+        let state = records::state(rng, &sound);
+        let byte = if rng.one_in(8) {
+            rng.byte()
+        } else {
+            rng.below(choice_length(&sound) as usize + 1) as u8
+        };
+        let mut question = vec![14];
+        question.extend(numbers_of(&state));
+        question.push(u32::from(byte));
+        script.tell(&question);
+        let (number, after) = step_call(&model, state, byte);
+        let mut answer = vec![number];
+        answer.extend(numbers_of(&after));
+        script.answer(&answer);
+    }
+}
+
+fn ask_run(rng: &mut Rng, script: &mut Script) {
+    let (mut model, run) = runs::model_and_run(rng);
+    if rng.one_in(16) {
+        records::damage(rng, &mut model);
+    }
+    if run.len() > MAX_BOUND + 8 || !build(&model, script) {
+        return;
+    }
+    let mut question = vec![13];
+    question.extend(run.iter().map(|&byte| u32::from(byte)));
+    script.tell(&question);
+    let (number, place) = walk(&model, &run);
+    script.answer(&[number, place]);
+}
+
+/// Location, counters, clocks.
+fn numbers_of(state: &State) -> Vec<u32> {
+    [&[state.location][..], &state.counters, &state.clocks]
+        .concat()
+        .into_iter()
+        .map(u32::from)
+        .collect()
+}
+
+/// The lines that make the record from the blank model; tells whether all of it
+/// can be written.
+fn build(model: &Model, script: &mut Script) -> bool {
+    let offsets = model.edge.iter().flat_map(|edge| edge.updates);
+    let written = |update: Update| match update {
+        Update::Sum { offset, .. } => (-32..=32).contains(&offset),
+        Update::Keep | Update::Constant(_) => true,
+    };
+    if !offsets.into_iter().all(written) {
+        return false;
+    }
+    script.tell(&[0, 0]);
+    let head = [
+        model.locations,
+        model.init,
+        model.target,
+        model.clocks,
+        model.counters,
+        model.edges,
+    ];
+    for (field, number) in head.into_iter().enumerate() {
+        script.tell(&[1, field as u32, u32::from(number)]);
+    }
+    for (i, counter) in model.counter.iter().enumerate() {
+        if *counter != Counter::BLANK {
+            let (greatest, initial) = (u32::from(counter.greatest), u32::from(counter.initial));
+            script.tell(&[2, i as u32, greatest, initial]);
+        }
+    }
+    for (location, atoms) in model.invariant.iter().enumerate() {
+        build_atoms(3, location, atoms, script);
+    }
+    for (e, edge) in model.edge.iter().enumerate() {
+        build_edge(e, edge, script);
+    }
+    true
+}
+
+fn build_atoms(line: u32, index: usize, atoms: &[Atom], script: &mut Script) {
+    for (k, atom) in atoms.iter().enumerate() {
+        let (sort, comparison) = match atom {
+            Atom::Blank => continue,
+            Atom::Clock(comparison) => (1, comparison),
+            Atom::Counter(comparison) => (2, comparison),
+        };
+        script.tell(&[
+            line,
+            index as u32,
+            k as u32,
+            sort,
+            u32::from(comparison.index),
+            place_of(comparison.relation),
+            u32::from(comparison.constant),
+        ]);
+    }
+}
+
+fn place_of(relation: Relation) -> u32 {
+    match relation {
+        Relation::Less => 0,
+        Relation::LessEqual => 1,
+        Relation::Equal => 2,
+        Relation::GreaterEqual => 3,
+        Relation::Greater => 4,
+        Relation::NotEqual => 5,
+    }
+}
+
+fn build_edge(e: usize, edge: &Edge, script: &mut Script) {
+    if *edge == Edge::BLANK {
+        return;
+    }
+    let e32 = e as u32;
+    script.tell(&[4, e32, u32::from(edge.source), u32::from(edge.target)]);
+    build_atoms(5, e, &edge.guard, script);
+    for (k, update) in edge.updates.iter().enumerate() {
+        let (sort, number, raised) = match *update {
+            Update::Keep => continue,
+            Update::Constant(constant) => (1, constant, 0),
+            Update::Sum { source, offset } => (2, source, (i32::from(offset) + 32) as u32),
+        };
+        script.tell(&[6, e32, k as u32, sort, u32::from(number), raised]);
+    }
+    for (k, reset) in edge.resets.iter().enumerate() {
+        if *reset {
+            script.tell(&[7, e32, k as u32, 1]);
+        }
+    }
+}

@@ -1,0 +1,34 @@
+//! Independent reference of the translator "timed automaton with counters to
+//! clause list". It was written from the document alone and shares no code and
+//! no tables with the proved crates; it exists so that their outputs can be
+//! compared with those of a second, plainly written program.
+//!
+//! | module | concern |
+//! |---|---|
+//! | [`model`] | the record, its limits, well-formedness, ceiling and block lengths |
+//! | [`state`] | a state, the initial state, which numbers lie in their groups |
+//! | [`step`] | delay and edge steps, the step call, the walker |
+//! | [`text`] | reader and writer of the model text, the bound line |
+//! | [`numbering`] | which solver variable stands for what |
+//! | [`list`] | the clause list, its totals, its emission |
+//! | [`assign`] | assignment to run and run to assignment |
+//! | [`search`] | shortest run, number of runs, all runs, by walking states |
+//! | [`solve`] | all satisfying assignments of a small list, by backtracking |
+//! | [`size`] | the size program |
+//! | [`flat`] | records as plain bytes, to carry malformed ones between programs |
+//! | [`gen`] | deterministic generator of test cases |
+//! | [`refusal`] | the refusal numbers |
+
+pub mod assign;
+pub mod flat;
+pub mod gen;
+pub mod list;
+pub mod model;
+pub mod numbering;
+pub mod refusal;
+pub mod search;
+pub mod size;
+pub mod solve;
+pub mod state;
+pub mod step;
+pub mod text;

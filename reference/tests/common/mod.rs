@@ -1,0 +1,119 @@
+//! What several test files need.
+#![allow(dead_code)]
+
+use reference::model::Model;
+use reference::text::read;
+
+pub const MODEL_A: &str = "\
+locations=2
+init=0
+target=1
+clocks=0
+vars=0
+inv=-
+inv=-
+edges=1
+from=0
+to=1
+when=-
+set=-
+reset=-
+";
+
+/// Logger model B, 26 lines.
+pub const MODEL_B: &str = "\
+locations=4
+init=0
+target=3
+clocks=1
+vars=1
+var=1,0
+inv=-
+inv=x0<=3
+inv=-
+inv=-
+edges=3
+from=0
+to=1
+when=-
+set=-
+reset=x0
+from=1
+to=2
+when=x0<=2
+set=v0:=v0+1
+reset=-
+from=1
+to=3
+when=x0>=3
+set=-
+reset=-
+";
+
+/// A light switch: pressed twice within three ticks it shines brightly.
+pub const LIGHT: &str = "\
+locations=3
+init=0
+target=2
+clocks=1
+vars=0
+inv=-
+inv=-
+inv=-
+edges=4
+from=0
+to=1
+when=-
+set=-
+reset=x0
+from=1
+to=0
+when=x0>3
+set=-
+reset=-
+from=1
+to=2
+when=x0<=3
+set=-
+reset=-
+from=2
+to=0
+when=-
+set=-
+reset=-
+";
+
+/// Two of everything, for tests of references and orders. Lines: 4 clocks,
+/// 5 vars, 6 and 7 var, 8 and 9 inv, 10 edges, 11 from, 12 to, 13 when, 14 set,
+/// 15 reset.
+pub const PAIR: &str = "\
+locations=2
+init=0
+target=1
+clocks=2
+vars=2
+var=3,0
+var=3,0
+inv=-
+inv=-
+edges=1
+from=0
+to=1
+when=-
+set=-
+reset=-
+";
+
+/// The model of a text that must be accepted.
+pub fn model(text: &str) -> Model {
+    let reading = read(text.as_bytes());
+    assert_eq!((reading.refusal, reading.line), (0, 0), "{text}");
+    reading.model
+}
+
+/// A text with one line (from 1) replaced; the replacement has no LF.
+pub fn with_line(text: &str, line: usize, replacement: &str) -> String {
+    let mut lines: Vec<&str> = text.lines().collect();
+    lines[line - 1] = replacement;
+    lines.iter().map(|line| format!("{line}\n")).collect()
+}

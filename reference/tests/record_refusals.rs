@@ -1,0 +1,180 @@
+//! Refusal 20: well-formedness, each limit on both sides, and 20 as the first
+//! test of every call with a record.
+
+mod common;
+
+use common::{model, MODEL_A, PAIR};
+use reference::assign::{decode, encode};
+use reference::gen::models::{largest, model_b};
+use reference::list::{clauses, emit, totals, visit_clauses, words, Flow};
+use reference::model::{well_formed, Atom, Counter, Edge, Model, Relation, Update, NO_ATOMS};
+use reference::refusal::Refusal;
+use reference::search::{all_runs, count_runs, shortest};
+use reference::state::State;
+use reference::step::{step_call, walk};
+use reference::text::write;
+
+/// Whether the pair model is well formed after a change.
+fn after(change: impl FnOnce(&mut Model)) -> bool {
+    let mut record = model(PAIR);
+    change(&mut record);
+    well_formed(&record)
+}
+
+#[test]
+fn fixed_models_are_well_formed() {
+    assert!(well_formed(&Model::blank()));
+    assert!(well_formed(&model(MODEL_A)));
+    assert!(well_formed(&model_b()));
+    assert!(well_formed(&largest()));
+}
+
+#[test]
+fn numbers_at_every_byte() {
+    for byte in 0..=255 {
+        assert_eq!(after(|m| m.init = byte), byte < 2);
+        assert_eq!(after(|m| m.target = byte), byte < 2);
+        // Fewer locations would leave the target 1 undeclared.
+        assert_eq!(after(|m| m.locations = byte), (2..=16).contains(&byte));
+        // The pair's counters are used, so fewer leave a used slot.
+        assert_eq!(after(|m| m.counters = byte), (2..=4).contains(&byte));
+        assert_eq!(after(|m| m.clocks = byte), byte <= 4);
+        // The edge slots after the first are blank, which is an edge from 0 to 0.
+        assert_eq!(after(|m| m.edges = byte), (1..=32).contains(&byte));
+        assert_eq!(after(|m| m.counter[0].greatest = byte), byte <= 31);
+        assert_eq!(after(|m| m.counter[0].initial = byte), byte <= 3);
+        assert_eq!(after(|m| m.counter[2].greatest = byte), byte == 0);
+        assert_eq!(after(|m| m.counter[3].initial = byte), byte == 0);
+    }
+}
+
+#[test]
+fn one_location_is_taken_and_none_is_not() {
+    let mut record = Model::blank();
+    assert!(well_formed(&record));
+    record.locations = 0;
+    assert!(!well_formed(&record));
+}
+
+#[test]
+fn edges_at_every_byte() {
+    for byte in 0..=255 {
+        assert_eq!(after(|m| m.edge[0].source = byte), byte < 2);
+        assert_eq!(after(|m| m.edge[0].target = byte), byte < 2);
+        assert_eq!(after(|m| m.edge[1].source = byte), byte == 0);
+        assert_eq!(after(|m| m.edge[31].target = byte), byte == 0);
+        assert_eq!(
+            after(|m| m.edge[0].updates[1] = Update::Constant(byte)),
+            byte <= 31
+        );
+        let sum = |source| Update::Sum { source, offset: 0 };
+        assert_eq!(after(|m| m.edge[0].updates[1] = sum(byte)), byte < 2);
+    }
+    for offset in -128..=127 {
+        let sum = Update::Sum { source: 0, offset };
+        assert_eq!(
+            after(|m| m.edge[0].updates[0] = sum),
+            (-31..=31).contains(&offset)
+        );
+    }
+}
+
+#[test]
+fn atoms_at_every_byte() {
+    for byte in 0..=255 {
+        for relation in Relation::ALL {
+            let clock_relation = relation != Relation::NotEqual;
+            let clock = Atom::clock(byte, relation, 0);
+            assert_eq!(
+                after(|m| m.invariant[0][0] = clock),
+                byte < 2 && clock_relation
+            );
+            assert_eq!(
+                after(|m| m.edge[0].guard[0] = clock),
+                byte < 2 && clock_relation
+            );
+            let clock = Atom::clock(1, relation, byte);
+            assert_eq!(
+                after(|m| m.invariant[1][0] = clock),
+                byte <= 30 && clock_relation
+            );
+            assert_eq!(
+                after(|m| m.edge[0].guard[0] = clock),
+                byte <= 30 && clock_relation
+            );
+            let counter = Atom::counter(byte, relation, 31);
+            assert_eq!(after(|m| m.edge[0].guard[0] = counter), byte < 2);
+            assert!(!after(|m| m.invariant[0][0] = counter));
+            let counter = Atom::counter(0, relation, byte);
+            assert_eq!(after(|m| m.edge[0].guard[0] = counter), byte <= 31);
+        }
+    }
+}
+
+#[test]
+fn atom_slots_are_filled_from_the_first() {
+    let atom = Atom::clock(0, Relation::Less, 1);
+    for used in 0..16_usize {
+        let mut atoms = NO_ATOMS;
+        for (place, slot) in atoms.iter_mut().enumerate() {
+            if used >> place & 1 == 1 {
+                *slot = atom;
+            }
+        }
+        let from_the_first = [0b0000, 0b0001, 0b0011, 0b0111, 0b1111].contains(&used);
+        assert_eq!(after(|m| m.invariant[1] = atoms), from_the_first);
+        assert_eq!(after(|m| m.edge[0].guard = atoms), from_the_first);
+    }
+}
+
+#[test]
+fn unused_slots_are_blank() {
+    let atom = Atom::clock(0, Relation::Less, 1);
+    assert!(!after(|m| m.invariant[2][0] = atom));
+    assert!(!after(|m| m.invariant[15][0] = atom));
+    assert!(!after(|m| m.edge[1].guard[0] = atom));
+    assert!(!after(|m| m.edge[31].guard[0] = atom));
+    assert!(!after(|m| m.edge[1].updates[0] = Update::Constant(0)));
+    assert!(!after(|m| m.edge[1].resets[0] = true));
+    assert!(after(|m| m.edge[0].resets = [true, true, false, false]));
+    assert!(!after(|m| m.edge[0].resets[2] = true));
+    assert!(!after(|m| m.edge[0].resets[3] = true));
+    assert!(!after(|m| m.edge[0].updates[2] = Update::Constant(0)));
+    assert!(!after(|m| m.edge[0].updates[3] = Update::Sum {
+        source: 0,
+        offset: 0
+    }));
+    assert!(!after(|m| m.counter[2] = Counter {
+        greatest: 1,
+        initial: 0
+    }));
+    assert!(after(|m| m.edge[1] = Edge::BLANK));
+}
+
+#[test]
+fn every_call_refuses_a_malformed_record_first() {
+    let mut record = model(MODEL_A);
+    record.edge[0].target = 2;
+    let refusal = Refusal::plain(20);
+    let state = State {
+        location: 200,
+        counters: [9; 4],
+        clocks: [9; 4],
+    };
+    assert_eq!(step_call(&record, state, 255), (20, state));
+    assert_eq!(walk(&record, &[0; 65]), (20, 0));
+    assert_eq!(totals(&record, 65), Err(refusal));
+    assert_eq!(clauses(&record, 65), Err(refusal));
+    assert_eq!(words(&record, 65), Err(refusal));
+    assert_eq!(
+        visit_clauses(&record, 65, &mut |_| Flow::Continue(())),
+        Err(refusal)
+    );
+    assert_eq!(emit(&record, 65, &mut []).refusal, 20);
+    assert_eq!(decode(&record, 65, &[], &mut []), (20, 0));
+    assert_eq!(encode(&record, &[0; 65], &mut []), (20, 0));
+    assert_eq!(shortest(&record, 100), Err(refusal));
+    assert_eq!(count_runs(&record, 65, 100), Err(refusal));
+    assert_eq!(all_runs(&record, 65), Err(refusal));
+    assert_eq!(write(&record), Err(refusal));
+}
