@@ -1,0 +1,43 @@
+use borrow.Author.Tests.{lt-ltb, le-ltb, not-true, not-false}
+use mathlib.Core.Path.{refl, sym, _∙_}
+use Rattle.form.proofs.FormParts.{edge-is}
+use borrow.Author.Needs.{needs}
+use Rattle.form.proofs.edge_formed.Statement.{statement}
+use Rattle.form.proofs.edge_formed.Tie as tie
+
+returns : tie.Need-returns
+returns c = edge-is _ _ _ _ (le-ltb _ _ (c .if1 .taken)) refl refl refl refl
+
+returns-2 : tie.Need-returns-2
+returns-2 c = edge-is _ _ _ _ (lt-ltb _ _ (c .before .before .if1 .left)) (le-ltb _ _ (c .if2 .taken)) refl refl refl
+
+atoms-formed-requires : tie.Need-atoms-formed-requires
+atoms-formed-requires c κs = search needs
+
+returns-3 : tie.Need-returns-3
+returns-3 c = edge-is _ _ _ _ (lt-ltb _ _ (c .before .before .before .before .before .if1 .left)) (lt-ltb _ _ (c .before .before .before .if2 .left)) (sym (c .before .atoms-formed .ensures) ∙ not-true _ (c .if3 .taken)) refl refl
+
+updates-formed-requires : tie.Need-updates-formed-requires
+updates-formed-requires c κs = search needs
+
+returns-4 : tie.Need-returns-4
+returns-4 c = edge-is _ _ _ _ (lt-ltb _ _ (c .before .before .before .before .before .before .before .before .if1 .left)) (lt-ltb _ _ (c .before .before .before .before .before .before .if2 .left)) (sym (c .before .before .before .before .atoms-formed .ensures) ∙ not-false _ (c .before .before .before .if3 .left)) (sym (c .before .updates-formed .ensures) ∙ not-true _ (c .if4 .taken)) refl
+
+resets-formed-requires : tie.Need-resets-formed-requires
+resets-formed-requires c κs = search needs
+
+returns-5 : tie.Need-returns-5
+returns-5 c = edge-is _ _ _ _ (lt-ltb _ _ (c .before .before .before .before .before .before .before .before .before .before .if1 .left)) (lt-ltb _ _ (c .before .before .before .before .before .before .before .before .if2 .left)) (sym (c .before .before .before .before .before .before .atoms-formed .ensures) ∙ not-false _ (c .before .before .before .before .before .if3 .left)) (sym (c .before .before .before .updates-formed .ensures) ∙ not-false _ (c .before .before .if4 .left)) (sym (c .resets-formed .ensures))
+
+pub edge-formed-spec : {M : Type 1} → statement M
+edge-formed-spec =
+    tie.close
+    (tie.spec
+    returns
+    returns-2
+    atoms-formed-requires
+    returns-3
+    updates-formed-requires
+    returns-4
+    resets-formed-requires
+    returns-5)

@@ -1,0 +1,37 @@
+use borrow.Author.Tests.{lt-ltb, le-ltb}
+use borrow.Author.Needs.{needs}
+use Rattle.form.proofs.edge_slot_formed.Statement.{statement}
+use Rattle.form.proofs.edge_slot_formed.Tie as tie
+
+mul-edge : tie.Need-mul-edge
+mul-edge c = search needs
+
+element-copy-out-edge : tie.Need-element-copy-out-edge
+element-copy-out-edge c = search needs
+
+cast-if1 : tie.Need-cast-if1
+cast-if1 c = search needs
+
+edge-formed-requires : tie.Need-edge-formed-requires
+edge-formed-requires c κs = search needs
+
+edge-formed-requires-2 : tie.Need-edge-formed-requires-2
+edge-formed-requires-2 c κs = search needs
+
+returns : tie.Need-returns
+returns c = rw (lt-ltb _ _ (c .before .if1 .taken)) (c .edge-formed .ensures)
+
+returns-2 : tie.Need-returns-2
+returns-2 c = rw (le-ltb _ _ (c .before .if1 .left)) (c .edge-formed2 .ensures)
+
+pub edge-slot-formed-spec : {M : Type 1} → statement M
+edge-slot-formed-spec =
+    tie.close
+    (tie.spec
+    mul-edge
+    element-copy-out-edge
+    cast-if1
+    edge-formed-requires
+    edge-formed-requires-2
+    returns
+    returns-2)

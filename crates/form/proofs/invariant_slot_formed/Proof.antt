@@ -1,0 +1,37 @@
+use borrow.Author.Tests.{lt-ltb, le-ltb}
+use borrow.Author.Needs.{needs}
+use Rattle.form.proofs.invariant_slot_formed.Statement.{statement}
+use Rattle.form.proofs.invariant_slot_formed.Tie as tie
+
+mul-v : tie.Need-mul-v
+mul-v c = search needs
+
+element-copy-out-v : tie.Need-element-copy-out-v
+element-copy-out-v c = search needs
+
+cast-if1 : tie.Need-cast-if1
+cast-if1 c = search needs
+
+atoms-formed-requires : tie.Need-atoms-formed-requires
+atoms-formed-requires c κs = search needs
+
+atoms-formed-requires-2 : tie.Need-atoms-formed-requires-2
+atoms-formed-requires-2 c κs = search needs
+
+returns : tie.Need-returns
+returns c = rw (lt-ltb _ _ (c .before .if1 .taken)) (c .atoms-formed .ensures)
+
+returns-2 : tie.Need-returns-2
+returns-2 c = rw (le-ltb _ _ (c .before .if1 .left)) (c .atoms-formed2 .ensures)
+
+pub invariant-slot-formed-spec : {M : Type 1} → statement M
+invariant-slot-formed-spec =
+    tie.close
+    (tie.spec
+    mul-v
+    element-copy-out-v
+    cast-if1
+    atoms-formed-requires
+    atoms-formed-requires-2
+    returns
+    returns-2)

@@ -1,0 +1,65 @@
+use borrow.Author.Needs.{needs}
+use Prim.Native.Nat.{_≤_, _-_}
+use mathlib.Core.Path.{_≡_, sym, _∙_}
+use mathlib.Core.Bool.{true}
+use native.Mathlib.Omega.{arith}
+use lib.ListN.{getD}
+use borrow.Author.Tests.{not-true, not-false}
+use Rattle.model.specs.Indexed.{allBelow}
+use Rattle.model.proofs.IndexedLaws.{all-none, all-next, all-fails}
+use Rattle.model.specs.Form.{updateSlotFormed, updatesFormed}
+use Rattle.model.specs.Record.{blankUpdate}
+use Rattle.form.proofs.updates_formed.Statement.{statement}
+use Rattle.form.proofs.updates_formed.Tie as tie
+
+abbrev Inv-loop : tie.InvT-loop
+Inv-loop vars slots i₀ i = (i ≤ 4) × (allBelow (λ j. updateSlotFormed vars (getD slots j blankUpdate .update) j) i ≡ true)
+
+abbrev μ-loop : tie.MeasureT-loop
+μ-loop vars slots i₀ i = 4 - i
+
+loop-holds : tie.Need-loop-holds Inv-loop μ-loop
+loop-holds c = (search needs, all-none _)
+
+mul-s : tie.Need-mul-s Inv-loop μ-loop
+mul-s c = search needs
+
+array-copy-out-s : tie.Need-array-copy-out-s Inv-loop μ-loop
+array-copy-out-s c = search needs
+
+update-slot-formed-requires : tie.Need-update-slot-formed-requires Inv-loop μ-loop
+update-slot-formed-requires c κs = search needs
+
+returns : tie.Need-returns Inv-loop μ-loop
+unfolding updatesFormed
+returns c = sym (all-fails _ (c .before .before .before .before .loop .i) 4 (c .before .before .before .loop-test .taken) (sym (c .before .update-slot-formed .ensures) ∙ not-true _ (c .if1 .taken)))
+
+add-i : tie.Need-add-i Inv-loop μ-loop
+add-i c = search needs
+
+loop-less : tie.Need-loop-less Inv-loop μ-loop
+loop-less c = search needs
+
+loop-again : tie.Need-loop-again Inv-loop μ-loop
+loop-again c = (search needs, all-next _ _ (c .before .before .before .before .loop .inv .1) (sym (c .before .update-slot-formed .ensures) ∙ not-false _ (c .if1 .left)))
+
+returns-2 : tie.Need-returns-2 Inv-loop μ-loop
+unfolding updatesFormed
+returns-2 c = let e : c .before .loop .i ≡ 4 = omega arith in
+    sym (rw e at (c .before .loop .inv .1))
+
+pub updates-formed-spec : {M : Type 1} → statement M
+updates-formed-spec =
+    tie.close
+    (tie.spec
+    Inv-loop
+    μ-loop
+    loop-holds
+    mul-s
+    array-copy-out-s
+    update-slot-formed-requires
+    returns
+    add-i
+    loop-less
+    loop-again
+    returns-2)

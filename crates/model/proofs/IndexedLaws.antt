@@ -1,0 +1,168 @@
+-- Laws of tests, of what may be missing, and of "each", "all", "the greatest" and "the sum" over an index.
+use mathlib.Core.Path.{_≡_, refl, sym, ap, subst, _∙_}
+use mathlib.Core.Logic.{_↔_, _⊎_, inl, inr, ⊎-elim}
+use mathlib.Core.Bool.{Bool, true, false, _&&_, not, cond, and-false}
+use mathlib.Core.List.{List, [], _∷_, _++_}
+use mathlib.Core.Option.{Option, none, some}
+use Prim.Native.Nat.{ℕ, zero, suc, _+_, _*_, _≤_, _<_, max}
+use native.Mathlib.Nat.{eq-or-lt-of-le, le-of-suc-le-suc, not-suc-le-zero}
+use native.Mathlib.Omega.{arith}
+use native.Mathlib.Numerals.{add-one}
+use lib.Dec.{T, leb, eqb, leb→le, nleb→lt, eqb→eq, eqb-refl}
+use lib.ListN.{length, getD, length-append, List·getD-append}
+use lib.Seq.{getD-append-seam}
+use Rattle.model.specs.Indexed.{each, listBelow, allBelow, maxBelow, sumBelow, onlyIf, andThen, isSome, orZero}
+
+-- ---- tests
+pub and-T : (a b : Bool) → T (a && b) ↔ (T a × T b)
+and-T true b = (λ h. (tt, h), λ h. h .1)
+and-T false b = (λ h. absurd h, λ h. absurd (h .0))
+
+pub eq-T : (a b : ℕ) → T (eqb a b) ↔ (a ≡ b)
+eq-T a b = (eqb→eq a b, λ e. subst (λ (x : ℕ). T (eqb a x)) e (eqb-refl a))
+
+pub T-true : (b : Bool) → T b ↔ (b ≡ true)
+T-true true = (λ h. refl, λ h. tt)
+T-true false = (λ h. absurd h, λ h. subst T (sym h) tt)
+
+-- a test passes or fails
+pub split : (b : Bool) → T b ⊎ T (not b)
+split true = inl tt
+split false = inr tt
+
+pub lt-or-le : (a b : ℕ) → (a < b) ⊎ (b ≤ a)
+lt-or-le a b = ⊎-elim (λ t. inr (leb→le b a t)) (λ t. inl (nleb→lt b a t)) (split (leb b a))
+
+pub cond-T : {A : Type 0} (b : Bool) (x y : A) → T b → cond b x y ≡ x
+cond-T true x y h = refl
+cond-T false x y h = absurd h
+
+pub cond-F : {A : Type 0} (b : Bool) (x y : A) → T (not b) → cond b x y ≡ y
+cond-F true x y h = absurd h
+cond-F false x y h = refl
+
+-- ---- what may be missing
+pub some-inj : {A : Type 0} {x y : A} → some x ≡ some y → x ≡ y
+some-inj {x} {y} e = cc
+
+pub some-none : {A : Type 0} {x : A} → _≡_ {A = Option A} none (some x) → ⊥
+some-none e = let z : _≡_ {A = ℕ} 0 1 = cc in omega arith
+
+pub only-if : {A : Type 0} (b : Bool) (x y : A) → (onlyIf b x ≡ some y) ↔ (T b × (x ≡ y))
+only-if true x y = (λ e. (tt, some-inj e), λ h. ap some (h .1))
+only-if false x y = (λ e. absurd (some-none e), λ h. absurd (h .0))
+
+pub cond-some : {A : Type 0} (b : Bool) (x : Option A) (y : A) → (cond b x none ≡ some y) ↔ (T b × (x ≡ some y))
+cond-some true x y = (λ e. (tt, e), λ h. h .1)
+cond-some false x y = (λ e. absurd (some-none e), λ h. absurd (h .0))
+
+pub then-iff : {A B : Type 0} (x : Option A) (f : A → Option B) (y : B) → (andThen x f ≡ some y) ↔ ((a : A) × (x ≡ some a) × (f a ≡ some y))
+then-iff none f y = (λ e. absurd (some-none e), λ h. absurd (some-none (h .1)))
+then-iff (some a) f y = (λ e. (a, refl, e), λ h. rw (some-inj (h .1)) (h .2))
+
+pub some-is : (x : Option ℕ) → T (isSome x) → x ≡ some (orZero x)
+some-is none h = absurd h
+some-is (some a) h = refl
+
+pub is-some : (x : Option ℕ) (a : ℕ) → x ≡ some a → T (isSome x) × (orZero x ≡ a)
+is-some none a h = absurd (some-none h)
+is-some (some b) a h = (tt, some-inj h)
+
+-- ---- over an index
+-- the last index of a range, or one before it
+pub below-cases : {C : Type 0} (v n : ℕ) → v < suc n → (v ≡ n → C) → (v < n → C) → C
+below-cases v n q f g = ⊎-elim f g (eq-or-lt-of-le (le-of-suc-le-suc q))
+
+pub all-below : (p : ℕ → Bool) (n : ℕ) → T (allBelow p n) ↔ ((i : ℕ) → i < n → T (p i))
+unfolding allBelow
+all-below p zero = (λ h i q. absurd (not-suc-le-zero q), λ h. tt)
+all-below p (suc n) = (λ h i q. let g = and-T (allBelow p n) (p n) .0 h in below-cases i n q (λ e. rw e (g .1)) (λ l. all-below p n .0 (g .0) i l), λ h. and-T (allBelow p n) (p n) .1 (all-below p n .1 (λ i q. h i (omega arith)), h n (omega arith)))
+
+pub max-below : (f : ℕ → ℕ) (n b : ℕ) → ((i : ℕ) → i < n → f i ≤ b) → maxBelow f n ≤ b
+unfolding maxBelow
+max-below f zero b h = omega arith
+max-below f (suc n) b h = omega (arith, max-below f n b (λ i l. h i (omega arith)), h n (omega arith))
+
+pub max-at : (f : ℕ → ℕ) (n i : ℕ) → i < n → f i ≤ maxBelow f n
+unfolding maxBelow
+max-at f zero i p = absurd (not-suc-le-zero p)
+max-at f (suc n) i p = below-cases i n p (λ q. rw q (omega arith)) (λ l. omega (arith, max-at f n i l))
+
+pub sum-below : (f : ℕ → ℕ) (n b : ℕ) → ((i : ℕ) → i < n → f i ≤ b) → sumBelow f n ≤ n * b
+unfolding sumBelow
+sum-below f zero b h = omega arith
+sum-below f (suc n) b h = omega (arith, sum-below f n b (λ i l. h i (omega arith)), h n (omega arith))
+
+pub sum-const : (n c : ℕ) → sumBelow (λ _. c) n ≡ n * c
+unfolding sumBelow
+sum-const zero c = omega arith
+sum-const (suc n) c = omega (arith, sum-const n c)
+
+pub sum-mono : (f : ℕ → ℕ) (i n : ℕ) → i < n → sumBelow f i + f i ≤ sumBelow f n
+unfolding sumBelow
+sum-mono f i zero p = absurd (not-suc-le-zero p)
+sum-mono f i (suc n) p = below-cases i n p (λ q. rw q (omega arith)) (λ l. omega (arith, sum-mono f i n l))
+
+module _ {A : Type 0} where
+  pub each-suc : (n : ℕ) (f : ℕ → List A) → each (suc n) f ≡ each n f ++ f n
+  unfolding each
+  each-suc n f = refl
+
+  pub each-zero : (f : ℕ → List A) → each 0 f ≡ []
+  unfolding each
+  each-zero f = refl
+
+  pub length-each : (len : ℕ → ℕ) (n : ℕ) (f : ℕ → List A) → ((i : ℕ) → length (f i) ≡ len i) → length (each n f) ≡ sumBelow len n
+  unfolding each sumBelow
+  length-each len zero f h = refl
+  length-each len (suc n) f h = length-append (each n f) (f n) ∙ rw (length-each len n f h, h n)
+
+  pub length-list : (f : ℕ → A) (n : ℕ) → length (listBelow f n) ≡ n
+  unfolding listBelow
+  length-list f zero = refl
+  length-list f (suc n) = length-append (listBelow f n) (f n ∷ []) ∙ omega (arith, length-list f n)
+
+  pub getD-list : (d : A) (f : ℕ → A) (n v : ℕ) → v < n → getD (listBelow f n) v d ≡ f v
+  unfolding listBelow
+  getD-list d f zero v p = absurd (not-suc-le-zero p)
+  getD-list d f (suc n) v p = below-cases v n p
+      (λ e. ap (λ (i : ℕ). getD (listBelow f n ++ (f n ∷ [])) i d) (e ∙ sym (length-list f n)) ∙ getD-append-seam (listBelow f n) (f n) [] d ∙ ap f (sym e))
+      (λ l. List·getD-append (listBelow f n) (f n ∷ []) d v (rw (length-list f n) l) ∙ getD-list d f n v l)
+
+-- ---- the turns of a loop, at n + 1
+pub all-none : (p : ℕ → Bool) → allBelow p 0 ≡ true
+unfolding allBelow
+all-none p = refl
+
+pub all-next : (p : ℕ → Bool) (n : ℕ) → allBelow p n ≡ true → p n ≡ true → allBelow p (n + 1) ≡ true
+unfolding allBelow
+all-next p n a b = ap (allBelow p) (add-one n) ∙ rw (a, b) refl
+
+pub all-fails : (p : ℕ → Bool) (i n : ℕ) → i < n → p i ≡ false → allBelow p n ≡ false
+unfolding allBelow
+all-fails p i zero l e = absurd (not-suc-le-zero l)
+all-fails p i (suc n) l e = below-cases i n l (λ q. rw (← q, e) (and-false (allBelow p i))) (λ q. rw (all-fails p i n q e) refl)
+
+pub max-none : (f : ℕ → ℕ) → maxBelow f 0 ≡ 0
+unfolding maxBelow
+max-none f = refl
+
+pub max-more : (f : ℕ → ℕ) (n : ℕ) → maxBelow f (n + 1) ≡ max (maxBelow f n) (f n)
+unfolding maxBelow
+max-more f n = ap (maxBelow f) (add-one n)
+
+pub sum-none : (f : ℕ → ℕ) → sumBelow f 0 ≡ 0
+unfolding sumBelow
+sum-none f = refl
+
+pub sum-more : (f : ℕ → ℕ) (n : ℕ) → sumBelow f (n + 1) ≡ sumBelow f n + f n
+unfolding sumBelow
+sum-more f n = ap (sumBelow f) (add-one n)
+
+pub list-none : {A : Type 0} (f : ℕ → A) → listBelow f 0 ≡ []
+unfolding listBelow
+list-none f = refl
+
+pub list-more : {A : Type 0} (f : ℕ → A) (n : ℕ) → listBelow f (n + 1) ≡ listBelow f n ++ (f n ∷ [])
+unfolding listBelow
+list-more f n = ap (listBelow f) (add-one n)

@@ -1,0 +1,60 @@
+use borrow.Author.Needs.{needs}
+use Prim.Native.Nat.{_≤_, _-_, max}
+use mathlib.Core.Path.{_≡_, sym, _∙_, ap₂}
+use native.Mathlib.Omega.{arith}
+use Rattle.model.specs.Record.{edgeAt}
+use Rattle.model.specs.Automaton.{greatestConstant}
+use Rattle.model.specs.Indexed.{maxBelow}
+use Rattle.model.proofs.IndexedLaws.{max-none, max-more}
+use Rattle.model.proofs.Model.guard_constant.Statement.{statement}
+use Rattle.model.proofs.Model.guard_constant.Tie as tie
+
+abbrev Inv-loop : tie.InvT-loop
+Inv-loop self most₀ e₀ most e = (e ≤ 32) × (most ≡ maxBelow (λ j. greatestConstant (edgeAt self j .guard)) e)
+
+abbrev μ-loop : tie.MeasureT-loop
+μ-loop self most₀ e₀ most e = 32 - e
+
+loop-holds : tie.Need-loop-holds Inv-loop μ-loop
+loop-holds c = (search needs, sym (max-none _))
+
+mul-edge : tie.Need-mul-edge Inv-loop μ-loop
+mul-edge c = search needs
+
+element-copy-out-edge : tie.Need-element-copy-out-edge Inv-loop μ-loop
+element-copy-out-edge c = search needs
+
+greatest-constant-requires : tie.Need-greatest-constant-requires Inv-loop μ-loop
+greatest-constant-requires c κs = search needs
+
+larger-requires : tie.Need-larger-requires Inv-loop μ-loop
+larger-requires c κs = search needs
+
+add-e : tie.Need-add-e Inv-loop μ-loop
+add-e c = search needs
+
+loop-less : tie.Need-loop-less Inv-loop μ-loop
+loop-less c = search needs
+
+loop-again : tie.Need-loop-again Inv-loop μ-loop
+loop-again c = (search needs, c .larger .ensures ∙ ap₂ max (c .before .before .before .before .before .loop .inv .1) (c .before .greatest-constant .ensures) ∙ sym (max-more _ _))
+
+returns : tie.Need-returns Inv-loop μ-loop
+returns c = let e : c .before .loop .e ≡ 32 = omega arith in
+    rw e at (c .before .loop .inv .1)
+
+pub guard-constant-spec : {M : Type 1} → statement M
+guard-constant-spec =
+    tie.close
+    (tie.spec
+    Inv-loop
+    μ-loop
+    loop-holds
+    mul-edge
+    element-copy-out-edge
+    greatest-constant-requires
+    larger-requires
+    add-e
+    loop-less
+    loop-again
+    returns)

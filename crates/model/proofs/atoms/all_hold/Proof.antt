@@ -1,0 +1,65 @@
+use borrow.Author.Tests.{not-true, not-false}
+use native.Mathlib.Omega.{arith}
+use borrow.Author.Needs.{needs}
+use Prim.Native.Nat.{_≤_, _-_}
+use mathlib.Core.Path.{_≡_, sym, _∙_}
+use mathlib.Core.Bool.{true}
+use Rattle.model.specs.Record.{atomAt}
+use Rattle.model.specs.Automaton.{atomHolds, allHold}
+use Rattle.model.specs.Indexed.{allBelow}
+use Rattle.model.proofs.IndexedLaws.{all-none, all-next, all-fails}
+use Rattle.model.proofs.atoms.all_hold.Statement.{statement}
+use Rattle.model.proofs.atoms.all_hold.Tie as tie
+
+abbrev Inv-loop : tie.InvT-loop
+Inv-loop s atoms k₀ k = (k ≤ 4) × (allBelow (λ j. atomHolds s (atomAt atoms j)) k ≡ true)
+
+abbrev μ-loop : tie.MeasureT-loop
+μ-loop s atoms k₀ k = 4 - k
+
+loop-holds : tie.Need-loop-holds Inv-loop μ-loop
+loop-holds c = (search needs, all-none _)
+
+mul-a : tie.Need-mul-a Inv-loop μ-loop
+mul-a c = search needs
+
+array-copy-out-a : tie.Need-array-copy-out-a Inv-loop μ-loop
+array-copy-out-a c = search needs
+
+holds-requires : tie.Need-holds-requires Inv-loop μ-loop
+holds-requires c κs = search needs
+
+returns : tie.Need-returns Inv-loop μ-loop
+unfolding allHold
+returns c = let i = c .before .before .before .before .loop .k in
+    sym (all-fails _ i 4 (c .before .before .before .loop-test .taken) (sym (c .before .holds .ensures) ∙ not-true _ (c .if1 .taken)))
+
+add-k : tie.Need-add-k Inv-loop μ-loop
+add-k c = search needs
+
+loop-less : tie.Need-loop-less Inv-loop μ-loop
+loop-less c = search needs
+
+loop-again : tie.Need-loop-again Inv-loop μ-loop
+loop-again c = (search needs, all-next _ _ (c .before .before .before .before .loop .inv .1) (sym (c .before .holds .ensures) ∙ not-false _ (c .if1 .left)))
+
+returns-2 : tie.Need-returns-2 Inv-loop μ-loop
+unfolding allHold
+returns-2 c = let e : c .before .loop .k ≡ 4 = omega arith in
+    sym (rw e at (c .before .loop .inv .1))
+
+pub all-hold-spec : {M : Type 1} → statement M
+all-hold-spec =
+    tie.close
+    (tie.spec
+    Inv-loop
+    μ-loop
+    loop-holds
+    mul-a
+    array-copy-out-a
+    holds-requires
+    returns
+    add-k
+    loop-less
+    loop-again
+    returns-2)

@@ -1,0 +1,10 @@
+use mir.Facts.{toZ-ofZ}
+use Rattle.model.proofs.Signed.{negative-test}
+use Rattle.model.proofs.updates.is_negative.Statement.{statement}
+use Rattle.model.proofs.updates.is_negative.Tie as tie
+
+returns : tie.Need-returns
+returns c = rw (toZ-ofZ (c .fits .z)) (negative-test (c .args .z))
+
+pub is-negative-spec : {M : Type 1} → statement M
+is-negative-spec = tie.close (tie.spec returns)

@@ -1,0 +1,191 @@
+-- The automaton: its ceiling, its states, and what a delay and an edge do.
+use Prim.Native.Nat.{ℕ, _+_, _-_, _*_, _<_, max, min}
+use mathlib.Core.List.{List}
+use mathlib.Core.Bool.{Bool, true, false, not, _&&_, cond}
+use mathlib.Core.Option.{Option, none, some}
+use lib.ListN.{getD}
+use lib.Dec.{ltb, leb, eqb}
+use lib.IntN.{ℤ, pos, negsuc, natAbs}
+use Rattle.model.specs.declared.Relation.{Relation}
+use Rattle.model.specs.declared.Relation.the-variants.{Less, LessEqual, Equal, GreaterEqual, Greater, NotEqual}
+use Rattle.model.specs.declared.Atom.{Atom}
+use Rattle.model.specs.declared.Atom.the-variants.{Blank, OnClock, OnCounter}
+use Rattle.model.specs.declared.Update.{Update}
+use Rattle.model.specs.declared.Update.the-variants.{Keep, Constant, Sum}
+use Rattle.model.specs.declared.ClockUpdate.{ClockUpdate}
+use Rattle.model.specs.declared.ClockUpdate.the-variants.{Unchanged, Reset}
+use Rattle.model.specs.declared.AtomSlot.{AtomSlot}
+use Rattle.model.specs.declared.Counter.{Counter}
+use Rattle.model.specs.declared.Edge.{Edge}
+use Rattle.model.specs.declared.Model.{Model}
+use Rattle.model.specs.declared.State.{State}
+use Rattle.model.specs.declared.Stepped.{Stepped}
+use Rattle.model.specs.declared.Sizes.{Sizes}
+use Rattle.model.specs.declared.updates.NewValue.{NewValue}
+use Rattle.model.specs.declared.updates.NewValue.the-variants.{Value, OutOfRange}
+use Rattle.model.specs.Indexed.{listBelow, allBelow, maxBelow, sumBelow, onlyIf, isSome, orZero}
+use Rattle.model.specs.Record.{blankCounter, atomAt, updateAt, resetAt, counterAt, invariantAt, edgeAt}
+
+-- ---- the ceiling M: 1 plus the greatest clock constant in the model, or 1 if it has none
+abbrev pub clockConstant : Atom → ℕ
+clockConstant Blank = 0
+clockConstant (OnClock x r c) = c
+clockConstant (OnCounter v r c) = 0
+
+unfoldable pub greatestConstant : List AtomSlot → ℕ
+greatestConstant atoms = maxBelow (λ k. clockConstant (atomAt atoms k)) 4
+
+unfoldable pub ceiling : Model → ℕ
+ceiling m = 1 + max (maxBelow (λ l. greatestConstant (invariantAt m l)) 16) (maxBelow (λ e. greatestConstant (edgeAt m e .guard)) 32)
+
+-- ---- the components of a state, in block order: the location, each counter, each clock
+pub data Component : Type 0 where
+  loc : Component
+  counter : ℕ → Component
+  clock : ℕ → Component
+
+abbrev pub value : State → Component → ℕ
+value s loc = s .location
+value s (counter i) = getD (s .counters) i 0
+value s (clock i) = getD (s .clocks) i 0
+
+-- the model declares the component
+abbrev pub Declared : Model → Component → Type 0
+Declared m loc = Unit {0}
+Declared m (counter i) = i < m .vars
+Declared m (clock i) = i < m .clocks
+
+-- how many values a component shows, from 0: the size of its group
+abbrev pub groupSize : Model → Component → ℕ
+groupSize m loc = m .locations
+groupSize m (counter i) = counterAt m i .greatest + 1
+groupSize m (clock i) = ceiling m + 1
+
+-- ---- atoms, guards and invariants: all atoms must hold
+abbrev pub meets : Relation → ℕ → ℕ → Bool
+meets Less v c = ltb v c
+meets LessEqual v c = leb v c
+meets Equal v c = eqb v c
+meets GreaterEqual v c = leb c v
+meets Greater v c = ltb c v
+meets NotEqual v c = not (eqb v c)
+
+abbrev pub atomHolds : State → Atom → Bool
+atomHolds s Blank = true
+atomHolds s (OnClock x r c) = meets r (value s (clock x)) c
+atomHolds s (OnCounter v r c) = meets r (value s (counter v)) c
+
+unfoldable pub allHold : State → List AtomSlot → Bool
+allHold s atoms = allBelow (λ k. atomHolds s (atomAt atoms k)) 4
+
+unfoldable pub invariantHolds : Model → State → Bool
+invariantHolds m s = allHold s (invariantAt m (s .location))
+
+-- ---- the initial state: each counter at its initial value, all clocks 0
+abbrev pub initialValue : Model → Component → ℕ
+initialValue m loc = m .initial
+initialValue m (counter i) = counterAt m i .initial
+initialValue m (clock i) = 0
+
+unfoldable pub initialState : Model → State
+initialState m = record { location = m .initial; counters = listBelow (λ i. counterAt m i .initial) 4; clocks = listBelow (λ i. 0) 4 }
+
+-- ---- delay d: each clock c becomes the smaller of c + d and M, all else stays, and the invariant must hold afterwards
+abbrev pub delayedClock : ℕ → ℕ → ℕ → State → ℕ → ℕ
+delayedClock clocks top d s i = cond (ltb i clocks) (min (value s (clock i) + d) top) (value s (clock i))
+
+unfoldable pub delayed : ℕ → ℕ → ℕ → State → State
+delayed clocks top d s = record { location = s .location; counters = s .counters; clocks = listBelow (delayedClock clocks top d s) 4 }
+
+unfoldable pub delayStep : Model → ℕ → ℕ → State → Option State
+delayStep m top d s = onlyIf (invariantHolds m (delayed (m .clocks) top d s)) (delayed (m .clocks) top d s)
+
+-- what delay d makes of the value of a component
+abbrev pub delayedValue : Model → ℕ → Component → ℕ → ℕ
+delayedValue m d loc v = v
+delayedValue m d (counter i) v = v
+delayedValue m d (clock i) v = min (v + d) (ceiling m)
+
+-- ---- updates
+-- a value that must lie in 0 to `greatest`
+abbrev pub inRange : ℕ → ℕ → Option ℕ
+inRange greatest v = onlyIf (leb v greatest) v
+
+-- v plus an amount, or less it, in 0 to `greatest`
+abbrev pub moved : ℕ → Bool → ℕ → ℕ → Option ℕ
+moved v false amount greatest = inRange greatest (v + amount)
+moved v true amount greatest = cond (leb amount v) (inRange greatest (v - amount)) none
+
+abbrev pub isNegative : ℤ → Bool
+isNegative (pos n) = false
+isNegative (negsuc n) = true
+
+-- v plus an offset, in 0 to `greatest`
+abbrev pub shifted : ℤ → ℕ → ℕ → Option ℕ
+shifted offset greatest v = moved v (isNegative offset) (natAbs offset) greatest
+
+-- the new value of a counter, if it lies in its range; `before` gives the counters' values from before the edge
+abbrev pub newCounter : (ℕ → ℕ) → ℕ → ℕ → Update → Option ℕ
+newCounter before greatest own Keep = some own
+newCounter before greatest own (Constant c) = inRange greatest c
+newCounter before greatest own (Sum w offset) = shifted offset greatest (before w)
+
+-- the new value of a clock; `before` gives the clocks' values from before the edge
+abbrev pub newClock : (ℕ → ℕ) → ℕ → ClockUpdate → ℕ
+newClock before own Unchanged = own
+newClock before own Reset = 0
+
+-- ---- an edge: the state stands in its source, the guard holds before, every new counter value lies in its range, and the target's invariant holds afterwards
+abbrev pub nextCounter : List Counter → Edge → State → ℕ → Option ℕ
+nextCounter counters e s i = newCounter (λ w. value s (counter w)) (getD counters i blankCounter .greatest) (value s (counter i)) (updateAt e i)
+
+abbrev pub nextClock : Edge → State → ℕ → ℕ
+nextClock e s i = newClock (λ x. value s (clock x)) (value s (clock i)) (resetAt e i)
+
+unfoldable pub countersInRange : List Counter → Edge → State → Bool
+countersInRange counters e s = allBelow (λ i. isSome (nextCounter counters e s i)) 4
+
+unfoldable pub afterEdge : List Counter → Edge → State → State
+afterEdge counters e s = record { location = e .target; counters = listBelow (λ i. orZero (nextCounter counters e s i)) 4; clocks = listBelow (nextClock e s) 4 }
+
+unfoldable pub edgeAllowed : Model → Edge → State → Bool
+edgeAllowed m e s = eqb (s .location) (e .source) && allHold s (e .guard) && countersInRange (m .counters) e s && invariantHolds m (afterEdge (m .counters) e s)
+
+unfoldable pub edgeStep : Model → Edge → State → Option State
+edgeStep m e s = onlyIf (edgeAllowed m e s) (afterEdge (m .counters) e s)
+
+-- ---- one step byte: d for delay d, M + 1 + e for edge e; the new state, if the step is allowed
+-- H: how many choices a step has
+unfoldable pub choices : Model → ℕ
+choices m = ceiling m + 1 + m .used
+
+unfoldable pub step : Model → State → ℕ → Option State
+step m s b = cond (leb b (ceiling m)) (delayStep m (ceiling m) b s) (cond (ltb b (choices m)) (edgeStep m (edgeAt m (b - (ceiling m + 1))) s) none)
+
+-- ---- S, the length of a state block, and N, the number of variables for k steps
+unfoldable pub stateSize : Model → ℕ
+stateSize m = m .locations + sumBelow (λ i. groupSize m (counter i)) (m .vars) + m .clocks * (ceiling m + 1)
+
+unfoldable pub variables : Model → ℕ → ℕ
+variables m k = stateSize m + k * (stateSize m + choices m)
+
+-- ---- what the code answers: a new value, a step, the sizes
+abbrev pub newValue : Option ℕ → NewValue
+newValue none = OutOfRange
+newValue (some v) = Value v
+
+abbrev pub isValue : NewValue → Bool
+isValue OutOfRange = false
+isValue (Value v) = true
+
+abbrev pub valueOrZero : NewValue → ℕ
+valueOrZero OutOfRange = 0
+valueOrZero (Value v) = v
+
+-- the new state, or the given one where there is none
+abbrev pub stepped : State → Option State → Stepped
+stepped s none = record { allowed = false; state = s }
+stepped s (some t) = record { allowed = true; state = t }
+
+unfoldable pub sizes : Model → Sizes
+sizes m = record { ceiling = ceiling m; state = stateSize m; choices = choices m }

@@ -1,0 +1,75 @@
+-- Reading the record, and the blank model.
+use Prim.Native.Nat.{ℕ}
+use mathlib.Core.List.{List, []}
+use lib.ListN.{getD, replicate}
+use Rattle.model.specs.declared.Atom.{Atom}
+use Rattle.model.specs.declared.Atom.the-variants.{Blank}
+use Rattle.model.specs.declared.Update.{Update}
+use Rattle.model.specs.declared.Update.the-variants.{Keep}
+use Rattle.model.specs.declared.ClockUpdate.{ClockUpdate}
+use Rattle.model.specs.declared.ClockUpdate.the-variants.{Unchanged}
+use Rattle.model.specs.declared.AtomSlot.{AtomSlot}
+use Rattle.model.specs.declared.UpdateSlot.{UpdateSlot}
+use Rattle.model.specs.declared.ClockSlot.{ClockSlot}
+use Rattle.model.specs.declared.Counter.{Counter}
+use Rattle.model.specs.declared.Invariant.{Invariant}
+use Rattle.model.specs.declared.Edge.{Edge}
+use Rattle.model.specs.declared.Model.{Model}
+
+-- ---- blank slots: no atom, keep, no reset, number 0
+abbrev pub blankAtom : AtomSlot
+blankAtom = record { atom = Blank }
+
+abbrev pub blankUpdate : UpdateSlot
+blankUpdate = record { update = Keep }
+
+abbrev pub blankReset : ClockSlot
+blankReset = record { update = Unchanged }
+
+abbrev pub blankCounter : Counter
+blankCounter = record { greatest = 0; initial = 0 }
+
+abbrev pub blankInvariant : Invariant
+blankInvariant = record { atoms = replicate 4 blankAtom }
+
+abbrev pub blankEdge : Edge
+blankEdge = record { source = 0; target = 0; guard = replicate 4 blankAtom; updates = replicate 4 blankUpdate; resets = replicate 4 blankReset }
+
+-- the blank model: one location, initial and target 0
+unfoldable pub blankModel : Model
+blankModel = record {
+  locations = 1;
+  initial = 0;
+  target = 0;
+  clocks = 0;
+  vars = 0;
+  counters = replicate 4 blankCounter;
+  invariants = replicate 16 blankInvariant;
+  used = 0;
+  edges = replicate 32 blankEdge;
+}
+
+-- ---- what stands in a slot. A record's arrays are full, so what is read past their ends never matters.
+abbrev pub pastInvariant : Invariant
+pastInvariant = record { atoms = [] }
+
+abbrev pub pastEdge : Edge
+pastEdge = record { source = 0; target = 0; guard = []; updates = []; resets = [] }
+
+abbrev pub atomAt : List AtomSlot → ℕ → Atom
+atomAt atoms k = getD atoms k blankAtom .atom
+
+abbrev pub updateAt : Edge → ℕ → Update
+updateAt e i = getD (e .updates) i blankUpdate .update
+
+abbrev pub resetAt : Edge → ℕ → ClockUpdate
+resetAt e i = getD (e .resets) i blankReset .update
+
+abbrev pub counterAt : Model → ℕ → Counter
+counterAt m i = getD (m .counters) i blankCounter
+
+abbrev pub invariantAt : Model → ℕ → List AtomSlot
+invariantAt m l = getD (m .invariants) l pastInvariant .atoms
+
+abbrev pub edgeAt : Model → ℕ → Edge
+edgeAt m e = getD (m .edges) e pastEdge

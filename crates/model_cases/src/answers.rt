@@ -1,0 +1,102 @@
+// The questions: each writes one line, the numbers of the answer.
+use model::Model;
+use model::State;
+use totals::CeilingAnswer;
+use totals::TotalsAnswer;
+
+fn first(n: u64) {
+    io::print_decimal(1, n);
+}
+
+fn more(n: u64) {
+    io::write_all(1, b" ");
+    io::print_decimal(1, n);
+}
+
+fn end() {
+    io::write_all(1, b"\n");
+}
+
+pub fn unknown() {
+    io::write_all(1, b"no such question\n");
+}
+
+// 10: the refusal's number, 0 or 20.
+pub fn formed(m: Model) {
+    match totals::ceiling_of(m) {
+        CeilingAnswer::NotWellFormed => first(20),
+        CeilingAnswer::Ceiling(_) => first(0),
+    }
+    end();
+}
+
+fn two_numbers(n: u64, c: usize) {
+    first(n);
+    more(c as u64);
+    end();
+}
+
+// 11: number, M.
+pub fn ceiling(m: Model) {
+    match totals::ceiling_of(m) {
+        CeilingAnswer::NotWellFormed => two_numbers(20, 0),
+        CeilingAnswer::Ceiling(c) => two_numbers(0, c),
+    }
+}
+
+fn four_numbers(n: u64, s: usize, h: usize, v: usize) {
+    first(n);
+    more(s as u64);
+    more(h as u64);
+    more(v as u64);
+    end();
+}
+
+// 12 bound: number, S, H, N.
+pub fn totals_for(m: Model, bound: u8) {
+    match totals::totals_of(m, bound as usize) {
+        TotalsAnswer::NotWellFormed => four_numbers(20, 0, 0, 0),
+        TotalsAnswer::BoundTooLarge => four_numbers(21, 0, 0, 0),
+        TotalsAnswer::Totals {
+            state,
+            choices,
+            variables,
+        } => four_numbers(0, state, choices, variables),
+    }
+}
+
+// 13 bytes: number, place.
+pub fn walked(m: Model, values: [u8; 80], last_index: usize) {
+    if last_index < 80 {
+        let v = walk::walk(m, &values[1..last_index + 1]);
+        first(v.number() as u64);
+        more(v.place() as u64);
+        end();
+    }
+}
+
+fn show_four(values: [u8; 4]) {
+    more(values[0] as u64);
+    more(values[1] as u64);
+    more(values[2] as u64);
+    more(values[3] as u64);
+}
+
+// 14 location counters clocks byte: number, and the state that is handed back in the same order.
+pub fn stepped(m: Model, v: [u8; 80]) {
+    let s = State {
+        location: v[1],
+        counters: [v[2], v[3], v[4], v[5]],
+        clocks: [v[6], v[7], v[8], v[9]],
+    };
+    let a = walk::step(m, s, v[10]);
+    let outcome = a.outcome;
+    let t = a.state;
+    first(outcome.number() as u64);
+    more(t.location as u64);
+    let counters = t.counters;
+    show_four(counters);
+    let clocks = t.clocks;
+    show_four(clocks);
+    end();
+}

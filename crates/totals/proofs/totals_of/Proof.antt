@@ -1,0 +1,43 @@
+use Rattle.totals.specs.TotalsCall.{totalsReport, totalsReported}
+use Rattle.model.proofs.FormLaws.{state-of-sizes, choices-of-sizes}
+use borrow.Author.Tests.{not-true, not-false, lt-ltb, le-ltb}
+use mathlib.Core.Path.{sym, _∙_}
+use borrow.Author.Needs.{needs}
+use Rattle.totals.proofs.totals_of.Statement.{statement}
+use Rattle.totals.proofs.totals_of.Tie as tie
+
+well-formed-requires : tie.Need-well-formed-requires
+well-formed-requires c κs = search needs
+
+returns : tie.Need-returns
+unfolding totalsReport
+returns c = rw (sym (c .before .well-formed .ensures) ∙ not-true _ (c .if1 .taken))
+
+returns-2 : tie.Need-returns-2
+unfolding totalsReport
+returns-2 c = rw (sym (c .before .before .well-formed .ensures) ∙ not-false _ (c .before .if1 .left), lt-ltb _ _ (c .if2 .taken))
+
+sizes-requires : tie.Need-sizes-requires
+sizes-requires c κs = search needs
+
+cast-variables : tie.Need-cast-variables
+cast-variables c = search needs
+
+variables-requires : tie.Need-variables-requires
+variables-requires c κs = search needs
+
+returns-3 : tie.Need-returns-3
+unfolding totalsReport
+returns-3 c = rw (sym (c .before .before .before .before .well-formed .ensures) ∙ not-false _ (c .before .before .before .if1 .left), le-ltb _ _ (c .before .before .if2 .left)) (λ i. totalsReported 0 (state-of-sizes _ _ (c .before .sizes .ensures) i) (choices-of-sizes _ _ (c .before .sizes .ensures) i) (c .variables .ensures i))
+
+pub totals-of-spec : {M : Type 1} → statement M
+totals-of-spec =
+    tie.close
+    (tie.spec
+    well-formed-requires
+    returns
+    returns-2
+    sizes-requires
+    cast-variables
+    variables-requires
+    returns-3)

@@ -1,0 +1,2 @@
+pub mod CeilingCall
+pub mod TotalsCall

@@ -1,0 +1,50 @@
+// Questions about a record: its ceiling, and the lengths of its blocks.
+use form::well_formed;
+use model::Model;
+ghost use mathlib.Core.Path.{_≡_};
+ghost use Rattle.totals.specs.CeilingCall.{ceilingTold, ceilingReport};
+ghost use Rattle.totals.specs.TotalsCall.{totalsTold, totalsReport};
+
+pub enum CeilingAnswer {
+    NotWellFormed,
+    Ceiling(usize),
+}
+
+// The lengths of a state block and of a choice block, and the number of variables for the bound.
+pub enum TotalsAnswer {
+    NotWellFormed,
+    BoundTooLarge,
+    Totals {
+        state: usize,
+        choices: usize,
+        variables: usize,
+    },
+}
+
+// M: 20.
+pub fn ceiling_of(m: Model) -> CeilingAnswer
+    ensures { λ r. ⌜ ceilingTold r ≡ ceilingReport m ⌝ }
+{
+    if !well_formed(m) {
+        return CeilingAnswer::NotWellFormed;
+    }
+    CeilingAnswer::Ceiling(m.ceiling())
+}
+
+// S, H and N: 20, 21.
+pub fn totals_of(m: Model, bound: usize) -> TotalsAnswer
+    ensures { λ r. ⌜ totalsTold r ≡ totalsReport m bound ⌝ }
+{
+    if !well_formed(m) {
+        return TotalsAnswer::NotWellFormed;
+    }
+    if Model::STEPS < bound {
+        return TotalsAnswer::BoundTooLarge;
+    }
+    let z = m.sizes();
+    TotalsAnswer::Totals {
+        state: z.state,
+        choices: z.choices,
+        variables: m.variables(bound as u8),
+    }
+}

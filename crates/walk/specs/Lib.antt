@@ -1,0 +1,2 @@
+pub mod StepCall
+pub mod Walker
