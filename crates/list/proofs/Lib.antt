@@ -1,0 +1,15 @@
+pub mod ListLaws
+pub mod Meaning
+pub mod Blocks
+pub mod Steps
+pub mod Unfolding
+pub mod Expansion
+pub mod Layouts
+pub mod AnyLayout
+pub mod OneHot
+pub mod DemandProofs
+pub mod Pieces
+pub mod Searching
+pub mod Rows
+pub mod Sample
+pub mod Claims

@@ -1,0 +1,6 @@
+pub mod Lists
+pub mod Items
+pub mod Clauses
+pub mod Assignments
+pub mod Demands
+pub mod Cases
