@@ -26,24 +26,29 @@ use Rattle.model.specs.declared.updates.NewValue.the-variants.{Value, Ou
 use Rattle.model.specs.Indexed.{listBelow, allBelow, maxBelow, sumBelow, onlyIf, isSome, orZero}
 use Rattle.model.specs.Record.{blankCounter, atomAt, updateAt, resetAt, counterAt, invariantAt, edgeAt}
 
--- ---- the ceiling M: 1 plus the greatest clock constant in the model, or 1 if it has none
+-- ---- the ceiling
+-- the constant that an atom compares a clock with, and 0 where it compares none
 abbrev pub clockConstant : Atom → ℕ
 clockConstant Blank = 0
 clockConstant (OnClock x r c) = c
 clockConstant (OnCounter v r c) = 0
 
+-- the greatest clock constant of an invariant or a guard
 unfoldable pub greatestConstant : List AtomSlot → ℕ
 greatestConstant atoms = maxBelow (λ k. clockConstant (atomAt atoms k)) 4
 
+-- the ceiling M: 1 plus the greatest clock constant in the model, or 1 if it has none
 unfoldable pub ceiling : Model → ℕ
 ceiling m = 1 + max (maxBelow (λ l. greatestConstant (invariantAt m l)) 16) (maxBelow (λ e. greatestConstant (edgeAt m e .guard)) 32)
 
--- ---- the components of a state, in block order: the location, each counter, each clock
+-- ---- states
+-- the components of a state, in block order: the location, each counter, each clock
 pub data Component : Type 0 where
   loc : Component
   counter : ℕ → Component
   clock : ℕ → Component
 
+-- what a component shows
 abbrev pub value : State → Component → ℕ
 value s loc = s .location
 value s (counter i) = getD (s .counters) i 0
@@ -61,7 +66,8 @@ groupSize m loc = m .locations
 groupSize m (counter i) = counterAt m i .greatest + 1
 groupSize m (clock i) = ceiling m + 1
 
--- ---- atoms, guards and invariants: all atoms must hold
+-- ---- atoms, guards and invariants
+-- < <= = >= > !=, between a value and a constant
 abbrev pub meets : Relation → ℕ → ℕ → Bool
 meets Less v c = ltb v c
 meets LessEqual v c = leb v c
@@ -70,33 +76,41 @@ meets GreaterEqual v c = leb c v
 meets Greater v c = ltb c v
 meets NotEqual v c = not (eqb v c)
 
+-- an atom compares a clock or a counter with its constant; a blank slot asks nothing
 abbrev pub atomHolds : State → Atom → Bool
 atomHolds s Blank = true
 atomHolds s (OnClock x r c) = meets r (value s (clock x)) c
 atomHolds s (OnCounter v r c) = meets r (value s (counter v)) c
 
+-- all atoms of an invariant or a guard must hold
 unfoldable pub allHold : State → List AtomSlot → Bool
 allHold s atoms = allBelow (λ k. atomHolds s (atomAt atoms k)) 4
 
+-- the invariant of the location in which the state stands
 unfoldable pub invariantHolds : Model → State → Bool
 invariantHolds m s = allHold s (invariantAt m (s .location))
 
--- ---- the initial state: each counter at its initial value, all clocks 0
+-- ---- the initial state
+-- the initial location, each counter's initial value, clocks all 0 at first
 abbrev pub initialValue : Model → Component → ℕ
 initialValue m loc = m .initial
 initialValue m (counter i) = counterAt m i .initial
 initialValue m (clock i) = 0
 
+-- the state that shows the initial values
 unfoldable pub initialState : Model → State
 initialState m = record { location = m .initial; counters = listBelow (λ i. counterAt m i .initial) 4; clocks = listBelow (λ i. 0) 4 }
 
--- ---- delay d: each clock c becomes the smaller of c + d and M, all else stays, and the invariant must hold afterwards
+-- ---- delay d, under the ceiling `top`
+-- each clock c becomes the smaller of c + d and the ceiling; a slot that is not declared stays
 abbrev pub delayedClock : ℕ → ℕ → ℕ → State → ℕ → ℕ
 delayedClock clocks top d s i = cond (ltb i clocks) (min (value s (clock i) + d) top) (value s (clock i))
 
+-- all else stays
 unfoldable pub delayed : ℕ → ℕ → ℕ → State → State
 delayed clocks top d s = record { location = s .location; counters = s .counters; clocks = listBelow (delayedClock clocks top d s) 4 }
 
+-- the state after the delay; the invariant must hold afterwards
 unfoldable pub delayStep : Model → ℕ → ℕ → State → Option State
 delayStep m top d s = onlyIf (invariantHolds m (delayed (m .clocks) top d s)) (delayed (m .clocks) top d s)
 
@@ -106,7 +120,7 @@ delayedValue m d loc v = v
 delayedValue m d (counter i) v = v
 delayedValue m d (clock i) v = min (v + d) (ceiling m)
 
--- ---- updates
+-- ---- updates: keep, a constant, or another counter plus an offset
 -- a value that must lie in 0 to `greatest`
 abbrev pub inRange : ℕ → ℕ → Option ℕ
 inRange greatest v = onlyIf (leb v greatest) v
@@ -116,6 +130,7 @@ abbrev pub moved : ℕ → Bool → ℕ → ℕ → Option ℕ
 moved v false amount greatest = inRange greatest (v + amount)
 moved v true amount greatest = cond (leb amount v) (inRange greatest (v - amount)) none
 
+-- the sign of an offset
 abbrev pub isNegative : ℤ → Bool
 isNegative (pos n) = false
 isNegative (negsuc n) = true
@@ -135,49 +150,61 @@ abbrev pub newClock : (ℕ → ℕ) → ℕ → ClockUpdate → ℕ
 newClock before own Unchanged = own
 newClock before own Reset = 0
 
--- ---- an edge: the state stands in its source, the guard holds before, every new counter value lies in its range, and the target's invariant holds afterwards
+-- ---- an edge
+-- the new value of counter i, if it lies in its range; all updates read the values from before the edge
 abbrev pub nextCounter : List Counter → Edge → State → ℕ → Option ℕ
 nextCounter counters e s i = newCounter (λ w. value s (counter w)) (getD counters i blankCounter .greatest) (value s (counter i)) (updateAt e i)
 
+-- the new value of clock i: 0 if it is reset
 abbrev pub nextClock : Edge → State → ℕ → ℕ
 nextClock e s i = newClock (λ x. value s (clock x)) (value s (clock i)) (resetAt e i)
 
+-- every new counter value lies in its range
 unfoldable pub countersInRange : List Counter → Edge → State → Bool
 countersInRange counters e s = allBelow (λ i. isSome (nextCounter counters e s i)) 4
 
+-- the target location and the new values
 unfoldable pub afterEdge : List Counter → Edge → State → State
 afterEdge counters e s = record { location = e .target; counters = listBelow (λ i. orZero (nextCounter counters e s i)) 4; clocks = listBelow (nextClock e s) 4 }
 
+-- the state stands in the edge's source, the guard holds before, every new counter value lies in its range (else the edge can't be taken), and the target's invariant holds afterwards
 unfoldable pub edgeAllowed : Model → Edge → State → Bool
 edgeAllowed m e s = eqb (s .location) (e .source) && allHold s (e .guard) && countersInRange (m .counters) e s && invariantHolds m (afterEdge (m .counters) e s)
 
+-- the state after the edge
 unfoldable pub edgeStep : Model → Edge → State → Option State
 edgeStep m e s = onlyIf (edgeAllowed m e s) (afterEdge (m .counters) e s)
 
--- ---- one step byte: d for delay d, M + 1 + e for edge e; the new state, if the step is allowed
--- H: how many choices a step has
+-- ---- one step byte
+-- H, the length of a choice block: delays 0 to M, then edges
 unfoldable pub choices : Model → ℕ
 choices m = ceiling m + 1 + m .used
 
+-- d for delay d, M + 1 + e for edge e: the new state, if the step is allowed
 unfoldable pub step : Model → State → ℕ → Option State
 step m s b = cond (leb b (ceiling m)) (delayStep m (ceiling m) b s) (cond (ltb b (choices m)) (edgeStep m (edgeAt m (b - (ceiling m + 1))) s) none)
 
--- ---- S, the length of a state block, and N, the number of variables for k steps
+-- ---- numbering
+-- S, the length of a state block: the locations, each counter (greatest + 1), each clock (M + 1)
 unfoldable pub stateSize : Model → ℕ
 stateSize m = m .locations + sumBelow (λ i. groupSize m (counter i)) (m .vars) + m .clocks * (ceiling m + 1)
 
+-- N = S + k times (S + H)
 unfoldable pub variables : Model → ℕ → ℕ
 variables m k = stateSize m + k * (stateSize m + choices m)
 
--- ---- what the code answers: a new value, a step, the sizes
+-- ---- what the code answers
+-- a new value, or that it is out of range
 abbrev pub newValue : Option ℕ → NewValue
 newValue none = OutOfRange
 newValue (some v) = Value v
 
+-- the new value is in its range
 abbrev pub isValue : NewValue → Bool
 isValue OutOfRange = false
 isValue (Value v) = true
 
+-- the new value, or 0 where it is out of range
 abbrev pub valueOrZero : NewValue → ℕ
 valueOrZero OutOfRange = 0
 valueOrZero (Value v) = v
@@ -187,5 +214,6 @@ abbrev pub stepped : State → Option State → Stepped
 stepped s none = record { allowed = false; state = s }
 stepped s (some t) = record { allowed = true; state = t }
 
+-- M, S and H
 unfoldable pub sizes : Model → Sizes
 sizes m = record { ceiling = ceiling m; state = stateSize m; choices = choices m }

@@ -25,6 +25,7 @@ use Rattle.model.specs.Record.{blankUpdate, blankReset, blankCounter, at
 use Rattle.model.specs.Automaton.{ceiling, value, counter, clock}
 
 -- ---- atoms
+-- the comparison is !=
 abbrev pub isNotEqual : Relation → Bool
 isNotEqual Less = false
 isNotEqual LessEqual = false
@@ -39,6 +40,7 @@ atomFormed clocks vars Blank = true
 atomFormed clocks vars (OnClock x r c) = ltb x clocks && leb c 30 && not (isNotEqual r)
 atomFormed clocks vars (OnCounter v r c) = ltb v vars && leb c 31
 
+-- the slot holds no atom
 abbrev pub isBlank : Atom → Bool
 isBlank Blank = true
 isBlank (OnClock x r c) = false
@@ -48,6 +50,7 @@ isBlank (OnCounter v r c) = false
 abbrev pub noGap : Atom → Atom → Bool
 noGap before after = cond (isBlank before) (isBlank after) true
 
+-- every slot holds a formed atom or none
 unfoldable pub eachFormed : ℕ → ℕ → List AtomSlot → Bool
 eachFormed clocks vars atoms = allBelow (λ k. atomFormed clocks vars (atomAt atoms k)) 4
 
@@ -55,26 +58,33 @@ eachFormed clocks vars atoms = allBelow (λ k. atomFormed clocks vars (atomAt at
 unfoldable pub filledFromFirst : List AtomSlot → Bool
 filledFromFirst atoms = allBelow (λ k. noGap (atomAt atoms k) (atomAt atoms (k + 1))) 3
 
+-- the atoms of an invariant or a guard, where so many clocks and counters are declared
 unfoldable pub atomsFormed : ℕ → ℕ → List AtomSlot → Bool
 atomsFormed clocks vars atoms = eachFormed clocks vars atoms && filledFromFirst atoms
 
--- ---- counters: greatest value 0 to 31, initial value up to it
+-- ---- counters
+-- greatest value 0 to 31, initial value up to it
 abbrev pub counterFormed : Counter → Bool
 counterFormed c = leb (c .greatest) 31 && leb (c .initial) (c .greatest)
 
+-- the slot is blank: numbers 0
 abbrev pub isBlankCounter : Counter → Bool
 isBlankCounter c = eqb (c .greatest) 0 && eqb (c .initial) 0
 
+-- a declared counter is formed; an unused slot is blank
 abbrev pub counterSlotFormed : ℕ → Counter → ℕ → Bool
 counterSlotFormed vars c i = cond (ltb i vars) (counterFormed c) (isBlankCounter c)
 
+-- every counter slot
 unfoldable pub countersFormed : ℕ → List Counter → Bool
 countersFormed vars counters = allBelow (λ i. counterSlotFormed vars (getD counters i blankCounter) i) 4
 
--- ---- invariants: clock atoms alone, so formed where no counter is declared; an unused slot holds no atom, so it is formed where no clock is declared either
+-- ---- invariants
+-- an invariant holds clock atoms alone, so it is formed where no counter is declared; an unused slot holds no atom, so it is formed where no clock is declared either
 abbrev pub invariantSlotFormed : Model → ℕ → Bool
 invariantSlotFormed m l = cond (ltb l (m .locations)) (atomsFormed (m .clocks) 0 (invariantAt m l)) (atomsFormed 0 0 (invariantAt m l))
 
+-- every invariant slot
 unfoldable pub invariantsFormed : Model → Bool
 invariantsFormed m = allBelow (invariantSlotFormed m) 16
 
@@ -85,11 +95,13 @@ updateFormed vars Keep = true
 updateFormed vars (Constant c) = leb c 31
 updateFormed vars (Sum w offset) = ltb w vars && leb (natAbs offset) 31
 
+-- the slot is blank: keep
 abbrev pub isKeep : Update → Bool
 isKeep Keep = true
 isKeep (Constant c) = false
 isKeep (Sum w offset) = false
 
+-- the slot is blank: no reset
 abbrev pub isUnchanged : ClockUpdate → Bool
 isUnchanged Unchanged = true
 isUnchanged Reset = false
@@ -98,6 +110,7 @@ isUnchanged Reset = false
 abbrev pub updateSlotFormed : ℕ → Update → ℕ → Bool
 updateSlotFormed vars u i = cond (ltb i vars) (updateFormed vars u) (isKeep u)
 
+-- every update slot of an edge
 unfoldable pub updatesFormed : ℕ → List UpdateSlot → Bool
 updatesFormed vars slots = allBelow (λ i. updateSlotFormed vars (getD slots i blankUpdate .update) i) 4
 
@@ -105,9 +118,11 @@ updatesFormed vars slots = allBelow (λ i. updateSlotFormed vars (getD slots i b
 abbrev pub resetSlotFormed : ℕ → ClockUpdate → ℕ → Bool
 resetSlotFormed clocks u i = cond (ltb i clocks) true (isUnchanged u)
 
+-- every clock slot of an edge
 unfoldable pub resetsFormed : ℕ → List ClockSlot → Bool
 resetsFormed clocks slots = allBelow (λ i. resetSlotFormed clocks (getD slots i blankReset .update) i) 4
 
+-- an edge names only declared locations, clocks and counters, and is within the limits
 unfoldable pub edgeFormed : ℕ → ℕ → ℕ → Edge → Bool
 edgeFormed locations clocks vars e =
     ltb (e .source) locations && ltb (e .target) locations && atomsFormed clocks vars (e .guard) && updatesFormed vars (e .updates) && resetsFormed clocks (e .resets)
@@ -116,27 +131,34 @@ edgeFormed locations clocks vars e =
 abbrev pub edgeSlotFormed : Model → ℕ → Bool
 edgeSlotFormed m e = cond (ltb e (m .used)) (edgeFormed (m .locations) (m .clocks) (m .vars) (edgeAt m e)) (edgeFormed 1 0 0 (edgeAt m e))
 
+-- every edge slot
 unfoldable pub edgesFormed : Model → Bool
 edgesFormed m = allBelow (edgeSlotFormed m) 32
 
--- ---- the record: 1 to 16 locations, one initial, one target, 0 to 4 clocks, 0 to 4 counters, 0 to 32 edges
+-- ---- the record
+-- 1 to 16 locations, one initial, one target, 0 to 4 clocks, 0 to 4 counters, 0 to 32 edges
 unfoldable pub headFormed : Model → Bool
 headFormed m =
     leb 1 (m .locations) && leb (m .locations) 16 && ltb (m .initial) (m .locations) && ltb (m .target) (m .locations) &&
     leb (m .clocks) 4 && leb (m .vars) 4 && leb (m .used) 32
 
+-- a well-formed record (else refusal 20)
 unfoldable pub wellFormed : Model → Bool
 wellFormed m = headFormed m && countersFormed (m .vars) (m .counters) && invariantsFormed m && edgesFormed m
 
--- ---- a given state (refusal 10): each number in its group, unused slots 0
+-- ---- a given state (else refusal 10)
+-- a declared slot shows 0 to its greatest value; an unused slot is 0
 abbrev pub slotInGroup : ℕ → ℕ → ℕ → ℕ → Bool
 slotInGroup declared greatest v i = cond (ltb i declared) (leb v greatest) (eqb v 0)
 
+-- every counter slot
 unfoldable pub countersInGroup : ℕ → List Counter → State → Bool
 countersInGroup vars counters s = allBelow (λ i. slotInGroup vars (getD counters i blankCounter .greatest) (value s (counter i)) i) 4
 
+-- every clock slot
 unfoldable pub clocksInGroup : ℕ → ℕ → State → Bool
 clocksInGroup clocks top s = allBelow (λ i. slotInGroup clocks top (value s (clock i)) i) 4
 
+-- each number of the state is in its group
 unfoldable pub stateFormed : Model → State → Bool
 stateFormed m s = ltb (s .location) (m .locations) && countersInGroup (m .vars) (m .counters) s && clocksInGroup (m .clocks) (ceiling m) s

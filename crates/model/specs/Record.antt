@@ -16,22 +16,28 @@ use Rattle.model.specs.declared.Invariant.{Invariant}
 use Rattle.model.specs.declared.Edge.{Edge}
 use Rattle.model.specs.declared.Model.{Model}
 
--- ---- blank slots: no atom, keep, no reset, number 0
+-- ---- blank slots
+-- no atom
 abbrev pub blankAtom : AtomSlot
 blankAtom = record { atom = Blank }
 
+-- keep
 abbrev pub blankUpdate : UpdateSlot
 blankUpdate = record { update = Keep }
 
+-- no reset
 abbrev pub blankReset : ClockSlot
 blankReset = record { update = Unchanged }
 
+-- numbers 0
 abbrev pub blankCounter : Counter
 blankCounter = record { greatest = 0; initial = 0 }
 
+-- four blank slots
 abbrev pub blankInvariant : Invariant
 blankInvariant = record { atoms = replicate 4 blankAtom }
 
+-- numbers 0, and blank slots
 abbrev pub blankEdge : Edge
 blankEdge = record { source = 0; target = 0; guard = replicate 4 blankAtom; updates = replicate 4 blankUpdate; resets = replicate 4 blankReset }
 
@@ -49,27 +55,35 @@ blankModel = record {
   edges = replicate 32 blankEdge;
 }
 
--- ---- what stands in a slot. A record's arrays are full, so what is read past their ends never matters.
+-- ---- what stands in a slot
+-- what is read past the ends of the arrays, which are always full
 abbrev pub pastInvariant : Invariant
 pastInvariant = record { atoms = [] }
 
+-- the same for edges
 abbrev pub pastEdge : Edge
 pastEdge = record { source = 0; target = 0; guard = []; updates = []; resets = [] }
 
+-- the atom in slot k of an invariant or a guard
 abbrev pub atomAt : List AtomSlot → ℕ → Atom
 atomAt atoms k = getD atoms k blankAtom .atom
 
+-- the update of counter i
 abbrev pub updateAt : Edge → ℕ → Update
 updateAt e i = getD (e .updates) i blankUpdate .update
 
+-- the update of clock i
 abbrev pub resetAt : Edge → ℕ → ClockUpdate
 resetAt e i = getD (e .resets) i blankReset .update
 
+-- the declaration of counter i
 abbrev pub counterAt : Model → ℕ → Counter
 counterAt m i = getD (m .counters) i blankCounter
 
+-- the atoms of the invariant of location l
 abbrev pub invariantAt : Model → ℕ → List AtomSlot
 invariantAt m l = getD (m .invariants) l pastInvariant .atoms
 
+-- edge e
 abbrev pub edgeAt : Model → ℕ → Edge
 edgeAt m e = getD (m .edges) e pastEdge

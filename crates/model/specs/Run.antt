@@ -18,6 +18,7 @@ walk m s (b ∷ r) = andThen (step m s b) (λ t. walk m t r)
 unfoldable pub start : Model → Option State
 start m = onlyIf (invariantHolds m (initialState m)) (initialState m)
 
+-- a walk ends in the target location
 abbrev pub endsIn : Model → Option State → Bool
 endsIn m none = false
 endsIn m (some s) = eqb (s .location) (m .target)

@@ -17,12 +17,12 @@ fn end() {
     io::write_all(1, b"\n");
 }
 
-pub fn unknown() {
+pub(crate) fn unknown() {
     io::write_all(1, b"no such question\n");
 }
 
 // 10: the refusal's number, 0 or 20.
-pub fn formed(m: Model) {
+pub(crate) fn formed(m: Model) {
     match totals::ceiling_of(m) {
         CeilingAnswer::NotWellFormed => first(20),
         CeilingAnswer::Ceiling(_) => first(0),
@@ -37,7 +37,7 @@ fn two_numbers(n: u64, c: usize) {
 }
 
 // 11: number, M.
-pub fn ceiling(m: Model) {
+pub(crate) fn ceiling(m: Model) {
     match totals::ceiling_of(m) {
         CeilingAnswer::NotWellFormed => two_numbers(20, 0),
         CeilingAnswer::Ceiling(c) => two_numbers(0, c),
@@ -53,7 +53,7 @@ fn four_numbers(n: u64, s: usize, h: usize, v: usize) {
 }
 
 // 12 bound: number, S, H, N.
-pub fn totals_for(m: Model, bound: u8) {
+pub(crate) fn totals_for(m: Model, bound: u8) {
     match totals::totals_of(m, bound as usize) {
         TotalsAnswer::NotWellFormed => four_numbers(20, 0, 0, 0),
         TotalsAnswer::BoundTooLarge => four_numbers(21, 0, 0, 0),
@@ -66,7 +66,7 @@ pub fn totals_for(m: Model, bound: u8) {
 }
 
 // 13 bytes: number, place.
-pub fn walked(m: Model, values: [u8; 80], last_index: usize) {
+pub(crate) fn walked(m: Model, values: [u8; 80], last_index: usize) {
     if last_index < 80 {
         let v = walk::walk(m, &values[1..last_index + 1]);
         first(v.number() as u64);
@@ -83,7 +83,7 @@ fn show_four(values: [u8; 4]) {
 }
 
 // 14 location counters clocks byte: number, and the state that is handed back in the same order.
-pub fn stepped(m: Model, v: [u8; 80]) {
+pub(crate) fn stepped(m: Model, v: [u8; 80]) {
     let s = State {
         location: v[1],
         counters: [v[2], v[3], v[4], v[5]],

@@ -3,13 +3,13 @@ ghost use Prim.Native.Nat.{_≤_};
 ghost use lib.ListN.{length};
 
 // Up to 80 numbers; `last` is the index of the last one.
-pub struct Numbers {
-    pub last: usize,
-    pub values: [u8; 80],
+pub(crate) struct Numbers {
+    pub(crate) last: usize,
+    pub(crate) values: [u8; 80],
 }
 
 // Where the line that holds `at` ends: at the next LF, or at the end.
-pub fn line_end(s: &[u8], at: usize) -> usize
+pub(crate) fn line_end(s: &[u8], at: usize) -> usize
     requires { ⌜ at ≤ length (now s) ⌝ }
     ensures { λ r. ⌜ (at ≤ r) × (r ≤ length (now (s .entry))) ⌝ }
 {
@@ -42,7 +42,7 @@ fn with_byte(mut n: Numbers, b: u8) -> Numbers {
     n
 }
 
-pub fn read(s: &[u8]) -> Numbers {
+pub(crate) fn read(s: &[u8]) -> Numbers {
     let mut n = Numbers {
         last: 0,
         values: [0u8; 80],

@@ -224,7 +224,7 @@ fn with_reset(mut m: Model, e: usize, k: usize, u: ClockSlot) -> Model
 }
 
 // The record after one change; `v` holds the numbers of the line.
-pub fn changed(m: Model, v: [u8; 80]) -> Model {
+pub(crate) fn changed(m: Model, v: [u8; 80]) -> Model {
     let op = v[0];
     let i = (v[1] % 32) as usize;
     let k = (v[2] % 4) as usize;

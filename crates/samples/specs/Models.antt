@@ -76,6 +76,10 @@ modelB = record {
       replicate 29 blankEdge;
 }
 
+-- an edge at every limit
+abbrev pub fullEdge : Edge
+fullEdge = record { source = 15; target = 15; guard = replicate 4 (record { atom = OnCounter 3 Equal 31 }); updates = replicate 4 (record { update = Constant 31 }); resets = replicate 4 (record { update = Reset }) }
+
 -- a model at every limit: 16 locations, 4 clocks, 4 counters of 0 to 31, 32 edges, 4 atoms wherever atoms stand, constants 30 and 31
 unfoldable pub fullModel : Model
 fullModel = record {
@@ -87,5 +91,5 @@ fullModel = record {
   counters = replicate 4 (record { greatest = 31; initial = 31 });
   invariants = replicate 16 (holding (replicate 4 (record { atom = OnClock 3 LessEqual 30 })));
   used = 32;
-  edges = replicate 32 (record { source = 15; target = 15; guard = replicate 4 (record { atom = OnCounter 3 Equal 31 }); updates = replicate 4 (record { update = Constant 31 }); resets = replicate 4 (record { update = Reset }) });
+  edges = replicate 32 fullEdge;
 }

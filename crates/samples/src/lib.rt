@@ -11,7 +11,7 @@ use model::Relation;
 use model::Update;
 use model::UpdateSlot;
 ghost use mathlib.Core.Path.{_≡_};
-ghost use Rattle.samples.specs.Models.{onClock, edge, modelA, waitingA, modelB, fullModel};
+ghost use Rattle.samples.specs.Models.{onClock, edge, modelA, waitingA, modelB, fullEdge, fullModel};
 
 // Four slots of which the first holds an atom on a clock.
 pub fn on_clock(clock: u8, relation: Relation, constant: u8) -> [AtomSlot; 4]
@@ -108,17 +108,10 @@ pub fn model_b() -> Model
     m
 }
 
-// A model at every limit.
-pub fn full_model() -> Model
-    ensures { λ r. ⌜ r ≡ fullModel ⌝ }
+// Source, target and atoms, updates and resets at their limits.
+fn full_edge() -> Edge
+    ensures { λ r. ⌜ r ≡ fullEdge ⌝ }
 {
-    let atom = AtomSlot {
-        atom: Atom::OnClock {
-            clock: 3,
-            relation: Relation::LessEqual,
-            constant: 30,
-        },
-    };
     let test = AtomSlot {
         atom: Atom::OnCounter {
             counter: 3,
@@ -132,17 +125,31 @@ pub fn full_model() -> Model
     let reset = ClockSlot {
         update: ClockUpdate::Reset,
     };
-    let edge = Edge {
+    Edge {
         source: 15,
         target: 15,
         guard: [test; 4],
         updates: [update; 4],
         resets: [reset; 4],
+    }
+}
+
+// A model at every limit.
+pub fn full_model() -> Model
+    ensures { λ r. ⌜ r ≡ fullModel ⌝ }
+{
+    let atom = AtomSlot {
+        atom: Atom::OnClock {
+            clock: 3,
+            relation: Relation::LessEqual,
+            constant: 30,
+        },
     };
     let counter = Counter {
         greatest: 31,
         initial: 31,
     };
+    let edge = full_edge();
     Model {
         locations: 16,
         initial: 15,
