@@ -1,0 +1,2 @@
+pub mod KnownCounts
+pub mod CountsCall

@@ -1,0 +1,4 @@
+pub mod SizedLaws
+pub mod GroupLaws
+pub mod PieceLaws
+pub mod EdgeLaws
