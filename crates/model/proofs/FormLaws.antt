@@ -52,6 +52,7 @@ pub record WellFormed (m : Model) : Type 0 where
   pub used-le : m .used ≤ 32
   pub greatest-le : (i : ℕ) → i < m .vars → counterAt m i .greatest ≤ 31
   pub start-ok : (i : ℕ) → i < m .vars → counterAt m i .initial ≤ counterAt m i .greatest
+  pub greatest-rest : (i : ℕ) → m .vars ≤ i → i < 4 → counterAt m i .greatest ≡ 0
   pub start-rest : (i : ℕ) → m .vars ≤ i → i < 4 → counterAt m i .initial ≡ 0
   pub invariant-ok : (l : ℕ) → l < m .locations → (k : ℕ) → k < 4 → DeclaredAtom m (atomAt (invariantAt m l) k)
   pub edge-ok : (e : ℕ) → e < m .used → WellFormedEdge m (edgeAt m e)
@@ -163,6 +164,7 @@ formed m h =
       used-le = u32;
       greatest-le = λ i l. leb→le (counterAt m i .greatest) 31 (counter-parts i l (c i (omega arith)) .0);
       start-ok = λ i l. leb→le (counterAt m i .initial) (counterAt m i .greatest) (counter-parts i l (c i (omega arith)) .1);
+      greatest-rest = λ i p l. eq-T (counterAt m i .greatest) 0 .0 (and-T (eqb (counterAt m i .greatest) 0) (eqb (counterAt m i .initial) 0) .0 (no i (m .vars) (counterFormed (counterAt m i)) (isBlankCounter (counterAt m i)) (c i l) p) .0);
       start-rest = λ i p l. eq-T (counterAt m i .initial) 0 .0 (and-T (eqb (counterAt m i .greatest) 0) (eqb (counterAt m i .initial) 0) .0 (no i (m .vars) (counterFormed (counterAt m i)) (isBlankCounter (counterAt m i)) (c i l) p) .1);
       invariant-ok = λ l p k q. atom-declared m (m .clocks) 0 (omega arith) (omega arith) (atomAt (invariantAt m l) k) (atoms-at (m .clocks) 0 (invariantAt m l) (yes l (m .locations) (atomsFormed (m .clocks) 0 (invariantAt m l)) (atomsFormed 0 0 (invariantAt m l)) (v l (omega arith)) p) k q);
       edge-ok = λ i l. edge-formed m v4 (edgeAt m i) (yes i (m .used) (edgeFormed (m .locations) (m .clocks) (m .vars) (edgeAt m i)) (edgeFormed 1 0 0 (edgeAt m i)) (e i (omega arith)) l);

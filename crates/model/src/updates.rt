@@ -9,13 +9,13 @@ ghost use lib.IntN.{natAbs};
 ghost use Rattle.model.specs.Automaton.{inRange, moved, shifted, isNegative, newCounter, newClock, newValue, isValue, valueOrZero};
 
 // A counter's new value, where it lies in the counter's range.
-pub(crate) enum NewValue {
+pub enum NewValue {
     OutOfRange,
     Value(u8),
 }
 
 impl NewValue {
-    pub(crate) fn is_value(self) -> bool
+    pub fn is_value(self) -> bool
         ensures { λ r. ⌜ r ≡ isValue self ⌝ }
     {
         match self {
@@ -24,7 +24,7 @@ impl NewValue {
         }
     }
 
-    pub(crate) fn value_or_zero(self) -> u8
+    pub fn value_or_zero(self) -> u8
         ensures { λ r. ⌜ r ≡ valueOrZero self ⌝ }
     {
         match self {
@@ -34,7 +34,7 @@ impl NewValue {
     }
 }
 
-fn in_range(v: u16, greatest: u8) -> NewValue
+pub fn in_range(v: u16, greatest: u8) -> NewValue
     ensures { λ r. ⌜ r ≡ newValue (inRange greatest v) ⌝ }
 {
     if v <= greatest as u16 {
@@ -76,7 +76,7 @@ pub fn amount(z: i8) -> u8
     }
 }
 
-fn shift(v: u8, offset: i8, greatest: u8) -> NewValue
+pub fn shift(v: u8, offset: i8, greatest: u8) -> NewValue
     ensures { λ r. ⌜ r ≡ newValue (shifted offset greatest v) ⌝ }
 {
     move_by(v, is_negative(offset), amount(offset), greatest)

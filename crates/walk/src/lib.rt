@@ -84,7 +84,7 @@ impl Verdict {
 }
 
 // One step byte of a well-formed model with the ceiling `top`.
-pub(crate) fn advance(m: Model, top: u8, s: State, byte: u8) -> Stepped
+pub fn advance(m: Model, top: u8, s: State, byte: u8) -> Stepped
     requires { ⌜ T (wellFormed m) × (top ≡ ceiling m) ⌝ }
     ensures { λ r. ⌜ r ≡ stepped s (step m s byte) ⌝ }
 {

@@ -1,0 +1,2 @@
+pub mod ListPieces
+pub mod EmitLaws

@@ -1,0 +1,41 @@
+use mathlib.Core.Path.{sym, subst, ap}
+use mathlib.Core.List.{_++_}
+use Rattle.model.specs.declared.State.{State}
+use Rattle.list.specs.Assignments.{oneHot, stateBytes, stepsBytes, assignmentOf}
+use Rattle.encode.proofs.BufferLaws.{wrote-then, wrote-is, room-is, room-first, room-then}
+use Rattle.encode.specs.Blocks.{Walks}
+use borrow.Author.Needs.{needs}
+use Rattle.encode.proofs.put_assignment.Statement.{statement}
+use Rattle.encode.proofs.put_assignment.Tie as tie
+
+initial-state-requires : tie.Need-initial-state-requires
+initial-state-requires c κs = search needs
+
+ceiling-requires : tie.Need-ceiling-requires
+ceiling-requires c κs = search needs
+
+put-state-requires : tie.Need-put-state-requires
+unfolding assignmentOf
+put-state-requires c κs = (c .before .before .before .before .before .pre .0, c .before .ceiling .ensures .is, room-first (stepsBytes oneHot (c .before .before .before .before .before .args .m) (c .before .before .initial-state .result) (c .before .before .before .before .before .args .run .now)) (room-is (ap (λ (s : State). stateBytes oneHot (c .before .before .before .before .before .args .m) s ++ stepsBytes oneHot (c .before .before .before .before .before .args .m) s (c .before .before .before .before .before .args .run .now)) (sym (c .before .before .initial-state .ensures))) (c .before .before .before .before .before .pre .2)))
+
+put-steps-requires : tie.Need-put-steps-requires
+unfolding assignmentOf
+put-steps-requires c κs = (c .before .before .before .before .before .before .before .before .before .pre .0, subst (λ (s : State). Walks (c .before .before .before .before .before .before .before .before .before .args .m) s (c .before .before .before .before .before .before .before .before .before .args .run .now)) (sym (c .before .before .before .before .before .before .initial-state .ensures)) (c .before .before .before .before .before .before .before .before .before .pre .1), room-then (c .before .before .before .put-state .ensures) (room-is (ap (λ (s : State). stateBytes oneHot (c .before .before .before .before .before .before .before .before .before .args .m) s ++ stepsBytes oneHot (c .before .before .before .before .before .before .before .before .before .args .m) s (c .before .before .before .before .before .before .before .before .before .args .run .now)) (sym (c .before .before .before .before .before .before .initial-state .ensures))) (c .before .before .before .before .before .before .before .before .before .pre .2)))
+
+same-length : tie.Need-same-length
+same-length c = search needs
+
+returns : tie.Need-returns
+unfolding assignmentOf
+returns c = wrote-is (ap (λ (s : State). stateBytes oneHot (c .before .before .before .before .before .before .before .before .before .before .before .before .args .m) s ++ stepsBytes oneHot (c .before .before .before .before .before .before .before .before .before .before .before .before .args .m) s (c .before .before .before .before .before .before .before .before .before .before .before .before .args .run .now)) (c .before .before .before .before .before .before .before .before .before .initial-state .ensures)) (wrote-then (c .before .before .before .before .before .before .put-state .ensures) (c .before .before .put-steps .ensures))
+
+pub put-assignment-spec : {M : Type 1} → statement M
+put-assignment-spec =
+    tie.close
+    (tie.spec
+    initial-state-requires
+    ceiling-requires
+    put-state-requires
+    put-steps-requires
+    same-length
+    returns)

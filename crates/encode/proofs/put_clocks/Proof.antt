@@ -1,0 +1,69 @@
+use borrow.Author.Needs.{needs}
+use native.Mathlib.Omega.{arith}
+use mathlib.Core.Path.{_≡_, refl}
+use Prim.Native.Nat.{_≤_, _<_, _-_}
+use Rattle.model.specs.Indexed.{each}
+use Rattle.encode.proofs.BufferLaws.{wrote-each-none, wrote-each, room-each}
+use Rattle.encode.specs.Blocks.{clockBytes}
+use Rattle.encode.specs.Buffers.{Wrote}
+use Rattle.encode.proofs.put_clocks.Statement.{statement}
+use Rattle.encode.proofs.put_clocks.Tie as tie
+
+abbrev Inv-loop : tie.InvT-loop
+Inv-loop clocks top out₀ at values o₀ i₀ i-end out o i = (i ≤ i-end) × (i-end ≡ clocks) × Wrote (each i (clockBytes top values)) out₀ out at o
+
+abbrev μ-loop : tie.MeasureT-loop
+μ-loop clocks top out₀ at values o₀ i₀ i-end out o i = i-end - i
+
+loop-holds : tie.Need-loop-holds Inv-loop μ-loop
+loop-holds c = (search needs, refl, wrote-each-none _ _ _ (omega (arith, c .before .pre .2 .room)))
+
+add-put-group : tie.Need-add-put-group Inv-loop μ-loop
+add-put-group c = search needs
+
+array-read-put-group : tie.Need-array-read-put-group Inv-loop μ-loop
+array-read-put-group c = search needs
+
+cast-put-group : tie.Need-cast-put-group Inv-loop μ-loop
+cast-put-group c = search needs
+
+put-group-requires : tie.Need-put-group-requires Inv-loop μ-loop
+unfolding clockBytes
+put-group-requires c κs =
+    let l : c .before .before .loop .i < c .before .before .before .before .args .clocks = omega (arith, c .before .before .loop .inv .1) in
+    room-each (clockBytes (c .before .before .before .before .args .top) (c .before .before .before .before .args .t3)) _ _ (c .before .before .loop .inv .2) l (c .before .before .before .before .pre .2)
+
+add-i : tie.Need-add-i Inv-loop μ-loop
+add-i c = search needs
+
+loop-less : tie.Need-loop-less Inv-loop μ-loop
+loop-less c = search needs
+
+loop-again : tie.Need-loop-again Inv-loop μ-loop
+unfolding clockBytes
+loop-again c = (search needs, c .before .before .before .before .before .loop .inv .1, wrote-each (clockBytes (c .before .before .before .before .before .before .before .args .top) (c .before .before .before .before .before .before .before .args .t3)) _ (c .before .before .before .before .before .loop .inv .2) (c .before .before .put-group .ensures))
+
+same-length : tie.Need-same-length Inv-loop μ-loop
+same-length c = search needs
+
+returns : tie.Need-returns Inv-loop μ-loop
+returns c =
+    let done : c .before .loop .i ≡ c .before .before .before .args .clocks = omega (arith, c .before .loop .inv .1) in
+    rw done at (c .before .loop .inv .2)
+
+pub put-clocks-spec : {M : Type 1} → statement M
+put-clocks-spec =
+    tie.close
+    (tie.spec
+    Inv-loop
+    μ-loop
+    loop-holds
+    add-put-group
+    array-read-put-group
+    cast-put-group
+    put-group-requires
+    add-i
+    loop-less
+    loop-again
+    same-length
+    returns)

@@ -1,0 +1,62 @@
+use borrow.Author.Needs.{needs}
+use native.Mathlib.Omega.{arith}
+use lib.ListN.{length}
+use mathlib.Core.Path.{_≡_}
+use Prim.Native.Nat.{_≤_, _-_, _+_}
+use Rattle.list.proofs.OneHot.{one-hot-length}
+use Rattle.list.specs.Assignments.{oneHot}
+use Rattle.encode.proofs.BufferLaws.{wrote-list-none, wrote-list}
+use Rattle.encode.specs.Buffers.{Wrote}
+use Rattle.encode.proofs.put_group.Statement.{statement}
+use Rattle.encode.proofs.put_group.Tie as tie
+
+abbrev Inv-loop : tie.InvT-loop
+Inv-loop n d out₀ at o₀ v₀ out o v = (v ≤ n) × (o ≡ at + v) × (at + n ≤ length out₀) × Wrote (oneHot v d) out₀ out at o
+
+abbrev μ-loop : tie.MeasureT-loop
+μ-loop n d out₀ at o₀ v₀ out o v = n - v
+
+loop-holds : tie.Need-loop-holds Inv-loop μ-loop
+loop-holds c = (search needs, search needs, omega (arith, one-hot-length (c .before .args .n) (c .before .args .d), c .before .pre .room), wrote-list-none _ _ _ (omega (arith, c .before .pre .room)))
+
+mark-requires : tie.Need-mark-requires Inv-loop μ-loop
+mark-requires c κs = search needs
+
+slice-write-out : tie.Need-slice-write-out Inv-loop μ-loop
+slice-write-out c = search needs
+
+add-o : tie.Need-add-o Inv-loop μ-loop
+add-o c = search needs
+
+add-v : tie.Need-add-v Inv-loop μ-loop
+add-v c = search needs
+
+loop-less : tie.Need-loop-less Inv-loop μ-loop
+loop-less c = search needs
+
+loop-again : tie.Need-loop-again Inv-loop μ-loop
+loop-again c = (search needs, search needs, c .before .before .loop .inv .2, wrote-list _ _ _ (c .before .before .loop .inv .3) (c .mark .ensures) (omega arith))
+
+same-length : tie.Need-same-length Inv-loop μ-loop
+same-length c = search needs
+
+returns : tie.Need-returns Inv-loop μ-loop
+returns c =
+    let done : c .before .loop .v ≡ c .before .before .before .args .n = omega arith in
+    rw done at (c .before .loop .inv .3)
+
+pub put-group-spec : {M : Type 1} → statement M
+put-group-spec =
+    tie.close
+    (tie.spec
+    Inv-loop
+    μ-loop
+    loop-holds
+    mark-requires
+    slice-write-out
+    add-o
+    add-v
+    loop-less
+    loop-again
+    same-length
+    returns)

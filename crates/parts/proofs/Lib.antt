@@ -1,0 +1,4 @@
+pub mod GroupLaws
+pub mod EdgeParts
+pub mod PartPieces
+pub mod PartFits

@@ -1,0 +1,2 @@
+pub mod StateBlock
+pub mod PartsOf

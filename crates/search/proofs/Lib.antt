@@ -1,0 +1,4 @@
+pub mod KnownLaws
+pub mod Sequel
+pub mod StepPieces
+pub mod WholeList
