@@ -1,6 +1,5 @@
 -- Rules for the values of a group that the code answers are those of its component.
 use mathlib.Core.Path.{_≡_, sym, ap, ap₂, _∙_}
-use mathlib.Core.List.{List}
 use mathlib.Core.Option.{Option}
 use Prim.Native.Nat.{ℕ, _+_}
 use Rattle.model.specs.declared.Model.{Model}

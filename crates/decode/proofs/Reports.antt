@@ -1,5 +1,5 @@
 -- The report of the call and what it leaves in the run buffer, by the tests that decide them; which assignments it accepts.
-use mathlib.Core.Path.{_≡_, refl, sym, ap, subst}
+use mathlib.Core.Path.{_≡_, refl, sym, ap, subst, _∙_}
 use mathlib.Core.Logic.{_↔_}
 use mathlib.Core.Bool.{Bool, true, false, not, cond}
 use mathlib.Core.List.{List, _++_}
@@ -58,17 +58,23 @@ module _ (m : Model) (k : ℕ) (a : List ℕ) (n : ℕ) where
             unfolding decodeReport
             report-0 f = rw (w, b, l, h, s, f)
 
--- ---- what is left in the run buffer
+-- ---- the report, and what is left in the run buffer
 module _ (m : Model) (k : ℕ) (a old : List ℕ) where
-  -- the buffer of a refused call
-  pub left-refused : {x : Refusal} → decodeReport m k a (length old) ≡ x → isAccepted x ≡ false → old ≡ decodeLeft m k a old
+  -- a refused call leaves the buffer as it was
+  left-refused : {x : Refusal} → decodeReport m k a (length old) ≡ x → isAccepted x ≡ false → old ≡ decodeLeft m k a old
   unfolding decodeLeft
   left-refused h f = rw (h, f)
+
+  pub refused : {x : Refusal} → decodeReport m k a (length old) ≡ x → isAccepted x ≡ false → (x ≡ decodeReport m k a (length old)) × (old ≡ decodeLeft m k a old)
+  refused h f = (sym h, left-refused h f)
 
   -- the buffer of an accepted call
   pub left-accepted : decodeReport m k a (length old) ≡ accepted → decodeLeft m k a old ≡ runOf m k a ++ drop k old
   unfolding decodeLeft
   left-accepted h = rw h
+
+  pub written : {new : List ℕ} → decodeReport m k a (length old) ≡ accepted → new ≡ runOf m k a ++ drop k old → (accepted ≡ decodeReport m k a (length old)) × (new ≡ decodeLeft m k a old)
+  written h e = (sym h, e ∙ sym (left-accepted h))
 
 -- ---- accepted: the model is well formed, the bound is at most 64, the run buffer has room for k bytes, and the assignment satisfies the list for k
 abbrev numbered : Refusal → ℕ

@@ -14,8 +14,8 @@ use Rattle.model.specs.Refusal.{Refusal, refusal, accepted}
 use Rattle.list.specs.Clauses.{clauses}
 use Rattle.list.specs.Assignments.{placeOfTrue, firstFalse, runOf}
 use Rattle.encode.specs.EncodeCall.{isAccepted}
-use Rattle.decode.specs.declared.WrongByte.{WrongByte}
-use Rattle.decode.specs.declared.WrongByte.the-variants.{At, Nothing}
+use Rattle.decode.specs.declared.DecodeAnswer.{DecodeAnswer}
+use Rattle.decode.specs.declared.DecodeAnswer.the-variants.{Written, NotWellFormed, BoundTooLarge, WrongLength, WrongByte, RunBufferTooShort, FalseClause}
 
 -- The index of the first byte that is not 0 or 1 (refusal 24), where the bytes are counted from i.
 unfoldable pub firstWrongByte : ℕ → List ℕ → Option ℕ
@@ -35,10 +35,15 @@ decodeReport m k a room =
 unfoldable pub decodeLeft : Model → ℕ → List ℕ → List ℕ → List ℕ
 decodeLeft m k a old = cond (isAccepted (decodeReport m k a (length old))) (runOf m k a ++ drop k old) old
 
--- What the search for a wrong byte tells.
-abbrev pub wrongTold : WrongByte → Option ℕ
-wrongTold Nothing = none
-wrongTold (At i) = some i
+-- The number and the place of each case of the answer.
+abbrev pub decodeTold : DecodeAnswer → Refusal
+decodeTold Written = accepted
+decodeTold NotWellFormed = refusal 20 0
+decodeTold BoundTooLarge = refusal 21 0
+decodeTold WrongLength = refusal 23 0
+decodeTold (WrongByte i) = refusal 24 i
+decodeTold RunBufferTooShort = refusal 25 0
+decodeTold (FalseClause i) = refusal 26 i
 
 -- r is the place of the true member of the group of n members at b, or n where there is none.
 pub record Place (a : List ℕ) (b n r : ℕ) : Type 0 where

@@ -1,5 +1,8 @@
 // Assignment to run: the run of a satisfying assignment, written into a lent buffer.
+use form::well_formed;
 use model::Model;
+use search::Found;
+use search::first_false;
 ghost use mathlib.Core.Path.{_≡_};
 ghost use mathlib.Core.List.{_++_};
 ghost use Prim.Native.Nat.{_+_, _≤_};
@@ -7,25 +10,61 @@ ghost use lib.Dec.{T};
 ghost use lib.ListN.{length, drop};
 ghost use Rattle.model.specs.Automaton.{variables};
 ghost use Rattle.model.specs.Form.{wellFormed};
-ghost use Rattle.list.specs.Assignments.{placeOfTrue, runOf};
-ghost use Rattle.decode.specs.DecodeCall.{firstWrongByte, wrongTold, Place};
+ghost use Rattle.list.specs.Assignments.{runOf};
+ghost use Rattle.search.specs.Answer.{found};
+ghost use Rattle.decode.specs.DecodeCall.{firstWrongByte, Place, decodeTold, decodeReport, decodeLeft};
 
-// The index of the first byte that is not 0 or 1.
-pub enum WrongByte {
-    At(usize),
-    Nothing,
+// What became of an assignment that is to be decoded.
+pub enum DecodeAnswer {
+    Written,
+    NotWellFormed,
+    BoundTooLarge,
+    WrongLength,
+    WrongByte { index: usize },
+    RunBufferTooShort,
+    FalseClause { index: usize },
+}
+
+impl DecodeAnswer {
+    pub fn number(self) -> u8
+        ensures { λ r. ⌜ r ≡ decodeTold self .number ⌝ }
+    {
+        match self {
+            DecodeAnswer::Written => 0,
+            DecodeAnswer::NotWellFormed => 20,
+            DecodeAnswer::BoundTooLarge => 21,
+            DecodeAnswer::WrongLength => 23,
+            DecodeAnswer::WrongByte { index: _ } => 24,
+            DecodeAnswer::RunBufferTooShort => 25,
+            DecodeAnswer::FalseClause { index: _ } => 26,
+        }
+    }
+
+    pub fn place(self) -> usize
+        ensures { λ r. ⌜ r ≡ decodeTold self .place ⌝ }
+    {
+        match self {
+            DecodeAnswer::Written => 0,
+            DecodeAnswer::NotWellFormed => 0,
+            DecodeAnswer::BoundTooLarge => 0,
+            DecodeAnswer::WrongLength => 0,
+            DecodeAnswer::WrongByte { index } => index,
+            DecodeAnswer::RunBufferTooShort => 0,
+            DecodeAnswer::FalseClause { index } => index,
+        }
+    }
 }
 
 // The first byte of `a` that is not 0 or 1.
-fn first_wrong_byte(a: &[u8]) -> WrongByte
-    ensures { λ r. ⌜ wrongTold r ≡ firstWrongByte 0 (now (a .entry)) ⌝ }
+fn first_wrong_byte(a: &[u8]) -> Found
+    ensures { λ r. ⌜ found r ≡ firstWrongByte 0 (now (a .entry)) ⌝ }
 {
     for i in 0..a.len() {
         if 1 < a[i] {
-            return WrongByte::At(i);
+            return Found::At(i);
         }
     }
-    WrongByte::Nothing
+    Found::Nothing
 }
 
 // The place of the true member of the group of `n` members at `b`.
@@ -52,4 +91,33 @@ fn put_run(m: Model, bound: usize, a: &[u8], run: &mut [u8])
         run[t] = place_of_true(a, b, z.choices) as u8;
         b += z.choices + z.state;
     }
+}
+
+// Assignment to run: 20, 21, 23, 24, 25, 26.
+pub fn assignment_to_run(m: Model, bound: usize, a: &[u8], run: &mut [u8]) -> DecodeAnswer
+    ensures { λ r. ⌜ decodeTold r ≡ decodeReport m bound (now (a .entry)) (length (now (run .entry))) ⌝ }
+    ensures { λ r. ⌜ now (run .exit) ≡ decodeLeft m bound (now (a .entry)) (now (run .entry)) ⌝ }
+{
+    if !well_formed(m) {
+        return DecodeAnswer::NotWellFormed;
+    }
+    if Model::STEPS < bound {
+        return DecodeAnswer::BoundTooLarge;
+    }
+    if a.len() != m.variables(bound as u8) {
+        return DecodeAnswer::WrongLength;
+    }
+    let wrong = first_wrong_byte(a);
+    if let Found::At(index) = wrong {
+        return DecodeAnswer::WrongByte { index };
+    }
+    if run.len() < bound {
+        return DecodeAnswer::RunBufferTooShort;
+    }
+    let failing = first_false(m, bound, a);
+    if let Found::At(index) = failing {
+        return DecodeAnswer::FalseClause { index };
+    }
+    put_run(m, bound, a, run);
+    DecodeAnswer::Written
 }

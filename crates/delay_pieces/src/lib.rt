@@ -1,8 +1,9 @@
-// Writers of a step's choice group and of its delays. `o` is where the state block before begins, variables counted from 0.
+// Writers of a step's choice group and of its delays. `b` says where the step's blocks begin, variables counted from 0.
 use component_rules::put_kept_counter;
 use component_rules::put_raised_clock;
 use model::Model;
 use model::Sizes;
+use numbering::Blocks;
 use rules::put_kept;
 use words::put_group;
 ghost use Prim.Native.Nat.{ℕ, _+_, _<_, _≤_};
@@ -13,15 +14,16 @@ ghost use Rattle.model.specs.Bounds.{KnownSizes};
 ghost use Rattle.model.specs.Form.{wellFormed};
 ghost use Rattle.list.specs.Items.{choiceItems, delayItems, delaysItems};
 ghost use Rattle.list.specs.Clauses.{oneHotWidth, clausesOf};
+ghost use Rattle.numbering.specs.StepBlocks.{BlocksOf};
 ghost use Rattle.words.specs.Written.{Room, Wrote};
 ghost use Rattle.component_rules.specs.ComponentRules.{keptCounter, raisedClock};
 
 // The group clauses of the choice.
-pub fn put_choice(m: Model, z: Sizes, o: usize, out: &mut [i32], at: usize) -> usize
-    requires { ⌜ T (wellFormed m) × KnownSizes m z × (o ≤ 30000) × Room (clausesOf (choiceItems oneHotWidth m o)) (now out) at ⌝ }
-    ensures { λ r. ⌜ Wrote (clausesOf (choiceItems oneHotWidth m o)) (now (out .entry)) (now (out .exit)) at r ⌝ }
+pub fn put_choice(m: Model, z: Sizes, b: Blocks, out: &mut [i32], at: usize) -> usize
+    requires { ⌜ T (wellFormed m) × KnownSizes m z × BlocksOf m b × Room (clausesOf (choiceItems oneHotWidth m (b .state))) (now out) at ⌝ }
+    ensures { λ r. ⌜ Wrote (clausesOf (choiceItems oneHotWidth m (b .state))) (now (out .entry)) (now (out .exit)) at r ⌝ }
 {
-    put_group(o + z.state, z.choices, out, at)
+    put_group(b.choice, z.choices, out, at)
 }
 
 // Each counter is kept under `x`.
@@ -58,25 +60,26 @@ fn put_raised_clocks(
 }
 
 // Delay `d`: each member of the state before in block order: not delay, not member, its successor in the state after.
-pub fn put_delay(m: Model, z: Sizes, o: usize, d: usize, out: &mut [i32], at: usize) -> usize
-    requires { ⌜ T (wellFormed m) × KnownSizes m z × (o ≤ 30000) × (d ≤ ceiling m) × Room (clausesOf (delayItems oneHotWidth m o d)) (now out) at ⌝ }
-    ensures { λ r. ⌜ Wrote (clausesOf (delayItems oneHotWidth m o d)) (now (out .entry)) (now (out .exit)) at r ⌝ }
+pub fn put_delay(m: Model, z: Sizes, b: Blocks, d: usize, out: &mut [i32], at: usize) -> usize
+    requires { ⌜ T (wellFormed m) × KnownSizes m z × BlocksOf m b × (d ≤ ceiling m) × Room (clausesOf (delayItems oneHotWidth m (b .state) d)) (now out) at ⌝ }
+    ensures { λ r. ⌜ Wrote (clausesOf (delayItems oneHotWidth m (b .state) d)) (now (out .entry)) (now (out .exit)) at r ⌝ }
 {
-    let x = o + z.state + d;
-    let next = o + z.state + z.choices;
+    let x = b.choice + d;
+    let o = b.state;
+    let next = b.next;
     let counters = put_kept(x, o, next, m.locations as usize, out, at);
     let clocks = put_kept_counters(m, x, o, next, out, counters);
     put_raised_clocks(m, z, x, o, next, d, out, clocks)
 }
 
 // Each delay, 0 to the ceiling.
-pub fn put_delays(m: Model, z: Sizes, o: usize, out: &mut [i32], at: usize) -> usize
-    requires { ⌜ T (wellFormed m) × KnownSizes m z × (o ≤ 30000) × Room (clausesOf (delaysItems oneHotWidth m o)) (now out) at ⌝ }
-    ensures { λ r. ⌜ Wrote (clausesOf (delaysItems oneHotWidth m o)) (now (out .entry)) (now (out .exit)) at r ⌝ }
+pub fn put_delays(m: Model, z: Sizes, b: Blocks, out: &mut [i32], at: usize) -> usize
+    requires { ⌜ T (wellFormed m) × KnownSizes m z × BlocksOf m b × Room (clausesOf (delaysItems oneHotWidth m (b .state))) (now out) at ⌝ }
+    ensures { λ r. ⌜ Wrote (clausesOf (delaysItems oneHotWidth m (b .state))) (now (out .entry)) (now (out .exit)) at r ⌝ }
 {
     let mut end = at;
     for d in 0..z.ceiling + 1 {
-        end = put_delay(m, z, o, d, out, end);
+        end = put_delay(m, z, b, d, out, end);
     }
     end
 }

@@ -1,7 +1,7 @@
 -- The parts of an edge's clauses are those of the list's items.
 use mathlib.Core.Path.{_≡_, sym, ap, ap₂, _∙_}
 use mathlib.Core.List.{List, [], _∷_, _++_}
-use mathlib.Core.Option.{Option, some}
+use mathlib.Core.Option.{some}
 use Prim.Native.Nat.{ℕ, _+_}
 use native.Mathlib.Omega.{arith}
 use lib.IntN.{ℤ}
@@ -23,7 +23,8 @@ use Rattle.list.proofs.ListLaws.{each-cong}
 use Rattle.list.proofs.Pieces.{edge-piece, source-piece, target-piece, updates-piece, resets-piece, leads-piece, puts-piece}
 use Rattle.numbering.specs.declared.Group.{Group}
 use Rattle.numbering.specs.Groups.{GroupOf}
-use Rattle.numbering.proofs.NumberingLaws.{width-is, next-is}
+use Rattle.numbering.specs.declared.Blocks.{Blocks}
+use Rattle.numbering.specs.StepBlocks.{BlocksOf}
 use Rattle.rules.specs.Rules.{led, putting}
 use Rattle.state_pieces.specs.StateClauses.{slotClauses}
 use Rattle.state_pieces.proofs.StateLaws.{atoms-are}
@@ -86,12 +87,13 @@ module _ (m : Model) (o c : ℕ) where
     parts-are : clausesOf (edgeItems oneHotWidth m o c e) ≡ edgeClauses m X o N e
     parts-are = edge-piece m o c e ∙ rw (source-is, target-is, guard-is, updates-are, resets-are)
 
-    -- in terms of the numbers that the code computes
-    pub edge-is : (z : Sizes) → KnownSizes m z
-        → clausesOf (edgeItems oneHotWidth m o c e) ≡ edgeClauses m (o + z .state + c) o (o + z .state + z .choices) e
-    edge-is z k =
-        let q : X ≡ o + z .state + c = ap (λ (s : ℕ). o + s + c) (sym (width-is m z k)) in
-        parts-are ∙ ap₂ (λ (x n : ℕ). edgeClauses m x o n e) q (sym (next-is m z k o))
+-- in terms of the numbers that the code has
+pub edge-is : (m : Model) (b : Blocks) → BlocksOf m b → (c : ℕ) (e : Edge)
+    → clausesOf (edgeItems oneHotWidth m (b .state) c e) ≡ edgeClauses m (b .choice + c) (b .state) (b .next) e
+edge-is m b h c e =
+    let o = b .state in
+    let q : o + stateWidth oneHotWidth m + c ≡ b .choice + c = ap (λ (s : ℕ). s + c) (sym (h .choice-is)) in
+    parts-are m o c e ∙ ap₂ (λ (x n : ℕ). edgeClauses m x o n e) q (sym (h .next-is))
 
 -- ---- by the groups that the code answers
 module _ (m : Model) (x o next i : ℕ) (g : Group) (h : GroupOf m (counter i) g) where

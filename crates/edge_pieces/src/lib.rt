@@ -8,9 +8,10 @@ use model::Model;
 use model::Sizes;
 use model::Update;
 use model::updates::in_range;
+use numbering::Blocks;
 use numbering::clock_group;
 use numbering::counter_group;
-use rules::put_putting;
+use rules::put_new_value;
 use rules::put_shifted;
 use state_pieces::put_atoms;
 use words::put_implication;
@@ -26,6 +27,7 @@ ghost use Rattle.model.specs.Form.{wellFormed};
 ghost use Rattle.model.proofs.FormLaws.{DeclaredUpdate, WellFormedEdge};
 ghost use Rattle.list.specs.Items.{edgeItems, edgesItems};
 ghost use Rattle.list.specs.Clauses.{oneHotWidth, clausesOf};
+ghost use Rattle.numbering.specs.StepBlocks.{BlocksOf};
 ghost use Rattle.words.specs.Written.{Room, Wrote};
 ghost use Rattle.edge_pieces.specs.EdgeClauses.{updateClauses, updateSlot, resetClauses, resetSlot};
 
@@ -46,7 +48,7 @@ fn put_constant(
     let g = counter_group(m, i);
     let counters = m.counters;
     let c = counters[i];
-    put_putting(x, next + g.place, in_range(n as u16, c.greatest), out, at)
+    put_new_value(x, next + g.place, in_range(n as u16, c.greatest), out, at)
 }
 
 // Counter `i` is set to counter `source` plus `offset`: each value of the source: not edge, not value before, result after; without the last
@@ -175,17 +177,18 @@ fn put_resets(
 pub fn put_edge(
     m: Model,
     z: Sizes,
-    o: usize,
+    b: Blocks,
     c: usize,
     e: Edge,
     out: &mut [i32],
     at: usize,
 ) -> usize
-    requires { ⌜ T (wellFormed m) × KnownSizes m z × (o ≤ 30000) × (c < choices m) × WellFormedEdge m e × Room (clausesOf (edgeItems oneHotWidth m o c e)) (now out) at ⌝ }
-    ensures { λ r. ⌜ Wrote (clausesOf (edgeItems oneHotWidth m o c e)) (now (out .entry)) (now (out .exit)) at r ⌝ }
+    requires { ⌜ T (wellFormed m) × KnownSizes m z × BlocksOf m b × (c < choices m) × WellFormedEdge m e × Room (clausesOf (edgeItems oneHotWidth m (b .state) c e)) (now out) at ⌝ }
+    ensures { λ r. ⌜ Wrote (clausesOf (edgeItems oneHotWidth m (b .state) c e)) (now (out .entry)) (now (out .exit)) at r ⌝ }
 {
-    let x = o + z.state + c;
-    let next = o + z.state + z.choices;
+    let x = b.choice + c;
+    let o = b.state;
+    let next = b.next;
     let target = put_implication(x, o + e.source as usize, out, at);
     let guarded = put_implication(x, next + e.target as usize, out, target);
     let guard = e.guard;
@@ -195,15 +198,15 @@ pub fn put_edge(
 }
 
 // Each edge; edge e is choice M + 1 + e.
-pub fn put_edges(m: Model, z: Sizes, o: usize, out: &mut [i32], at: usize) -> usize
-    requires { ⌜ T (wellFormed m) × KnownSizes m z × (o ≤ 30000) × Room (clausesOf (edgesItems oneHotWidth m o)) (now out) at ⌝ }
-    ensures { λ r. ⌜ Wrote (clausesOf (edgesItems oneHotWidth m o)) (now (out .entry)) (now (out .exit)) at r ⌝ }
+pub fn put_edges(m: Model, z: Sizes, b: Blocks, out: &mut [i32], at: usize) -> usize
+    requires { ⌜ T (wellFormed m) × KnownSizes m z × BlocksOf m b × Room (clausesOf (edgesItems oneHotWidth m (b .state))) (now out) at ⌝ }
+    ensures { λ r. ⌜ Wrote (clausesOf (edgesItems oneHotWidth m (b .state))) (now (out .entry)) (now (out .exit)) at r ⌝ }
 {
     let first = z.ceiling + 1;
     let mut end = at;
     for e in 0..m.used as usize {
         let edge = m.edges[e];
-        end = put_edge(m, z, o, first + e, edge, out, end);
+        end = put_edge(m, z, b, first + e, edge, out, end);
     }
     end
 }

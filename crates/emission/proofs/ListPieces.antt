@@ -4,9 +4,11 @@ use mathlib.Core.List.{List, [], _∷_, _++_}
 use Prim.Native.Nat.{ℕ, _+_}
 use native.Mathlib.Omega.{arith}
 use Rattle.model.specs.declared.Model.{Model}
-use Rattle.list.specs.Items.{blockAt, nextBlock, stateItems, stepItems, choiceItems, delaysItems, edgesItems, endItems}
+use Rattle.list.specs.Items.{blockAt, stateItems, stepItems, choiceItems, delaysItems, edgesItems, endItems}
 use Rattle.list.specs.Clauses.{Clause, bare, one, oneHotWidth, clausesOf}
-use Rattle.list.proofs.Pieces.{step-piece, end-piece, next-block}
+use Rattle.list.proofs.Pieces.{step-piece, end-piece}
+use Rattle.numbering.specs.declared.Blocks.{Blocks}
+use Rattle.numbering.specs.StepBlocks.{BlocksOf}
 
 -- step t + 1
 abbrev pub stepPiece : Model → ℕ → List Clause
@@ -18,11 +20,11 @@ stepClauses m o next =
     clausesOf (choiceItems oneHotWidth m o) ++ clausesOf (delaysItems oneHotWidth m o) ++ clausesOf (edgesItems oneHotWidth m o) ++ clausesOf
     (stateItems oneHotWidth m next)
 
-pub step-is : (m : Model) (t o next : ℕ) → o ≡ blockAt oneHotWidth m t → next ≡ blockAt oneHotWidth m (t + 1) → stepPiece m t ≡ stepClauses m o next
-step-is m t o next e f =
-    step-piece m (blockAt oneHotWidth m t) ∙
-    ap (λ (n : ℕ). stepClauses m (blockAt oneHotWidth m t) n) (next-block m t ∙ sym f) ∙
-    ap (λ (b : ℕ). stepClauses m b next) (sym e)
+pub step-is : (m : Model) (t : ℕ) (b : Blocks) → b .state ≡ blockAt oneHotWidth m t → BlocksOf m b → stepPiece m t ≡ stepClauses m (b .state) (b .next)
+step-is m t b e h =
+    ap (λ (o : ℕ). clausesOf (stepItems oneHotWidth m o)) (sym e) ∙
+    step-piece m (b .state) ∙
+    ap (λ (n : ℕ). stepClauses m (b .state) n) (sym (h .next-is))
 
 pub end-is : (m : Model) (k o : ℕ) → o ≡ blockAt oneHotWidth m k → clausesOf (endItems oneHotWidth m k) ≡ one (bare (o + m .target) ∷ [])
 end-is m k o e =

@@ -7,6 +7,7 @@ use form::well_formed;
 use model::Model;
 use model::Sizes;
 use numbering::block_start;
+use numbering::step_blocks;
 use start_pieces::put_initial;
 use state_pieces::put_state;
 use words::put_unit;
@@ -50,12 +51,11 @@ fn put_step(m: Model, z: Sizes, t: usize, out: &mut [i32]) -> usize
     requires { ⌜ T (wellFormed m) × KnownSizes m z × (t < 64) × Room (clausesOf (stepItems oneHotWidth m (blockAt oneHotWidth m t))) (now out) 0 ⌝ }
     ensures { λ r. ⌜ Wrote (clausesOf (stepItems oneHotWidth m (blockAt oneHotWidth m t))) (now (out .entry)) (now (out .exit)) 0 r ⌝ }
 {
-    let o = block_start(m, z, t);
-    let next = block_start(m, z, t + 1);
-    let delays = put_choice(m, z, o, out, 0);
-    let edges = put_delays(m, z, o, out, delays);
-    let state = put_edges(m, z, o, out, edges);
-    put_state(m, z, next, out, state)
+    let b = step_blocks(m, z, t);
+    let delays = put_choice(m, z, b, out, 0);
+    let edges = put_delays(m, z, b, out, delays);
+    let state = put_edges(m, z, b, out, edges);
+    put_state(m, z, b.next, out, state)
 }
 
 // End: the target location in state `k`.

@@ -1,6 +1,6 @@
 -- The number of a solver variable in terms of the list's blocks, and bounds of what a well-formed record's blocks hold.
 use mathlib.Core.Path.{_≡_, refl, sym, ap₂, _∙_}
-use Prim.Native.Nat.{ℕ, _+_, _*_, _≤_, _<_}
+use Prim.Native.Nat.{ℕ, _+_, _*_, _≤_}
 use native.Mathlib.Nat.{mul-le-mul}
 use native.Mathlib.Omega.{arith}
 use lib.Dec.{T}
@@ -8,7 +8,6 @@ use Rattle.model.specs.Form.{wellFormed}
 use Rattle.model.specs.declared.Model.{Model}
 use Rattle.model.specs.declared.Sizes.{Sizes}
 use Rattle.model.specs.Bounds.{KnownSizes}
-use Rattle.model.specs.Indexed.{sumBelow}
 use Rattle.model.specs.Automaton.{Component, loc, counter, clock, Declared, groupSize, ceiling, stateSize, choices}
 use Rattle.model.proofs.IndexedLaws.{sum-mono}
 use Rattle.model.proofs.FormLaws.{WellFormed, formed, stateSize-is, stateSize-le, choices-le, state-of-sizes, choices-of-sizes}
@@ -64,16 +63,10 @@ module _ (m : Model) where
       omega (arith, block-at t, mul-le-mul h w)
 
 -- ---- by the sizes that the code answers
--- S and H at most, of a well-formed record
-pub state-most : (m : Model) (z : Sizes) → T (wellFormed m) → KnownSizes m z → z .state ≤ 272
-state-most m z ok k = omega (arith, state-of-sizes m z k, stateSize-le m (formed m ok))
-
+-- H at most, of a well-formed record
 pub choices-most : (m : Model) (z : Sizes) → T (wellFormed m) → KnownSizes m z → z .choices ≤ 64
 choices-most m z ok k = omega (arith, choices-of-sizes m z k, choices-le m (formed m ok))
 
 module _ (m : Model) (z : Sizes) (k : KnownSizes m z) where
   pub width-is : z .state ≡ stateWidth oneHotWidth m
   width-is = state-of-sizes m z k ∙ sym (state-width m)
-
-  pub next-is : (o : ℕ) → o + z .state + z .choices ≡ nextBlock oneHotWidth m o
-  next-is o = ap₂ (λ (s h : ℕ). o + s + h) width-is (choices-of-sizes m z k)

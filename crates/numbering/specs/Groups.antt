@@ -1,6 +1,6 @@
 -- Where the group of a component stands in its state block.
 use mathlib.Core.Path.{_≡_}
-use Prim.Native.Nat.{ℕ, _+_, _≤_}
+use Prim.Native.Nat.{_+_, _≤_}
 use Rattle.model.specs.declared.Model.{Model}
 use Rattle.model.specs.Automaton.{Component, groupSize}
 use Rattle.list.specs.Items.{offset}

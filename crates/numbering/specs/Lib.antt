@@ -1,2 +1,3 @@
 pub mod Numbering
 pub mod Groups
+pub mod StepBlocks

@@ -139,7 +139,7 @@ pub fn put_shifted(
 }
 
 // Not `x`, the new value in the group at `after`; or not `x` alone, where it is out of range.
-pub fn put_putting(x: usize, after: usize, new: NewValue, out: &mut [i32], at: usize) -> usize
+pub fn put_new_value(x: usize, after: usize, new: NewValue, out: &mut [i32], at: usize) -> usize
     requires { ⌜ (x ≤ 90000) × (after ≤ 80000) × Room (putting x after (answered new)) (now out) at ⌝ }
     ensures { λ r. ⌜ Wrote (putting x after (answered new)) (now (out .entry)) (now (out .exit)) at r ⌝ }
 {

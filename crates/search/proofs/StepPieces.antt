@@ -17,8 +17,8 @@ use Rattle.truth.specs.Parts.{valueClauses, partClauses}
 use Rattle.truth.proofs.Scans.{Passed, Failed, passed-then, failed-then, failed-more, passed-each, failed-each, passed-as, failed-as}
 use Rattle.parts.specs.declared.Blocks.{Blocks}
 use Rattle.parts.specs.PartsOf.{edgePart}
-use Rattle.search.specs.Pieces.{Known, frontPiece, edgePiece, edgeClauses, stepClauses}
-use Rattle.search.proofs.KnownLaws.{wf, known-state, known-choices, front-piece-of, edge-piece-of, step-room}
+use Rattle.checks.specs.Pieces.{Known, frontPiece, edgePiece, edgeClauses, stepClauses}
+use Rattle.checks.proofs.KnownLaws.{wf, known-state, known-choices, front-piece-of, edge-piece-of, step-room}
 
 module _ {m : Model} {b : Blocks} (k : Known m b) where
   abbrev statePiece : ℕ → List Clause

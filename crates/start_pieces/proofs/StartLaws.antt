@@ -1,13 +1,13 @@
 -- The clauses of the initial values, by the groups that the code answers.
-use mathlib.Core.Path.{_≡_, sym, ap, _∙_}
-use mathlib.Core.List.{List, [], _∷_, _++_}
+use mathlib.Core.Path.{_≡_, ap, _∙_}
+use mathlib.Core.List.{[], _∷_, _++_}
 use Prim.Native.Nat.{ℕ, _+_}
 use native.Mathlib.Omega.{arith}
 use Rattle.model.specs.declared.Model.{Model}
 use Rattle.model.specs.Indexed.{each}
-use Rattle.model.specs.Automaton.{Component, loc, initialValue}
+use Rattle.model.specs.Automaton.{Component, initialValue}
 use Rattle.list.specs.Items.{offset, initialItems}
-use Rattle.list.specs.Clauses.{Clause, bare, one, oneHotWidth, clausesOf}
+use Rattle.list.specs.Clauses.{bare, one, oneHotWidth, clausesOf}
 use Rattle.list.proofs.Pieces.{initial-piece}
 use Rattle.numbering.specs.declared.Group.{Group}
 use Rattle.numbering.specs.Groups.{GroupOf}

@@ -12,7 +12,7 @@ use Rattle.model.specs.Indexed.{each}
 use Rattle.model.specs.Record.{atomAt, invariantAt}
 use Rattle.model.specs.Automaton.{Component, loc, clock, counter, groupSize}
 use Rattle.list.specs.Items.{Member, offset, stateMember, groupItems, excludeFailing, excludeAllFailing}
-use Rattle.list.specs.Clauses.{Clause, oneHotWidth, variableOf, groupClauses, expand, clausesOf}
+use Rattle.list.specs.Clauses.{oneHotWidth, variableOf, groupClauses, expand, clausesOf}
 use Rattle.list.proofs.ListLaws.{flat-none, each-cong}
 use Rattle.list.proofs.Pieces.{groups-piece, atoms-piece, values-piece}
 use Rattle.numbering.specs.declared.Group.{Group}

@@ -1,12 +1,12 @@
 -- The words of a group's clauses.
 use mathlib.Core.Path.{_≡_, refl, ap, _∙_}
 use mathlib.Core.List.{List, [], _∷_, _++_, map, append-nil, map-append}
-use Prim.Native.Nat.{ℕ, zero, suc, _+_, _≤_, _<_}
+use Prim.Native.Nat.{ℕ, zero, suc, _+_}
 use native.Mathlib.Omega.{arith}
 use lib.IntN.{ℤ, pos}
 use lib.ListN.{length, length-append, length-map}
 use Rattle.model.specs.Indexed.{each}
-use Rattle.model.proofs.IndexedLaws.{each-zero, each-suc}
+use Rattle.model.proofs.IndexedLaws.{each-zero}
 use Rattle.list.specs.Clauses.{Literal, bare, Clause, word, clauseWords, wordsOf, one, members}
 use Rattle.list.proofs.ListLaws.{each-more}
 use Rattle.words.specs.Written.{sizeOf, Wrote}

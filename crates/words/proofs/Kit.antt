@@ -29,10 +29,6 @@ pub size-append : (cs ds : List Clause) → sizeOf (cs ++ ds) ≡ sizeOf cs + si
 unfolding sizeOf
 size-append cs ds = ap length (words-append cs ds) ∙ length-append (wordsOf cs) (wordsOf ds)
 
-pub size-is : (cs : List Clause) → sizeOf cs ≡ length (wordsOf cs)
-unfolding sizeOf
-size-is cs = refl
-
 pub size-1 : (p : Literal) → sizeOf (one (p ∷ [])) ≡ 2
 unfolding sizeOf wordsOf clauseWords one
 size-1 p = refl

@@ -6,32 +6,22 @@ use mathlib.Core.Option.{some}
 use borrow.Author.Needs.{needs}
 use Rattle.component_rules.proofs.put_kept_clock.Statement.{statement}
 use Rattle.component_rules.proofs.put_kept_clock.Tie as tie
-use Rattle.component_rules.proofs.put_kept_clock.Reads as reads
-use Rattle.component_rules.proofs.put_kept_clock.Lts as lts
-use Rattle.numbering.proofs.clock_group.Reads as clock-group-reads
-use Rattle.rules.proofs.put_kept.Reads as put-kept-reads
 
--- src/lib.rt:46:9
 clock-group-requires : tie.Need-clock-group-requires
 clock-group-requires c κs = search needs
 
--- src/lib.rt:47:17
 add-put-kept : tie.Need-add-put-kept
 add-put-kept c = search needs
 
--- src/lib.rt:47:30
 add-put-kept-2 : tie.Need-add-put-kept-2
 add-put-kept-2 c = search needs
 
--- src/lib.rt:47:5
 put-kept-requires : tie.Need-put-kept-requires
 put-kept-requires c κs = let a = c .before .before .before .before .args in (omega arith, omega arith, omega arith, omega arith, room-as (led-in (a .m) (a .x) (a .o) (a .next) some (clock (a .i)) _ (c .before .before .before .clock-group .ensures)) (c .before .before .before .before .pre .6))
 
--- src/lib.rt:33:1
 same-length : tie.Need-same-length
 same-length c = search needs
 
--- src/lib.rt:33:1
 returns : tie.Need-returns
 returns c = let a = c .before .before .before .before .before .before .args in wrote-as (led-in (a .m) (a .x) (a .o) (a .next) some (clock (a .i)) _ (c .before .before .before .before .before .clock-group .ensures)) (c .before .put-kept .ensures)
 

@@ -6,32 +6,22 @@ use mathlib.Core.Option.{some}
 use borrow.Author.Needs.{needs}
 use Rattle.component_rules.proofs.put_kept_counter.Statement.{statement}
 use Rattle.component_rules.proofs.put_kept_counter.Tie as tie
-use Rattle.component_rules.proofs.put_kept_counter.Reads as reads
-use Rattle.component_rules.proofs.put_kept_counter.Lts as lts
-use Rattle.numbering.proofs.counter_group.Reads as counter-group-reads
-use Rattle.rules.proofs.put_kept.Reads as put-kept-reads
 
--- src/lib.rt:28:9
 counter-group-requires : tie.Need-counter-group-requires
 counter-group-requires c κs = search needs
 
--- src/lib.rt:29:17
 add-put-kept : tie.Need-add-put-kept
 add-put-kept c = search needs
 
--- src/lib.rt:29:30
 add-put-kept-2 : tie.Need-add-put-kept-2
 add-put-kept-2 c = search needs
 
--- src/lib.rt:29:5
 put-kept-requires : tie.Need-put-kept-requires
 put-kept-requires c κs = let a = c .before .before .before .before .args in (omega arith, omega arith, omega arith, omega arith, room-as (led-in (a .m) (a .x) (a .o) (a .next) some (counter (a .i)) _ (c .before .before .before .counter-group .ensures)) (c .before .before .before .before .pre .5))
 
--- src/lib.rt:16:1
 same-length : tie.Need-same-length
 same-length c = search needs
 
--- src/lib.rt:16:1
 returns : tie.Need-returns
 returns c = let a = c .before .before .before .before .before .before .args in wrote-as (led-in (a .m) (a .x) (a .o) (a .next) some (counter (a .i)) _ (c .before .before .before .before .before .counter-group .ensures)) (c .before .put-kept .ensures)
 

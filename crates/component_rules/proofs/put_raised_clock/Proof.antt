@@ -5,32 +5,22 @@ use Rattle.words.proofs.Kit.{wrote-as, room-as}
 use borrow.Author.Needs.{needs}
 use Rattle.component_rules.proofs.put_raised_clock.Statement.{statement}
 use Rattle.component_rules.proofs.put_raised_clock.Tie as tie
-use Rattle.component_rules.proofs.put_raised_clock.Reads as reads
-use Rattle.component_rules.proofs.put_raised_clock.Lts as lts
-use Rattle.numbering.proofs.clock_group.Reads as clock-group-reads
-use Rattle.rules.proofs.put_raised.Reads as put-raised-reads
 
--- src/lib.rt:65:9
 clock-group-requires : tie.Need-clock-group-requires
 clock-group-requires c κs = search needs
 
--- src/lib.rt:67:19
 add-put-raised : tie.Need-add-put-raised
 add-put-raised c = search needs
 
--- src/lib.rt:67:32
 add-put-raised-2 : tie.Need-add-put-raised-2
 add-put-raised-2 c = search needs
 
--- src/lib.rt:67:5
 put-raised-requires : tie.Need-put-raised-requires
 put-raised-requires c κs = let a = c .before .before .before .before .args in (omega arith, omega arith, omega arith, omega arith, omega arith, omega (arith, c .before .before .before .before .pre .1 .ceiling-most), room-as (raised-in (a .m) (a .x) (a .o) (a .next) (a .d) (a .i) _ (c .before .before .before .clock-group .ensures) _ (ceiling-of-sizes _ _ (c .before .before .before .before .pre .1))) (c .before .before .before .before .pre .7))
 
--- src/lib.rt:51:1
 same-length : tie.Need-same-length
 same-length c = search needs
 
--- src/lib.rt:51:1
 returns : tie.Need-returns
 returns c = let a = c .before .before .before .before .before .before .args in wrote-as (raised-in (a .m) (a .x) (a .o) (a .next) (a .d) (a .i) _ (c .before .before .before .before .before .clock-group .ensures) _ (ceiling-of-sizes _ _ (c .before .before .before .before .before .before .pre .1))) (c .before .put-raised .ensures)
 

@@ -11,49 +11,38 @@ use Prim.Native.Nat.{_+_, _-_, _≤_}
 use mathlib.Core.Path.{_≡_}
 use Rattle.delay_pieces.proofs.put_delays.Statement.{statement}
 use Rattle.delay_pieces.proofs.put_delays.Tie as tie
-use Rattle.delay_pieces.proofs.put_delays.Reads as reads
-use Rattle.delay_pieces.proofs.put_delays.Lts as lts
-use Rattle.delay_pieces.proofs.put_delay.Reads as put-delay-reads
 
 abbrev Inv-loop : tie.InvT-loop
-Inv-loop m z o out₀ at end₀ d₀ d-end out end d = (d ≤ d-end) × Wrote (each d (delayPiece m o)) out₀ out end₀ end
+Inv-loop m z b out₀ at end₀ d₀ d-end out end d = (d ≤ d-end) × Wrote (each d (delayPiece m (b .state))) out₀ out end₀ end
 
 abbrev μ-loop : tie.MeasureT-loop
-μ-loop m z o out₀ at end₀ d₀ d-end out end d = d-end - d
+μ-loop m z b out₀ at end₀ d₀ d-end out end d = d-end - d
 
--- src/lib.rt:85:17
 add-d-end : tie.Need-add-d-end Inv-loop μ-loop
 add-d-end c = search needs
 
--- src/lib.rt:85:5
 loop-holds : tie.Need-loop-holds Inv-loop μ-loop
 loop-holds c = (omega arith, wrote-each-none _ _ _ (omega (arith, c .before .pre .3 .room)))
 
--- src/lib.rt:86:9
 put-delay-requires : tie.Need-put-delay-requires Inv-loop μ-loop
-put-delay-requires c κs = (c .before .before .before .before .pre .0, c .before .before .before .before .pre .1, omega arith, omega (arith, ceiling-of-sizes _ _ (c .before .before .before .before .pre .1)), room-each _ _ (ceiling (c .before .before .before .before .args .m) + 1) (c .before .before .loop .inv .1) (omega (arith, ceiling-of-sizes _ _ (c .before .before .before .before .pre .1))) (room-as (delays-piece (c .before .before .before .before .args .m) (c .before .before .before .before .args .o)) (c .before .before .before .before .pre .3)))
+put-delay-requires c κs = (c .before .before .before .before .pre .0, c .before .before .before .before .pre .1, c .before .before .before .before .pre .2, omega (arith, ceiling-of-sizes _ _ (c .before .before .before .before .pre .1)), room-each _ _ (ceiling (c .before .before .before .before .args .m) + 1) (c .before .before .loop .inv .1) (omega (arith, ceiling-of-sizes _ _ (c .before .before .before .before .pre .1))) (room-as (delays-piece (c .before .before .before .before .args .m) (c .before .before .before .before .args .b .state)) (c .before .before .before .before .pre .3)))
 
--- src/lib.rt:85:9
 add-d : tie.Need-add-d Inv-loop μ-loop
 add-d c = search needs
 
--- src/lib.rt:85:5
 loop-less : tie.Need-loop-less Inv-loop μ-loop
 loop-less c = search needs
 
--- src/lib.rt:85:5
 loop-again : tie.Need-loop-again Inv-loop μ-loop
 loop-again c = (omega arith, wrote-each _ _ (c .before .before .before .before .loop .inv .1) (c .before .put-delay .ensures))
 
--- src/lib.rt:80:1
 same-length : tie.Need-same-length Inv-loop μ-loop
 same-length c = search needs
 
--- src/lib.rt:80:1
 returns : tie.Need-returns Inv-loop μ-loop
 returns c =
     let done : c .before .loop .d ≡ ceiling (c .before .before .before .args .m) + 1 = omega (arith, ceiling-of-sizes _ _ (c .before .before .before .pre .1)) in
-    wrote-as (delays-piece (c .before .before .before .args .m) (c .before .before .before .args .o)) (rw done at (c .before .loop .inv .1))
+    wrote-as (delays-piece (c .before .before .before .args .m) (c .before .before .before .args .b .state)) (rw done at (c .before .loop .inv .1))
 
 pub put-delays-spec : {M : Type 1} → statement M
 put-delays-spec =

@@ -8,9 +8,6 @@ use Prim.Native.Nat.{_-_, _≤_}
 use mathlib.Core.Path.{_≡_}
 use Rattle.delay_pieces.proofs.put_raised_clocks.Statement.{statement}
 use Rattle.delay_pieces.proofs.put_raised_clocks.Tie as tie
-use Rattle.delay_pieces.proofs.put_raised_clocks.Reads as reads
-use Rattle.delay_pieces.proofs.put_raised_clocks.Lts as lts
-use Rattle.component_rules.proofs.put_raised_clock.Reads as put-raised-clock-reads
 
 abbrev Inv-loop : tie.InvT-loop
 Inv-loop m z x o next d out₀ at end₀ i₀ i-end out end i = (i ≤ i-end) × Wrote (each i (raisedClock m x o next d)) out₀ out end₀ end
@@ -18,35 +15,27 @@ Inv-loop m z x o next d out₀ at end₀ i₀ i-end out end i = (i ≤ i-end) ×
 abbrev μ-loop : tie.MeasureT-loop
 μ-loop m z x o next d out₀ at end₀ i₀ i-end out end i = i-end - i
 
--- src/lib.rt:61:17
 cast-i-end : tie.Need-cast-i-end Inv-loop μ-loop
 cast-i-end c = search needs
 
--- src/lib.rt:61:5
 loop-holds : tie.Need-loop-holds Inv-loop μ-loop
 loop-holds c = (omega arith, wrote-each-none _ _ _ (omega (arith, c .before .pre .6 .room)))
 
--- src/lib.rt:62:9
 put-raised-clock-requires : tie.Need-put-raised-clock-requires Inv-loop μ-loop
 put-raised-clock-requires c κs = (c .before .before .before .before .pre .0, c .before .before .before .before .pre .1, omega arith, omega arith, omega arith, omega arith, omega arith, room-each _ _ _ (c .before .before .loop .inv .1) (c .before .loop-test .taken) (c .before .before .before .before .pre .6))
 
--- src/lib.rt:61:9
 add-i : tie.Need-add-i Inv-loop μ-loop
 add-i c = search needs
 
--- src/lib.rt:61:5
 loop-less : tie.Need-loop-less Inv-loop μ-loop
 loop-less c = search needs
 
--- src/lib.rt:61:5
 loop-again : tie.Need-loop-again Inv-loop μ-loop
 loop-again c = (omega arith, wrote-each _ _ (c .before .before .before .before .loop .inv .1) (c .before .put-raised-clock .ensures))
 
--- src/lib.rt:47:1
 same-length : tie.Need-same-length Inv-loop μ-loop
 same-length c = search needs
 
--- src/lib.rt:47:1
 returns : tie.Need-returns Inv-loop μ-loop
 returns c =
     let done : c .before .loop .i ≡ c .before .before .before .args .m .clocks = omega arith in

@@ -4,75 +4,56 @@ use Rattle.edge_pieces.proofs.EdgeLaws.{edgePiece, choice-is}
 use Rattle.words.proofs.Kit.{wrote-each, wrote-each-none, room-each, wrote-as, room-as}
 use Rattle.words.specs.Written.{Wrote}
 use Rattle.list.proofs.Pieces.{edges-piece}
-use Rattle.list.specs.Clauses.{oneHotWidth, clausesOf}
-use Rattle.list.specs.Items.{edgeItems}
 use Rattle.model.proofs.FormLaws.{formed, ceiling-of-sizes, choices-is}
-use Rattle.model.specs.Record.{edgeAt}
-use Rattle.model.specs.Automaton.{ceiling}
 use Rattle.model.specs.Indexed.{each}
-use Prim.Native.Nat.{ℕ, _+_, _-_, _≤_}
-use mathlib.Core.Path.{_≡_, sym, ap}
+use Prim.Native.Nat.{_-_, _≤_}
+use mathlib.Core.Path.{_≡_}
 use Rattle.edge_pieces.proofs.put_edges.Statement.{statement}
 use Rattle.edge_pieces.proofs.put_edges.Tie as tie
-use Rattle.edge_pieces.proofs.put_edges.Reads as reads
-use Rattle.edge_pieces.proofs.put_edges.Lts as lts
-use Rattle.edge_pieces.proofs.put_edge.Reads as put-edge-reads
 
 abbrev Inv-loop : tie.InvT-loop
-Inv-loop z o out₀ at m first end₀ e₀ e-end out end e = (e ≤ e-end) × Wrote (each e (edgePiece m o)) out₀ out end₀ end
+Inv-loop z b out₀ at m first end₀ e₀ e-end out end e = (e ≤ e-end) × Wrote (each e (edgePiece m (b .state))) out₀ out end₀ end
 
 abbrev μ-loop : tie.MeasureT-loop
-μ-loop z o out₀ at m first end₀ e₀ e-end out end e = e-end - e
+μ-loop z b out₀ at m first end₀ e₀ e-end out end e = e-end - e
 
--- src/lib.rt:185:17
 add-first : tie.Need-add-first Inv-loop μ-loop
 add-first c = search needs
 
--- src/lib.rt:187:17
 cast-e-end : tie.Need-cast-e-end Inv-loop μ-loop
 cast-e-end c = search needs
 
--- src/lib.rt:187:5
 loop-holds : tie.Need-loop-holds Inv-loop μ-loop
 loop-holds c = (omega arith, wrote-each-none _ _ _ (omega (arith, c .before .pre .3 .room)))
 
--- src/lib.rt:188:20
 mul-edge : tie.Need-mul-edge Inv-loop μ-loop
 mul-edge c = search needs
 
--- src/lib.rt:188:20
 element-copy-out-edge : tie.Need-element-copy-out-edge Inv-loop μ-loop
 element-copy-out-edge c = omega (arith, formed (c .before .before .before .args .t1) (c .before .before .before .pre .0) .used-le)
 
--- src/lib.rt:189:33
 add-put-edge : tie.Need-add-put-edge Inv-loop μ-loop
 add-put-edge c = omega (arith, c .before .before .before .before .pre .1 .ceiling-most, formed (c .before .before .before .before .args .t1) (c .before .before .before .before .pre .0) .used-le)
 
--- src/lib.rt:189:9
 put-edge-requires : tie.Need-put-edge-requires Inv-loop μ-loop
-put-edge-requires c κs = (c .before .before .before .before .before .pre .0, c .before .before .before .before .before .pre .1, omega arith, omega (arith, ceiling-of-sizes _ _ (c .before .before .before .before .before .pre .1), choices-is (c .before .before .before .before .before .args .t1)), formed (c .before .before .before .before .before .args .t1) (c .before .before .before .before .before .pre .0) .edge-ok (c .before .before .before .loop .e) (c .before .before .loop-test .taken), room-as (choice-is _ (c .before .before .before .before .before .args .o) (c .before .before .before .loop .e) _ (c .before .before .before .before .before .pre .1)) (room-each _ _ _ (c .before .before .before .loop .inv .1) (c .before .before .loop-test .taken) (room-as (edges-piece (c .before .before .before .before .before .args .t1) (c .before .before .before .before .before .args .o)) (c .before .before .before .before .before .pre .3))))
+put-edge-requires c κs = (c .before .before .before .before .before .pre .0, c .before .before .before .before .before .pre .1, c .before .before .before .before .before .pre .2, omega (arith, ceiling-of-sizes _ _ (c .before .before .before .before .before .pre .1), choices-is (c .before .before .before .before .before .args .t1)), formed (c .before .before .before .before .before .args .t1) (c .before .before .before .before .before .pre .0) .edge-ok (c .before .before .before .loop .e) (c .before .before .loop-test .taken), room-as (choice-is _ (c .before .before .before .before .before .args .b .state) (c .before .before .before .loop .e) _ (c .before .before .before .before .before .pre .1)) (room-each _ _ _ (c .before .before .before .loop .inv .1) (c .before .before .loop-test .taken) (room-as (edges-piece (c .before .before .before .before .before .args .t1) (c .before .before .before .before .before .args .b .state)) (c .before .before .before .before .before .pre .3))))
 
--- src/lib.rt:187:9
 add-e : tie.Need-add-e Inv-loop μ-loop
 add-e c = search needs
 
--- src/lib.rt:187:5
 loop-less : tie.Need-loop-less Inv-loop μ-loop
 loop-less c = search needs
 
--- src/lib.rt:187:5
 loop-again : tie.Need-loop-again Inv-loop μ-loop
-loop-again c = (omega arith, wrote-each _ _ (c .before .before .before .before .before .loop .inv .1) (wrote-as (choice-is _ (c .before .before .before .before .before .before .before .args .o) (c .before .before .before .before .before .loop .e) _ (c .before .before .before .before .before .before .before .pre .1)) (c .before .put-edge .ensures)))
+loop-again c = (omega arith, wrote-each _ _ (c .before .before .before .before .before .loop .inv .1) (wrote-as (choice-is _ (c .before .before .before .before .before .before .before .args .b .state) (c .before .before .before .before .before .loop .e) _ (c .before .before .before .before .before .before .before .pre .1)) (c .before .put-edge .ensures)))
 
--- src/lib.rt:181:1
 same-length : tie.Need-same-length Inv-loop μ-loop
 same-length c = search needs
 
--- src/lib.rt:181:1
 returns : tie.Need-returns Inv-loop μ-loop
 returns c =
     let done : c .before .loop .e ≡ c .before .before .before .args .t1 .used = omega arith in
-    wrote-as (edges-piece (c .before .before .before .args .t1) (c .before .before .before .args .o)) (rw done at (c .before .loop .inv .1))
+    wrote-as (edges-piece (c .before .before .before .args .t1) (c .before .before .before .args .b .state)) (rw done at (c .before .loop .inv .1))
 
 pub put-edges-spec : {M : Type 1} → statement M
 put-edges-spec =

@@ -6,49 +6,34 @@ use mathlib.Core.Path.{ap, _∙_}
 use borrow.Author.Needs.{needs}
 use Rattle.edge_pieces.proofs.put_reset.Statement.{statement}
 use Rattle.edge_pieces.proofs.put_reset.Tie as tie
-use Rattle.edge_pieces.proofs.put_reset.Reads as reads
-use Rattle.edge_pieces.proofs.put_reset.Lts as lts
-use Rattle.component_rules.proofs.put_kept_clock.Reads as put-kept-clock-reads
-use Rattle.numbering.proofs.clock_group.Reads as clock-group-reads
-use Rattle.words.proofs.put_implication.Reads as put-implication-reads
 
--- src/lib.rt:134:71
 enum-told : tie.Need-enum-told
 enum-told c = search needs
 
--- src/lib.rt:134:35
 put-kept-clock-requires : tie.Need-put-kept-clock-requires
 put-kept-clock-requires c κs = let a = c .before .before .before .args in (c .before .before .before .pre .0, c .before .before .before .pre .1, omega arith, omega arith, omega arith, omega arith, room-as (ap (resetClauses (a .m) (a .x) (a .o) (a .next) (a .i)) (c .before .enum-told .given .1)) (c .before .before .before .pre .6))
 
--- src/lib.rt:136:17
 enum-told-2 : tie.Need-enum-told-2
 enum-told-2 c = search needs
 
--- src/lib.rt:136:17
 clock-group-requires : tie.Need-clock-group-requires
 clock-group-requires c κs = search needs
 
--- src/lib.rt:137:32
 add-put-implication : tie.Need-add-put-implication
 add-put-implication c = search needs
 
--- src/lib.rt:137:13
 put-implication-requires : tie.Need-put-implication-requires
 put-implication-requires c κs = let a = c .before .before .before .before .before .args in (omega arith, omega arith, room-as (ap (resetClauses (a .m) (a .x) (a .o) (a .next) (a .i)) (c .before .before .before .enum-told2 .given .1) ∙ reset-in (a .m) (a .x) (a .o) (a .next) (a .i) _ (c .before .before .clock-group .ensures)) (c .before .before .before .before .before .pre .6))
 
--- src/lib.rt:119:1
 same-length : tie.Need-same-length
 same-length c = search needs
 
--- src/lib.rt:119:1
 returns : tie.Need-returns
 returns c = let a = c .before .before .before .before .before .args in wrote-as (ap (resetClauses (a .m) (a .x) (a .o) (a .next) (a .i)) (c .before .before .before .enum-told .given .1)) (c .before .put-kept-clock .ensures)
 
--- src/lib.rt:119:1
 same-length-2 : tie.Need-same-length-2
 same-length-2 c = search needs
 
--- src/lib.rt:119:1
 returns-2 : tie.Need-returns-2
 returns-2 c = let a = c .before .before .before .before .before .before .before .args in wrote-as (ap (resetClauses (a .m) (a .x) (a .o) (a .next) (a .i)) (c .before .before .before .before .before .enum-told2 .given .1) ∙ reset-in (a .m) (a .x) (a .o) (a .next) (a .i) _ (c .before .before .before .before .clock-group .ensures)) (c .before .put-implication .ensures)
 

@@ -9,9 +9,6 @@ use Prim.Native.Nat.{_-_, _≤_}
 use mathlib.Core.Path.{_≡_}
 use Rattle.edge_pieces.proofs.put_resets.Statement.{statement}
 use Rattle.edge_pieces.proofs.put_resets.Tie as tie
-use Rattle.edge_pieces.proofs.put_resets.Reads as reads
-use Rattle.edge_pieces.proofs.put_resets.Lts as lts
-use Rattle.edge_pieces.proofs.put_reset.Reads as put-reset-reads
 
 abbrev Inv-loop : tie.InvT-loop
 Inv-loop m z x o next out₀ at e end₀ i₀ i-end out end i = (i ≤ i-end) × Wrote (each i (resetSlot m x o next e)) out₀ out end₀ end
@@ -19,39 +16,30 @@ Inv-loop m z x o next out₀ at e end₀ i₀ i-end out end i = (i ≤ i-end) ×
 abbrev μ-loop : tie.MeasureT-loop
 μ-loop m z x o next out₀ at e end₀ i₀ i-end out end i = i-end - i
 
--- src/lib.rt:157:17
 cast-i-end : tie.Need-cast-i-end Inv-loop μ-loop
 cast-i-end c = search needs
 
--- src/lib.rt:157:5
 loop-holds : tie.Need-loop-holds Inv-loop μ-loop
 loop-holds c = (omega arith, wrote-each-none _ _ _ (omega (arith, c .before .pre .5 .room)))
 
--- src/lib.rt:158:17
 element-copy-out-s : tie.Need-element-copy-out-s Inv-loop μ-loop
 element-copy-out-s c = omega (arith, formed (c .before .before .before .args .m) (c .before .before .before .pre .0) .clocks-le)
 
--- src/lib.rt:160:9
 put-reset-requires : tie.Need-put-reset-requires Inv-loop μ-loop
 put-reset-requires c κs = (c .before .before .before .before .before .pre .0, c .before .before .before .before .before .pre .1, omega arith, omega arith, omega arith, omega arith, room-each _ _ _ (c .before .before .before .loop .inv .1) (c .before .before .loop-test .taken) (c .before .before .before .before .before .pre .5))
 
--- src/lib.rt:157:9
 add-i : tie.Need-add-i Inv-loop μ-loop
 add-i c = search needs
 
--- src/lib.rt:157:5
 loop-less : tie.Need-loop-less Inv-loop μ-loop
 loop-less c = search needs
 
--- src/lib.rt:157:5
 loop-again : tie.Need-loop-again Inv-loop μ-loop
 loop-again c = (omega arith, wrote-each _ _ (c .before .before .before .before .before .loop .inv .1) (c .before .put-reset .ensures))
 
--- src/lib.rt:143:1
 same-length : tie.Need-same-length Inv-loop μ-loop
 same-length c = search needs
 
--- src/lib.rt:143:1
 returns : tie.Need-returns Inv-loop μ-loop
 returns c =
     let done : c .before .loop .i ≡ c .before .before .before .args .m .clocks = omega arith in

@@ -14,36 +14,25 @@ use mathlib.Core.Path.{_≡_, refl, sym, ap, _∙_}
 use borrow.Author.Needs.{needs}
 use Rattle.edge_pieces.proofs.put_sum.Statement.{statement}
 use Rattle.edge_pieces.proofs.put_sum.Tie as tie
-use Rattle.edge_pieces.proofs.put_sum.Reads as reads
-use Rattle.edge_pieces.proofs.put_sum.Lts as lts
-use Rattle.numbering.proofs.counter_group.Reads as counter-group-reads
-use Rattle.rules.proofs.put_shifted.Reads as put-shifted-reads
 
--- src/lib.rt:68:9
 counter-group-requires : tie.Need-counter-group-requires
 counter-group-requires c κs = search needs
 
--- src/lib.rt:69:9
 counter-group-requires-2 : tie.Need-counter-group-requires-2
 counter-group-requires-2 c κs = search needs
 
--- src/lib.rt:71:13
 mul-c : tie.Need-mul-c
 mul-c c = search needs
 
--- src/lib.rt:71:13
 array-copy-out-c : tie.Need-array-copy-out-c
 array-copy-out-c c = omega (arith, formed (c .before .before .before .args .m) (c .before .before .before .pre .0) .vars-le)
 
--- src/lib.rt:72:20
 add-put-shifted : tie.Need-add-put-shifted
 add-put-shifted c = search needs
 
--- src/lib.rt:72:33
 add-put-shifted-2 : tie.Need-add-put-shifted-2
 add-put-shifted-2 c = search needs
 
--- src/lib.rt:72:5
 put-shifted-requires : tie.Need-put-shifted-requires
 put-shifted-requires c κs =
     let a = c .before .before .before .before .before .before .before .args in
@@ -53,11 +42,9 @@ put-shifted-requires c κs =
     let back : toZ w8 (ofZ w8 (c .before .before .before .before .before .before .before .args .offset)) ≡ c .before .before .before .before .before .before .before .args .offset = search needs in
     (omega arith, omega arith, omega arith, omega arith, room-as (sum-in (a .m) (a .x) (a .o) (a .next) (a .i) g (c .before .before .before .before .before .counter-group2 .ensures) (a .source) w (c .before .before .before .before .before .before .counter-group .ensures) (a .offset) greatest refl ∙ ap (λ (y : ℤ). each (w .size) (led (a .x) (a .o + w .place) (a .next + g .place) (shifted y greatest))) (sym back)) (c .before .before .before .before .before .before .before .pre .6))
 
--- src/lib.rt:54:1
 same-length : tie.Need-same-length
 same-length c = search needs
 
--- src/lib.rt:54:1
 returns : tie.Need-returns
 returns c =
     let a = c .before .before .before .before .before .before .before .before .before .args in

@@ -10,33 +10,22 @@ use mathlib.Core.Path.{_≡_, sym, ap, subst, _∙_}
 use borrow.Author.Needs.{needs}
 use Rattle.edge_pieces.proofs.put_update.Statement.{statement}
 use Rattle.edge_pieces.proofs.put_update.Tie as tie
-use Rattle.edge_pieces.proofs.put_update.Reads as reads
-use Rattle.edge_pieces.proofs.put_update.Lts as lts
-use Rattle.component_rules.proofs.put_kept_counter.Reads as put-kept-counter-reads
-use Rattle.edge_pieces.proofs.put_constant.Reads as put-constant-reads
-use Rattle.edge_pieces.proofs.put_sum.Reads as put-sum-reads
 
--- src/lib.rt:90:60
 enum-told : tie.Need-enum-told
 enum-told c = search needs
 
--- src/lib.rt:90:25
 put-kept-counter-requires : tie.Need-put-kept-counter-requires
 put-kept-counter-requires c κs = let a = c .before .before .before .args in (c .before .before .before .pre .0, omega arith, omega arith, omega arith, omega arith, room-as (ap (updateClauses (a .m) (a .x) (a .o) (a .next) (a .i)) (c .before .enum-told .given .1)) (c .before .before .before .pre .6))
 
--- src/lib.rt:91:26
 enum-known-update : tie.Need-enum-known-update
 enum-known-update c = search needs
 
--- src/lib.rt:91:32
 put-constant-requires : tie.Need-put-constant-requires
 put-constant-requires c κs = let a = c .before .before .before .before .args in (c .before .before .before .before .pre .0, omega arith, omega arith, omega arith, room-as (ap (updateClauses (a .m) (a .x) (a .o) (a .next) (a .i)) (c .before .before .update .given .1)) (c .before .before .before .before .pre .6))
 
--- src/lib.rt:92:23
 enum-known-update-2 : tie.Need-enum-known-update-2
 enum-known-update-2 c = search needs
 
--- src/lib.rt:92:43
 put-sum-requires : tie.Need-put-sum-requires
 put-sum-requires c κs =
     let a = c .before .before .before .before .args in
@@ -44,27 +33,21 @@ put-sum-requires c κs =
     let back : toZ w8 (ofZ w8 (v .1 .0)) ≡ v .1 .0 = search needs in
     (c .before .before .before .before .pre .0, omega arith, omega arith, omega arith, omega arith, subst (DeclaredUpdate (a .m)) (c .before .before .update2 .given .1) (c .before .before .before .before .pre .5), room-as (ap (updateClauses (a .m) (a .x) (a .o) (a .next) (a .i)) (c .before .before .update2 .given .1) ∙ ap (λ (y : ℤ). updateClauses (a .m) (a .x) (a .o) (a .next) (a .i) (Sum (v .0) y)) (sym back)) (c .before .before .before .before .pre .6))
 
--- src/lib.rt:76:1
 same-length : tie.Need-same-length
 same-length c = search needs
 
--- src/lib.rt:76:1
 returns : tie.Need-returns
 returns c = let a = c .before .before .before .before .before .args in wrote-as (ap (updateClauses (a .m) (a .x) (a .o) (a .next) (a .i)) (c .before .before .before .enum-told .given .1)) (c .before .put-kept-counter .ensures)
 
--- src/lib.rt:76:1
 same-length-2 : tie.Need-same-length-2
 same-length-2 c = search needs
 
--- src/lib.rt:76:1
 returns-2 : tie.Need-returns-2
 returns-2 c = let a = c .before .before .before .before .before .before .args in wrote-as (ap (updateClauses (a .m) (a .x) (a .o) (a .next) (a .i)) (c .before .before .before .before .update .given .1)) (c .before .put-constant .ensures)
 
--- src/lib.rt:76:1
 same-length-3 : tie.Need-same-length-3
 same-length-3 c = search needs
 
--- src/lib.rt:76:1
 returns-3 : tie.Need-returns-3
 returns-3 c =
     let a = c .before .before .before .before .before .before .args in

@@ -9,9 +9,6 @@ use Prim.Native.Nat.{_-_, _≤_}
 use mathlib.Core.Path.{_≡_}
 use Rattle.edge_pieces.proofs.put_updates.Statement.{statement}
 use Rattle.edge_pieces.proofs.put_updates.Tie as tie
-use Rattle.edge_pieces.proofs.put_updates.Reads as reads
-use Rattle.edge_pieces.proofs.put_updates.Lts as lts
-use Rattle.edge_pieces.proofs.put_update.Reads as put-update-reads
 
 abbrev Inv-loop : tie.InvT-loop
 Inv-loop m x o next out₀ at e end₀ i₀ i-end out end i = (i ≤ i-end) × Wrote (each i (updateSlot m x o next e)) out₀ out end₀ end
@@ -19,43 +16,33 @@ Inv-loop m x o next out₀ at e end₀ i₀ i-end out end i = (i ≤ i-end) × W
 abbrev μ-loop : tie.MeasureT-loop
 μ-loop m x o next out₀ at e end₀ i₀ i-end out end i = i-end - i
 
--- src/lib.rt:110:17
 cast-i-end : tie.Need-cast-i-end Inv-loop μ-loop
 cast-i-end c = search needs
 
--- src/lib.rt:110:5
 loop-holds : tie.Need-loop-holds Inv-loop μ-loop
 loop-holds c = (omega arith, wrote-each-none _ _ _ (omega (arith, c .before .pre .5 .room)))
 
--- src/lib.rt:111:17
 mul-s : tie.Need-mul-s Inv-loop μ-loop
 mul-s c = search needs
 
--- src/lib.rt:111:17
 element-copy-out-s : tie.Need-element-copy-out-s Inv-loop μ-loop
 element-copy-out-s c = omega (arith, formed (c .before .before .before .args .m) (c .before .before .before .pre .0) .vars-le)
 
--- src/lib.rt:113:9
 put-update-requires : tie.Need-put-update-requires Inv-loop μ-loop
 put-update-requires c κs = (c .before .before .before .before .before .pre .0, omega arith, omega arith, omega arith, omega arith, c .before .before .before .before .before .pre .4 (c .before .before .before .loop .i) (c .before .before .loop-test .taken), room-each _ _ _ (c .before .before .before .loop .inv .1) (c .before .before .loop-test .taken) (c .before .before .before .before .before .pre .5))
 
--- src/lib.rt:110:9
 add-i : tie.Need-add-i Inv-loop μ-loop
 add-i c = search needs
 
--- src/lib.rt:110:5
 loop-less : tie.Need-loop-less Inv-loop μ-loop
 loop-less c = search needs
 
--- src/lib.rt:110:5
 loop-again : tie.Need-loop-again Inv-loop μ-loop
 loop-again c = (omega arith, wrote-each _ _ (c .before .before .before .before .before .loop .inv .1) (c .before .put-update .ensures))
 
--- src/lib.rt:97:1
 same-length : tie.Need-same-length Inv-loop μ-loop
 same-length c = search needs
 
--- src/lib.rt:97:1
 returns : tie.Need-returns Inv-loop μ-loop
 returns c =
     let done : c .before .loop .i ≡ c .before .before .before .args .m .vars = omega arith in

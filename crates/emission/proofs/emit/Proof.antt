@@ -1,26 +1,19 @@
 use Rattle.emission.specs.EmitCall.{emitReport, emitLeft}
 use denote.Ref.{now}
 use lib.ListN.{length}
-use lib.IntN.{ℤ}
 use native.Mathlib.Omega.{arith}
 use Prim.Native.Nat.{ℕ, min}
-use mathlib.Core.Path.{_≡_, sym, ap, _∙_}
+use mathlib.Core.Path.{_≡_, ap, _∙_}
 use borrow.Author.Needs.{needs}
 use Rattle.emission.proofs.emit.Statement.{statement}
 use Rattle.emission.proofs.emit.Tie as tie
-use Rattle.emission.proofs.emit.Reads as reads
-use Rattle.emission.proofs.emit.Lts as lts
-use Rattle.emission.proofs.emit_within.Reads as emit-within-reads
 
--- src/lib.rt:120:5
 emit-within-requires : tie.Need-emit-within-requires
 emit-within-requires c κs = search needs
 
--- src/lib.rt:116:1
 same-length : tie.Need-same-length
 same-length c = search needs
 
--- src/lib.rt:116:1
 returns : tie.Need-returns
 returns c =
     let a = c .before .before .before .args in

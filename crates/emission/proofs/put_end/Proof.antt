@@ -6,32 +6,22 @@ use Rattle.model.proofs.FormLaws.{formed}
 use borrow.Author.Needs.{needs}
 use Rattle.emission.proofs.put_end.Statement.{statement}
 use Rattle.emission.proofs.put_end.Tie as tie
-use Rattle.emission.proofs.put_end.Reads as reads
-use Rattle.emission.proofs.put_end.Lts as lts
-use Rattle.numbering.proofs.block_start.Reads as block-start-reads
-use Rattle.words.proofs.put_unit.Reads as put-unit-reads
 
--- src/lib.rt:66:9
 block-start-requires : tie.Need-block-start-requires
 block-start-requires c κs = search needs
 
--- src/lib.rt:67:18
 cast-put-unit : tie.Need-cast-put-unit
 cast-put-unit c = search needs
 
--- src/lib.rt:67:14
 add-put-unit : tie.Need-add-put-unit
 add-put-unit c = omega (arith, c .before .block-start .ensures, block-most (c .before .before .args .m) (formed (c .before .before .args .m) (c .before .before .pre .0)) (c .before .before .args .k) (c .before .before .pre .2))
 
--- src/lib.rt:67:5
 put-unit-requires : tie.Need-put-unit-requires
 put-unit-requires c κs = (omega (arith, c .before .before .block-start .ensures, block-most (c .before .before .before .args .m) (formed (c .before .before .before .args .m) (c .before .before .before .pre .0)) (c .before .before .before .args .k) (c .before .before .before .pre .2)), room-as (end-is (c .before .before .before .args .m) (c .before .before .before .args .k) _ (c .before .before .block-start .ensures)) (c .before .before .before .pre .3))
 
--- src/lib.rt:62:1
 same-length : tie.Need-same-length
 same-length c = search needs
 
--- src/lib.rt:62:1
 returns : tie.Need-returns
 returns c = wrote-as (end-is (c .before .before .before .before .before .args .m) (c .before .before .before .before .before .args .k) _ (c .before .before .before .before .block-start .ensures)) (c .before .put-unit .ensures)
 

@@ -4,24 +4,16 @@ use Rattle.list.proofs.Pieces.{start-piece}
 use borrow.Author.Needs.{needs}
 use Rattle.emission.proofs.put_start.Statement.{statement}
 use Rattle.emission.proofs.put_start.Tie as tie
-use Rattle.emission.proofs.put_start.Reads as reads
-use Rattle.emission.proofs.put_start.Lts as lts
-use Rattle.start_pieces.proofs.put_initial.Reads as put-initial-reads
-use Rattle.state_pieces.proofs.put_state.Reads as put-state-reads
 
--- src/lib.rt:44:9
 put-state-requires : tie.Need-put-state-requires
 put-state-requires c κs = (c .before .pre .0, c .before .pre .1, omega arith, room-first _ (room-as (start-piece (c .before .args .m)) (c .before .pre .2)))
 
--- src/lib.rt:45:5
 put-initial-requires : tie.Need-put-initial-requires
 put-initial-requires c κs = (c .before .before .before .before .pre .0, c .before .before .before .before .pre .1, room-then (c .before .before .put-state .ensures) (room-as (start-piece (c .before .before .before .before .args .m)) (c .before .before .before .before .pre .2)))
 
--- src/lib.rt:40:1
 same-length : tie.Need-same-length
 same-length c = search needs
 
--- src/lib.rt:40:1
 returns : tie.Need-returns
 returns c = wrote-as (start-piece (c .before .before .before .before .before .before .args .m)) (wrote-then (c .before .before .before .before .put-state .ensures) (c .before .put-initial .ensures))
 

@@ -3,19 +3,13 @@ use Rattle.model.proofs.FormLaws.{choices-of-sizes, choices-is}
 use native.Mathlib.Omega.{arith}
 use Rattle.numbering.proofs.block_start.Statement.{statement}
 use Rattle.numbering.proofs.block_start.Tie as tie
-use Rattle.numbering.proofs.block_start.Reads as reads
-use Rattle.numbering.proofs.block_start.Lts as lts
-use Rattle.numbering.proofs.variable_number.Reads as variable-number-reads
 
--- src/lib.rt:35:5
 variable-number-requires : tie.Need-variable-number-requires
 variable-number-requires c κs = (c .pre .0, c .pre .1, c .pre .2, omega (arith, choices-of-sizes _ _ (c .pre .1), choices-is (c .args .m)))
 
--- src/lib.rt:35:5
 sub-result : tie.Need-sub-result
 sub-result c = omega (arith, c .variable-number .ensures, variable-number (c .before .args .m) (c .before .args .t) 0)
 
--- src/lib.rt:31:1
 returns : tie.Need-returns
 returns c = omega (arith, c .variable-number .ensures, variable-number (c .before .args .m) (c .before .args .t) 0)
 

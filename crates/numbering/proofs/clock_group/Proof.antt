@@ -2,38 +2,30 @@ use Rattle.numbering.proofs.NumberingLaws.{group-small, first-clock}
 use Rattle.model.proofs.FormLaws.{formed, ceiling-of-sizes}
 use Rattle.list.specs.Clauses.{oneHotWidth}
 use Rattle.list.specs.Items.{offset}
-use Rattle.model.specs.Automaton.{ceiling, counter, clock, groupSize}
-use mathlib.Core.Path.{_≡_, refl, ap, ap₂, _∙_}
-use Prim.Native.Nat.{ℕ, _+_, _*_, _≤_, _<_, _-_}
+use Rattle.model.specs.Automaton.{ceiling, clock, groupSize}
+use mathlib.Core.Path.{_≡_, ap, ap₂}
+use Prim.Native.Nat.{ℕ, _+_, _*_, _≤_, _-_}
 use native.Mathlib.Nat.{mul-le-mul}
 use native.Mathlib.Omega.{arith}
 use borrow.Author.Needs.{needs}
 use Rattle.numbering.proofs.clock_group.Statement.{statement}
 use Rattle.numbering.proofs.clock_group.Tie as tie
-use Rattle.numbering.proofs.clock_group.Reads as reads
-use Rattle.numbering.proofs.clock_group.Lts as lts
-use Rattle.numbering.proofs.counter_place.Reads as counter-place-reads
 
--- src/lib.rt:69:34
 cast-counter-place : tie.Need-cast-counter-place
 cast-counter-place c = search needs
 
--- src/lib.rt:69:9
 counter-place-requires : tie.Need-counter-place-requires
 counter-place-requires c κs = search needs
 
--- src/lib.rt:70:16
 add-size : tie.Need-add-size
 add-size c = search needs
 
--- src/lib.rt:72:24
 mul-t6 : tie.Need-mul-t6
 mul-t6 c =
     let h : c .before .before .before .args .i ≤ 4 = omega (arith, formed (c .before .before .before .args .m) (c .before .before .before .pre .0) .clocks-le) in
     let w : c .before .before .before .args .z .ceiling + 1 ≤ 257 = omega (arith, c .before .before .before .pre .1 .ceiling-most) in
     record { fits = omega (arith, mul-le-mul h w) }
 
--- src/lib.rt:72:16
 add-t7 : tie.Need-add-t7
 add-t7 c =
     let h : c .before .before .before .args .i ≤ 4 = omega (arith, formed (c .before .before .before .args .m) (c .before .before .before .pre .0) .clocks-le) in
@@ -41,7 +33,6 @@ add-t7 c =
     let f : c .before .counter-place .result ≤ 100000 = omega (arith, c .before .counter-place .ensures, first-clock (c .before .before .before .args .m) (c .before .before .before .pre .0)) in
     record { fits = omega (arith, mul-le-mul h w) }
 
--- src/lib.rt:65:1
 returns : tie.Need-returns
 returns c =
     let p : c .before .counter-place .result + c .before .before .before .args .i * (c .before .before .before .args .z .ceiling + 1) ≡ offset oneHotWidth (c .before .before .before .args .m) (clock (c .before .before .before .args .i)) = ap₂ (λ (a b : ℕ). a + c .before .before .before .args .i * (b + 1)) (c .before .counter-place .ensures) (ceiling-of-sizes _ _ (c .before .before .before .pre .1)) in

@@ -1,38 +1,31 @@
 use Rattle.model.proofs.FormLaws.{state-of-sizes, choices-of-sizes}
 use Rattle.numbering.specs.Numbering.{variableNumber}
-use mathlib.Core.Path.{_≡_, refl, sym, ap, _∙_}
-use Prim.Native.Nat.{ℕ, _+_, _*_, _≤_, _<_, _-_}
+use mathlib.Core.Path.{refl}
+use Prim.Native.Nat.{_+_, _≤_, _-_}
 use native.Mathlib.Omega.{arith}
 use native.Mathlib.Nat.{mul-le-mul}
 use borrow.Author.Needs.{needs}
 use Rattle.numbering.proofs.variable_number.Statement.{statement}
 use Rattle.numbering.proofs.variable_number.Tie as tie
-use Rattle.numbering.proofs.variable_number.Reads as reads
-use Rattle.numbering.proofs.variable_number.Lts as lts
 
--- src/lib.rt:27:10
 add-result : tie.Need-add-result
 add-result c = search needs
 
--- src/lib.rt:27:5
 mul-result : tie.Need-mul-result
 mul-result c =
     let w : c .before .args .z .state + c .before .args .z .choices ≤ 131582 = omega (arith, c .before .pre .1 .state-most, c .before .pre .1 .choices-most) in
     record { fits = omega (arith, mul-le-mul (c .before .pre .2) w) }
 
--- src/lib.rt:27:5
 add-result-2 : tie.Need-add-result-2
 add-result-2 c =
     let w : c .before .args .z .state + c .before .args .z .choices ≤ 131582 = omega (arith, c .before .pre .1 .state-most, c .before .pre .1 .choices-most) in
     record { fits = omega (arith, mul-le-mul (c .before .pre .2) w) }
 
--- src/lib.rt:27:5
 add-result-3 : tie.Need-add-result-3
 add-result-3 c =
     let w : c .before .args .z .state + c .before .args .z .choices ≤ 131582 = omega (arith, c .before .pre .1 .state-most, c .before .pre .1 .choices-most) in
     record { fits = omega (arith, mul-le-mul (c .before .pre .2) w) }
 
--- src/lib.rt:23:1
 returns : tie.Need-returns
 unfolding variableNumber
 returns c = rw (state-of-sizes _ _ (c .before .pre .1), choices-of-sizes _ _ (c .before .pre .1)) refl

@@ -8,9 +8,6 @@ use Prim.Native.Nat.{_-_, _≤_}
 use mathlib.Core.Path.{_≡_}
 use Rattle.rules.proofs.put_excluded.Statement.{statement}
 use Rattle.rules.proofs.put_excluded.Tie as tie
-use Rattle.rules.proofs.put_excluded.Reads as reads
-use Rattle.rules.proofs.put_excluded.Lts as lts
-use Rattle.rules.proofs.put_excluded_value.Reads as put-excluded-value-reads
 
 abbrev Inv-loop : tie.InvT-loop
 Inv-loop x b n relation constant out₀ at o₀ v₀ out o v = (v ≤ n) × Wrote (each v (excluded x b relation constant)) out₀ out o₀ o
@@ -18,31 +15,24 @@ Inv-loop x b n relation constant out₀ at o₀ v₀ out o v = (v ≤ n) × Wrot
 abbrev μ-loop : tie.MeasureT-loop
 μ-loop x b n relation constant out₀ at o₀ v₀ out o v = n - v
 
--- src/lib.rt:50:5
 loop-holds : tie.Need-loop-holds Inv-loop μ-loop
 loop-holds c = (omega arith, wrote-each-none _ _ _ (omega (arith, c .pre .3 .room)))
 
--- src/lib.rt:51:9
 put-excluded-value-requires : tie.Need-put-excluded-value-requires Inv-loop μ-loop
 put-excluded-value-requires c κs = (omega arith, omega arith, omega arith, room-each _ _ _ (c .before .before .loop .inv .1) (c .before .loop-test .taken) (c .before .before .before .pre .3))
 
--- src/lib.rt:50:9
 add-v : tie.Need-add-v Inv-loop μ-loop
 add-v c = search needs
 
--- src/lib.rt:50:5
 loop-less : tie.Need-loop-less Inv-loop μ-loop
 loop-less c = search needs
 
--- src/lib.rt:50:5
 loop-again : tie.Need-loop-again Inv-loop μ-loop
 loop-again c = (omega arith, wrote-each _ _ (c .before .before .before .before .loop .inv .1) (c .before .put-excluded-value .ensures))
 
--- src/lib.rt:37:1
 same-length : tie.Need-same-length Inv-loop μ-loop
 same-length c = search needs
 
--- src/lib.rt:37:1
 returns : tie.Need-returns Inv-loop μ-loop
 returns c =
     let done : c .before .loop .v ≡ c .before .before .args .n = omega arith in

@@ -5,36 +5,25 @@ use mathlib.Core.Path.{sym, _∙_}
 use borrow.Author.Needs.{needs}
 use Rattle.rules.proofs.put_excluded_value.Statement.{statement}
 use Rattle.rules.proofs.put_excluded_value.Tie as tie
-use Rattle.rules.proofs.put_excluded_value.Reads as reads
-use Rattle.rules.proofs.put_excluded_value.Lts as lts
-use Rattle.model.proofs.Relation.holds.Reads as holds-reads
-use Rattle.words.proofs.put_exclusion.Reads as put-exclusion-reads
 
--- src/lib.rt:30:23
 cast-holds : tie.Need-cast-holds
 cast-holds c = search needs
 
--- src/lib.rt:30:8
 holds-requires : tie.Need-holds-requires
 holds-requires c κs = search needs
 
--- src/lib.rt:31:9
 returns : tie.Need-returns
 returns c = wrote-as (excluded-holds (c .before .before .args .x) (c .before .before .args .b) (c .before .before .args .relation) (c .before .before .args .constant) (c .before .before .args .v) (sym (c .before .holds .ensures) ∙ c .if1 .taken)) (wrote-none _ _ (omega (arith, c .before .before .pre .3 .room)))
 
--- src/lib.rt:33:22
 add-put-exclusion : tie.Need-add-put-exclusion
 add-put-exclusion c = search needs
 
--- src/lib.rt:33:5
 put-exclusion-requires : tie.Need-put-exclusion-requires
 put-exclusion-requires c κs = (omega arith, omega arith, room-as (excluded-fails (c .before .before .before .args .x) (c .before .before .before .args .b) (c .before .before .before .args .relation) (c .before .before .before .args .constant) (c .before .before .before .args .v) (sym (c .before .before .holds .ensures) ∙ c .before .if1 .left)) (c .before .before .before .pre .3))
 
--- src/lib.rt:18:1
 same-length : tie.Need-same-length
 same-length c = search needs
 
--- src/lib.rt:18:1
 returns-2 : tie.Need-returns-2
 returns-2 c = wrote-as (excluded-fails (c .before .before .before .before .before .args .x) (c .before .before .before .before .before .args .b) (c .before .before .before .before .before .args .relation) (c .before .before .before .before .before .args .constant) (c .before .before .before .before .before .args .v) (sym (c .before .before .before .before .holds .ensures) ∙ c .before .before .before .if1 .left)) (c .before .put-exclusion .ensures)
 

@@ -6,48 +6,34 @@ use mathlib.Core.Path.{ap}
 use borrow.Author.Needs.{needs}
 use Rattle.rules.proofs.put_leading.Statement.{statement}
 use Rattle.rules.proofs.put_leading.Tie as tie
-use Rattle.rules.proofs.put_leading.Reads as reads
-use Rattle.rules.proofs.put_leading.Lts as lts
-use Rattle.words.proofs.put_exclusion.Reads as put-exclusion-reads
-use Rattle.words.proofs.put_joint_implication.Reads as put-joint-implication-reads
 
--- src/lib.rt:101:53
 enum-told : tie.Need-enum-told
 enum-told c = search needs
 
--- src/lib.rt:101:33
 put-exclusion-requires : tie.Need-put-exclusion-requires
 put-exclusion-requires c κs = (omega arith, omega arith, room-as (ap (λ (w : NewValue). leading (c .before .before .before .args .x) (c .before .before .before .args .y) (c .before .before .before .args .after) (answered w)) (c .before .enum-told .given .1)) (c .before .before .before .pre .3))
 
--- src/lib.rt:102:25
 enum-known-new : tie.Need-enum-known-new
 enum-known-new c = search needs
 
--- src/lib.rt:102:67
 cast-put-joint-implication : tie.Need-cast-put-joint-implication
 cast-put-joint-implication c = search needs
 
--- src/lib.rt:102:59
 add-put-joint-implication : tie.Need-add-put-joint-implication
 add-put-joint-implication c = search needs
 
--- src/lib.rt:102:31
 put-joint-implication-requires : tie.Need-put-joint-implication-requires
 put-joint-implication-requires c κs = (omega arith, omega arith, omega arith, room-as (ap (λ (w : NewValue). leading (c .before .before .before .before .args .x) (c .before .before .before .before .args .y) (c .before .before .before .before .args .after) (answered w)) (c .before .before .new .given .1)) (c .before .before .before .before .pre .3))
 
--- src/lib.rt:96:1
 same-length : tie.Need-same-length
 same-length c = search needs
 
--- src/lib.rt:96:1
 returns : tie.Need-returns
 returns c = wrote-as (ap (λ (w : NewValue). leading (c .before .before .before .before .before .args .x) (c .before .before .before .before .before .args .y) (c .before .before .before .before .before .args .after) (answered w)) (c .before .before .before .enum-told .given .1)) (c .before .put-exclusion .ensures)
 
--- src/lib.rt:96:1
 same-length-2 : tie.Need-same-length-2
 same-length-2 c = search needs
 
--- src/lib.rt:96:1
 returns-2 : tie.Need-returns-2
 returns-2 c = wrote-as (ap (λ (w : NewValue). leading (c .before .before .before .before .before .before .args .x) (c .before .before .before .before .before .before .args .y) (c .before .before .before .before .before .before .args .after) (answered w)) (c .before .before .before .before .new .given .1)) (c .before .put-joint-implication .ensures)
 

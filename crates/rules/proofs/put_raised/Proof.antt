@@ -4,17 +4,11 @@ use Rattle.rules.proofs.RuleLaws.{joint-is}
 use Rattle.rules.specs.Rules.{led, raised}
 use Rattle.words.proofs.Kit.{wrote-each, wrote-each-none, room-each, wrote-as, room-as}
 use Rattle.words.specs.Written.{Wrote}
-use Rattle.list.specs.Clauses.{bare, negated, one}
 use Rattle.model.specs.Indexed.{each}
-use Prim.Native.Nat.{ℕ, _+_, _-_, _≤_}
-use mathlib.Core.List.{[], _∷_}
-use mathlib.Core.Path.{_≡_, sym, ap}
+use Prim.Native.Nat.{_-_, _≤_}
+use mathlib.Core.Path.{_≡_, sym}
 use Rattle.rules.proofs.put_raised.Statement.{statement}
 use Rattle.rules.proofs.put_raised.Tie as tie
-use Rattle.rules.proofs.put_raised.Reads as reads
-use Rattle.rules.proofs.put_raised.Lts as lts
-use Rattle.rules.proofs.smaller.Reads as smaller-reads
-use Rattle.words.proofs.put_joint_implication.Reads as put-joint-implication-reads
 
 abbrev Inv-loop : tie.InvT-loop
 Inv-loop x before after n d top out₀ at o₀ v₀ out o v = (v ≤ n) × Wrote (each v (led x before after (raised d top))) out₀ out o₀ o
@@ -22,47 +16,36 @@ Inv-loop x before after n d top out₀ at o₀ v₀ out o v = (v ≤ n) × Wrote
 abbrev μ-loop : tie.MeasureT-loop
 μ-loop x before after n d top out₀ at o₀ v₀ out o v = n - v
 
--- src/lib.rt:89:5
 loop-holds : tie.Need-loop-holds Inv-loop μ-loop
 loop-holds c = (omega arith, wrote-each-none _ _ _ (omega (arith, c .pre .6 .room)))
 
--- src/lib.rt:90:38
 add-put-joint-implication : tie.Need-add-put-joint-implication Inv-loop μ-loop
 add-put-joint-implication c = search needs
 
--- src/lib.rt:90:66
 add-smaller : tie.Need-add-smaller Inv-loop μ-loop
 add-smaller c = search needs
 
--- src/lib.rt:90:58
 smaller-requires : tie.Need-smaller-requires Inv-loop μ-loop
 smaller-requires c κs = search needs
 
--- src/lib.rt:90:50
 add-put-joint-implication-2 : tie.Need-add-put-joint-implication-2 Inv-loop μ-loop
 add-put-joint-implication-2 c = omega (arith, c .smaller .ensures)
 
--- src/lib.rt:90:9
 put-joint-implication-requires : tie.Need-put-joint-implication-requires Inv-loop μ-loop
 put-joint-implication-requires c κs = (omega arith, omega arith, omega (arith, c .before .smaller .ensures), room-as (joint-is _ _ _ _ _ (sym (c .before .smaller .ensures))) (room-each _ _ _ (c .before .before .before .loop .inv .1) (c .before .before .loop-test .taken) (c .before .before .before .before .pre .6)))
 
--- src/lib.rt:89:9
 add-v : tie.Need-add-v Inv-loop μ-loop
 add-v c = search needs
 
--- src/lib.rt:89:5
 loop-less : tie.Need-loop-less Inv-loop μ-loop
 loop-less c = search needs
 
--- src/lib.rt:89:5
 loop-again : tie.Need-loop-again Inv-loop μ-loop
 loop-again c = (omega arith, wrote-each _ _ (c .before .before .before .before .before .loop .inv .1) (wrote-as (joint-is _ _ _ _ _ (sym (c .before .before .before .smaller .ensures))) (c .before .put-joint-implication .ensures)))
 
--- src/lib.rt:75:1
 same-length : tie.Need-same-length Inv-loop μ-loop
 same-length c = search needs
 
--- src/lib.rt:75:1
 returns : tie.Need-returns Inv-loop μ-loop
 returns c =
     let done : c .before .loop .v ≡ c .before .before .args .n = omega arith in

@@ -1,8 +1,8 @@
 use borrow.Author.Needs.{needs}
 use Rattle.model.proofs.FormLaws.{choices-is}
 use Rattle.search.proofs.StepPieces.{block-next, step-lies, step-small, front-failed, value-failed, state-failed, step-passed, edge-passed, part-passed}
-use Rattle.search.proofs.KnownLaws.{wf, known-bounded, known-state, known-choices, known-top, step-in, edge-fits-of}
-use Rattle.search.specs.Pieces.{edgePiece, edgeClauses, stepClauses}
+use Rattle.checks.proofs.KnownLaws.{wf, known-bounded, known-state, known-choices, known-top, step-in, edge-fits-of}
+use Rattle.checks.specs.Pieces.{edgePiece, edgeClauses, stepClauses}
 use Rattle.truth.proofs.Scans.{Passed, passed-each, passed-each-none, passed-scan, failed-scan, checked-passed, checked-failed}
 use Rattle.truth.specs.Parts.{valueClauses, Fits}
 use Rattle.truth.specs.declared.Part.{Part}

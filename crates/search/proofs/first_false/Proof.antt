@@ -1,8 +1,8 @@
 use Rattle.model.proofs.FormLaws.{variables-is}
 use Rattle.search.proofs.WholeList.{last-in, last-small, list-is}
-use Rattle.search.proofs.Sequel.{found-at, found-nothing}
-use Rattle.search.proofs.KnownLaws.{known-bounded}
-use Rattle.search.specs.Pieces.{Known}
+use Rattle.search.proofs.Told.{found-at, found-nothing}
+use Rattle.checks.proofs.KnownLaws.{known-bounded}
+use Rattle.checks.specs.Pieces.{Known}
 use Rattle.truth.proofs.Scans.{passed-scan, failed-scan, passed-then, failed-then, failed-more, failed-as, passed-as, clause-passed, clause-failed, one-true}
 use Rattle.list.specs.Clauses.{bare}
 use Prim.Native.Nat.{_+_, _*_}

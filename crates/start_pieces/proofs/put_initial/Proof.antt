@@ -4,33 +4,22 @@ use Rattle.words.proofs.Kit.{wrote-then, room-first, room-then, wrote-as, room-
 use borrow.Author.Needs.{needs}
 use Rattle.start_pieces.proofs.put_initial.Statement.{statement}
 use Rattle.start_pieces.proofs.put_initial.Tie as tie
-use Rattle.start_pieces.proofs.put_initial.Reads as reads
-use Rattle.start_pieces.proofs.put_initial.Lts as lts
-use Rattle.start_pieces.proofs.put_initial_clocks.Reads as put-initial-clocks-reads
-use Rattle.start_pieces.proofs.put_initial_counters.Reads as put-initial-counters-reads
-use Rattle.words.proofs.put_unit.Reads as put-unit-reads
 
--- src/lib.rt:64:29
 cast-put-unit : tie.Need-cast-put-unit
 cast-put-unit c = search needs
 
--- src/lib.rt:64:9
 put-unit-requires : tie.Need-put-unit-requires
 put-unit-requires c κs = (omega arith, room-first _ (room-first _ (room-as (initial-are (c .before .before .args .m)) (c .before .before .pre .2))))
 
--- src/lib.rt:65:9
 put-initial-counters-requires : tie.Need-put-initial-counters-requires
 put-initial-counters-requires c κs = (c .before .before .before .before .before .pre .0, room-then (c .before .before .put-unit .ensures) (room-first _ (room-as (initial-are (c .before .before .before .before .before .args .m)) (c .before .before .before .before .before .pre .2))))
 
--- src/lib.rt:66:5
 put-initial-clocks-requires : tie.Need-put-initial-clocks-requires
 put-initial-clocks-requires c κs = (c .before .before .before .before .before .before .before .before .pre .0, c .before .before .before .before .before .before .before .before .pre .1, room-then (wrote-then (c .before .before .before .before .before .put-unit .ensures) (c .before .before .put-initial-counters .ensures)) (room-as (initial-are (c .before .before .before .before .before .before .before .before .args .m)) (c .before .before .before .before .before .before .before .before .pre .2)))
 
--- src/lib.rt:60:1
 same-length : tie.Need-same-length
 same-length c = search needs
 
--- src/lib.rt:60:1
 returns : tie.Need-returns
 returns c = wrote-as (initial-are (c .before .before .before .before .before .before .before .before .before .before .args .m)) (wrote-then (wrote-then (c .before .before .before .before .before .before .before .put-unit .ensures) (c .before .before .before .before .put-initial-counters .ensures)) (c .before .put-initial-clocks .ensures))
 

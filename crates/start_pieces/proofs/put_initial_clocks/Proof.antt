@@ -8,9 +8,6 @@ use Prim.Native.Nat.{_-_, _≤_}
 use mathlib.Core.Path.{_≡_}
 use Rattle.start_pieces.proofs.put_initial_clocks.Statement.{statement}
 use Rattle.start_pieces.proofs.put_initial_clocks.Tie as tie
-use Rattle.start_pieces.proofs.put_initial_clocks.Reads as reads
-use Rattle.start_pieces.proofs.put_initial_clocks.Lts as lts
-use Rattle.start_pieces.proofs.put_initial_clock.Reads as put-initial-clock-reads
 
 abbrev Inv-loop : tie.InvT-loop
 Inv-loop m z out₀ at end₀ i₀ i-end out end i = (i ≤ i-end) × Wrote (each i (initialClock m)) out₀ out end₀ end
@@ -18,35 +15,27 @@ Inv-loop m z out₀ at end₀ i₀ i-end out end i = (i ≤ i-end) × Wrote (eac
 abbrev μ-loop : tie.MeasureT-loop
 μ-loop m z out₀ at end₀ i₀ i-end out end i = i-end - i
 
--- src/lib.rt:53:17
 cast-i-end : tie.Need-cast-i-end Inv-loop μ-loop
 cast-i-end c = search needs
 
--- src/lib.rt:53:5
 loop-holds : tie.Need-loop-holds Inv-loop μ-loop
 loop-holds c = (omega arith, wrote-each-none _ _ _ (omega (arith, c .before .pre .2 .room)))
 
--- src/lib.rt:54:9
 put-initial-clock-requires : tie.Need-put-initial-clock-requires Inv-loop μ-loop
 put-initial-clock-requires c κs = (c .before .before .before .before .pre .0, c .before .before .before .before .pre .1, omega arith, room-each _ _ _ (c .before .before .loop .inv .1) (c .before .loop-test .taken) (c .before .before .before .before .pre .2))
 
--- src/lib.rt:53:9
 add-i : tie.Need-add-i Inv-loop μ-loop
 add-i c = search needs
 
--- src/lib.rt:53:5
 loop-less : tie.Need-loop-less Inv-loop μ-loop
 loop-less c = search needs
 
--- src/lib.rt:53:5
 loop-again : tie.Need-loop-again Inv-loop μ-loop
 loop-again c = (omega arith, wrote-each _ _ (c .before .before .before .before .loop .inv .1) (c .before .put-initial-clock .ensures))
 
--- src/lib.rt:48:1
 same-length : tie.Need-same-length Inv-loop μ-loop
 same-length c = search needs
 
--- src/lib.rt:48:1
 returns : tie.Need-returns Inv-loop μ-loop
 returns c =
     let done : c .before .loop .i ≡ c .before .before .before .args .m .clocks = omega arith in

@@ -7,40 +7,28 @@ use mathlib.Core.Path.{refl}
 use borrow.Author.Needs.{needs}
 use Rattle.start_pieces.proofs.put_initial_counter.Statement.{statement}
 use Rattle.start_pieces.proofs.put_initial_counter.Tie as tie
-use Rattle.start_pieces.proofs.put_initial_counter.Reads as reads
-use Rattle.start_pieces.proofs.put_initial_counter.Lts as lts
-use Rattle.numbering.proofs.counter_group.Reads as counter-group-reads
-use Rattle.words.proofs.put_unit.Reads as put-unit-reads
 
--- src/lib.rt:21:9
 counter-group-requires : tie.Need-counter-group-requires
 counter-group-requires c κs = search needs
 
--- src/lib.rt:23:13
 mul-c : tie.Need-mul-c
 mul-c c = search needs
 
--- src/lib.rt:23:13
 array-copy-out-c : tie.Need-array-copy-out-c
 array-copy-out-c c = omega (arith, formed (c .before .before .args .m) (c .before .before .pre .0) .vars-le)
 
--- src/lib.rt:24:24
 cast-put-unit : tie.Need-cast-put-unit
 cast-put-unit c = search needs
 
--- src/lib.rt:24:14
 add-put-unit : tie.Need-add-put-unit
 add-put-unit c = search needs
 
--- src/lib.rt:24:5
 put-unit-requires : tie.Need-put-unit-requires
 put-unit-requires c κs = (omega (arith, c .before .before .before .before .before .counter-group .ensures .within), room-as (initial-in (c .before .before .before .before .before .before .args .m) (counter (c .before .before .before .before .before .before .args .i)) _ (c .before .before .before .before .before .counter-group .ensures) _ refl) (c .before .before .before .before .before .before .pre .2))
 
--- src/lib.rt:17:1
 same-length : tie.Need-same-length
 same-length c = search needs
 
--- src/lib.rt:17:1
 returns : tie.Need-returns
 returns c = wrote-as (initial-in (c .before .before .before .before .before .before .before .before .args .m) (counter (c .before .before .before .before .before .before .before .before .args .i)) _ (c .before .before .before .before .before .before .before .counter-group .ensures) _ refl) (c .before .put-unit .ensures)
 

@@ -8,9 +8,6 @@ use Prim.Native.Nat.{_-_, _≤_}
 use mathlib.Core.Path.{_≡_}
 use Rattle.start_pieces.proofs.put_initial_counters.Statement.{statement}
 use Rattle.start_pieces.proofs.put_initial_counters.Tie as tie
-use Rattle.start_pieces.proofs.put_initial_counters.Reads as reads
-use Rattle.start_pieces.proofs.put_initial_counters.Lts as lts
-use Rattle.start_pieces.proofs.put_initial_counter.Reads as put-initial-counter-reads
 
 abbrev Inv-loop : tie.InvT-loop
 Inv-loop m out₀ at end₀ i₀ i-end out end i = (i ≤ i-end) × Wrote (each i (initialCounter m)) out₀ out end₀ end
@@ -18,35 +15,27 @@ Inv-loop m out₀ at end₀ i₀ i-end out end i = (i ≤ i-end) × Wrote (each 
 abbrev μ-loop : tie.MeasureT-loop
 μ-loop m out₀ at end₀ i₀ i-end out end i = i-end - i
 
--- src/lib.rt:33:17
 cast-i-end : tie.Need-cast-i-end Inv-loop μ-loop
 cast-i-end c = search needs
 
--- src/lib.rt:33:5
 loop-holds : tie.Need-loop-holds Inv-loop μ-loop
 loop-holds c = (omega arith, wrote-each-none _ _ _ (omega (arith, c .before .pre .1 .room)))
 
--- src/lib.rt:34:9
 put-initial-counter-requires : tie.Need-put-initial-counter-requires Inv-loop μ-loop
 put-initial-counter-requires c κs = (c .before .before .before .before .pre .0, omega arith, room-each _ _ _ (c .before .before .loop .inv .1) (c .before .loop-test .taken) (c .before .before .before .before .pre .1))
 
--- src/lib.rt:33:9
 add-i : tie.Need-add-i Inv-loop μ-loop
 add-i c = search needs
 
--- src/lib.rt:33:5
 loop-less : tie.Need-loop-less Inv-loop μ-loop
 loop-less c = search needs
 
--- src/lib.rt:33:5
 loop-again : tie.Need-loop-again Inv-loop μ-loop
 loop-again c = (omega arith, wrote-each _ _ (c .before .before .before .before .loop .inv .1) (c .before .put-initial-counter .ensures))
 
--- src/lib.rt:28:1
 same-length : tie.Need-same-length Inv-loop μ-loop
 same-length c = search needs
 
--- src/lib.rt:28:1
 returns : tie.Need-returns Inv-loop μ-loop
 returns c =
     let done : c .before .loop .i ≡ c .before .before .before .args .m .vars = omega arith in

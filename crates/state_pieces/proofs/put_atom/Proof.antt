@@ -8,82 +8,61 @@ use mathlib.Core.Path.{ap, subst, _∙_}
 use borrow.Author.Needs.{needs}
 use Rattle.state_pieces.proofs.put_atom.Statement.{statement}
 use Rattle.state_pieces.proofs.put_atom.Tie as tie
-use Rattle.state_pieces.proofs.put_atom.Reads as reads
-use Rattle.state_pieces.proofs.put_atom.Lts as lts
-use Rattle.numbering.proofs.clock_group.Reads as clock-group-reads
-use Rattle.numbering.proofs.counter_group.Reads as counter-group-reads
-use Rattle.rules.proofs.put_excluded.Reads as put-excluded-reads
 
--- src/lib.rt:89:24
 enum-told : tie.Need-enum-told
 enum-told c = search needs
 
--- src/lib.rt:91:13
 enum-known-atom : tie.Need-enum-known-atom
 enum-known-atom c = search needs
 
--- src/lib.rt:95:39
 cast-clock-group : tie.Need-cast-clock-group
 cast-clock-group c = search needs
 
--- src/lib.rt:95:17
 clock-group-requires : tie.Need-clock-group-requires
 clock-group-requires c κs = (c .before .before .before .pre .0, c .before .before .before .pre .1, subst (DeclaredAtom (c .before .before .before .args .m)) (c .before .atom .given .1) (c .before .before .before .pre .4))
 
--- src/lib.rt:96:29
 add-put-excluded : tie.Need-add-put-excluded
 add-put-excluded c = search needs
 
--- src/lib.rt:96:13
 put-excluded-requires : tie.Need-put-excluded-requires
 put-excluded-requires c κs =
     let a = c .before .before .before .before .before .before .args in
     let v = c .before .before .before .before .atom .given .0 in
     (omega arith, omega arith, omega arith, room-as (ap (atomClauses (a .m) (a .o) (a .x)) (c .before .before .before .before .atom .given .1) ∙ excluded-in (a .m) (a .o) (a .x) (clock (v .0)) (v .1 .0) (v .1 .1 .0) _ (c .before .before .clock-group .ensures)) (c .before .before .before .before .before .before .pre .5))
 
--- src/lib.rt:99:13
 enum-known-atom-2 : tie.Need-enum-known-atom-2
 enum-known-atom-2 c = search needs
 
--- src/lib.rt:103:38
 cast-counter-group : tie.Need-cast-counter-group
 cast-counter-group c = search needs
 
--- src/lib.rt:103:17
 counter-group-requires : tie.Need-counter-group-requires
 counter-group-requires c κs = (c .before .before .before .pre .0, subst (DeclaredAtom (c .before .before .before .args .m)) (c .before .atom2 .given .1) (c .before .before .before .pre .4))
 
--- src/lib.rt:104:29
 add-put-excluded-2 : tie.Need-add-put-excluded-2
 add-put-excluded-2 c = search needs
 
--- src/lib.rt:104:13
 put-excluded-requires-2 : tie.Need-put-excluded-requires-2
 put-excluded-requires-2 c κs =
     let a = c .before .before .before .before .before .before .args in
     let v = c .before .before .before .before .atom2 .given .0 in
     (omega arith, omega arith, omega arith, room-as (ap (atomClauses (a .m) (a .o) (a .x)) (c .before .before .before .before .atom2 .given .1) ∙ excluded-in (a .m) (a .o) (a .x) (counter (v .0)) (v .1 .0) (v .1 .1 .0) _ (c .before .before .counter-group .ensures)) (c .before .before .before .before .before .before .pre .5))
 
--- src/lib.rt:76:1
 returns : tie.Need-returns
 returns c = wrote-as (ap (atomClauses (c .before .before .args .m) (c .before .before .args .o) (c .before .before .args .x)) (c .enum-told .given .1)) (wrote-none _ _ (omega (arith, c .before .before .pre .5 .room)))
 
--- src/lib.rt:76:1
 same-length : tie.Need-same-length
 same-length c = search needs
 
--- src/lib.rt:76:1
 returns-2 : tie.Need-returns-2
 returns-2 c =
     let a = c .before .before .before .before .before .before .before .before .args in
     let v = c .before .before .before .before .before .before .atom .given .0 in
     wrote-as (ap (atomClauses (a .m) (a .o) (a .x)) (c .before .before .before .before .before .before .atom .given .1) ∙ excluded-in (a .m) (a .o) (a .x) (clock (v .0)) (v .1 .0) (v .1 .1 .0) _ (c .before .before .before .before .clock-group .ensures)) (c .before .put-excluded .ensures)
 
--- src/lib.rt:76:1
 same-length-2 : tie.Need-same-length-2
 same-length-2 c = search needs
 
--- src/lib.rt:76:1
 returns-3 : tie.Need-returns-3
 returns-3 c =
     let a = c .before .before .before .before .before .before .before .before .args in

@@ -8,9 +8,6 @@ use Prim.Native.Nat.{_-_, _≤_}
 use mathlib.Core.Path.{_≡_}
 use Rattle.state_pieces.proofs.put_atoms.Statement.{statement}
 use Rattle.state_pieces.proofs.put_atoms.Tie as tie
-use Rattle.state_pieces.proofs.put_atoms.Reads as reads
-use Rattle.state_pieces.proofs.put_atoms.Lts as lts
-use Rattle.state_pieces.proofs.put_atom.Reads as put-atom-reads
 
 abbrev Inv-loop : tie.InvT-loop
 Inv-loop m z o x out₀ at atoms end₀ k₀ out end k = (k ≤ 4) × Wrote (each k (slotClauses m o x atoms)) out₀ out end₀ end
@@ -18,39 +15,30 @@ Inv-loop m z o x out₀ at atoms end₀ k₀ out end k = (k ≤ 4) × Wrote (eac
 abbrev μ-loop : tie.MeasureT-loop
 μ-loop m z o x out₀ at atoms end₀ k₀ out end k = 4 - k
 
--- src/lib.rt:123:5
 loop-holds : tie.Need-loop-holds Inv-loop μ-loop
 loop-holds c = (omega arith, wrote-each-none _ _ _ (omega (arith, c .pre .5 .room)))
 
--- src/lib.rt:124:17
 mul-s : tie.Need-mul-s Inv-loop μ-loop
 mul-s c = search needs
 
--- src/lib.rt:124:17
 array-copy-out-s : tie.Need-array-copy-out-s Inv-loop μ-loop
 array-copy-out-s c = search needs
 
--- src/lib.rt:126:9
 put-atom-requires : tie.Need-put-atom-requires Inv-loop μ-loop
 put-atom-requires c κs = (c .before .before .before .before .pre .0, c .before .before .before .before .pre .1, omega arith, omega arith, c .before .before .before .before .pre .4 (c .before .before .before .loop .k) (c .before .before .loop-test .taken), room-each _ _ _ (c .before .before .before .loop .inv .1) (c .before .before .loop-test .taken) (c .before .before .before .before .pre .5))
 
--- src/lib.rt:123:9
 add-k : tie.Need-add-k Inv-loop μ-loop
 add-k c = search needs
 
--- src/lib.rt:123:5
 loop-less : tie.Need-loop-less Inv-loop μ-loop
 loop-less c = search needs
 
--- src/lib.rt:123:5
 loop-again : tie.Need-loop-again Inv-loop μ-loop
 loop-again c = (omega arith, wrote-each _ _ (c .before .before .before .before .before .loop .inv .1) (c .before .put-atom .ensures))
 
--- src/lib.rt:110:1
 same-length : tie.Need-same-length Inv-loop μ-loop
 same-length c = search needs
 
--- src/lib.rt:110:1
 returns : tie.Need-returns Inv-loop μ-loop
 returns c =
     let done : c .before .loop .k ≡ 4 = omega arith in

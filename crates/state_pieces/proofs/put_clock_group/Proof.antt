@@ -5,28 +5,19 @@ use Rattle.model.specs.Automaton.{clock}
 use borrow.Author.Needs.{needs}
 use Rattle.state_pieces.proofs.put_clock_group.Statement.{statement}
 use Rattle.state_pieces.proofs.put_clock_group.Tie as tie
-use Rattle.state_pieces.proofs.put_clock_group.Reads as reads
-use Rattle.state_pieces.proofs.put_clock_group.Lts as lts
-use Rattle.numbering.proofs.clock_group.Reads as clock-group-reads
-use Rattle.words.proofs.put_group.Reads as put-group-reads
 
--- src/lib.rt:49:9
 clock-group-requires : tie.Need-clock-group-requires
 clock-group-requires c κs = search needs
 
--- src/lib.rt:50:15
 add-put-group : tie.Need-add-put-group
 add-put-group c = search needs
 
--- src/lib.rt:50:5
 put-group-requires : tie.Need-put-group-requires
 put-group-requires c κs = (omega arith, room-as (group-is (c .before .before .before .args .m) (c .before .before .before .args .o) (clock (c .before .before .before .args .i)) _ (c .before .before .clock-group .ensures)) (c .before .before .before .pre .4))
 
--- src/lib.rt:45:1
 same-length : tie.Need-same-length
 same-length c = search needs
 
--- src/lib.rt:45:1
 returns : tie.Need-returns
 returns c = wrote-as (group-is (c .before .before .before .before .before .args .m) (c .before .before .before .before .before .args .o) (clock (c .before .before .before .before .before .args .i)) _ (c .before .before .before .before .clock-group .ensures)) (c .before .put-group .ensures)
 

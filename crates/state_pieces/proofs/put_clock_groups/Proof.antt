@@ -8,9 +8,6 @@ use Prim.Native.Nat.{_-_, _≤_}
 use mathlib.Core.Path.{_≡_}
 use Rattle.state_pieces.proofs.put_clock_groups.Statement.{statement}
 use Rattle.state_pieces.proofs.put_clock_groups.Tie as tie
-use Rattle.state_pieces.proofs.put_clock_groups.Reads as reads
-use Rattle.state_pieces.proofs.put_clock_groups.Lts as lts
-use Rattle.state_pieces.proofs.put_clock_group.Reads as put-clock-group-reads
 
 abbrev Inv-loop : tie.InvT-loop
 Inv-loop m z o out₀ at end₀ i₀ i-end out end i = (i ≤ i-end) × Wrote (each i (clockGroup m o)) out₀ out end₀ end
@@ -18,35 +15,27 @@ Inv-loop m z o out₀ at end₀ i₀ i-end out end i = (i ≤ i-end) × Wrote (e
 abbrev μ-loop : tie.MeasureT-loop
 μ-loop m z o out₀ at end₀ i₀ i-end out end i = i-end - i
 
--- src/lib.rt:59:17
 cast-i-end : tie.Need-cast-i-end Inv-loop μ-loop
 cast-i-end c = search needs
 
--- src/lib.rt:59:5
 loop-holds : tie.Need-loop-holds Inv-loop μ-loop
 loop-holds c = (omega arith, wrote-each-none _ _ _ (omega (arith, c .before .pre .3 .room)))
 
--- src/lib.rt:60:9
 put-clock-group-requires : tie.Need-put-clock-group-requires Inv-loop μ-loop
 put-clock-group-requires c κs = (c .before .before .before .before .pre .0, c .before .before .before .before .pre .1, omega arith, omega arith, room-each _ _ _ (c .before .before .loop .inv .1) (c .before .loop-test .taken) (c .before .before .before .before .pre .3))
 
--- src/lib.rt:59:9
 add-i : tie.Need-add-i Inv-loop μ-loop
 add-i c = search needs
 
--- src/lib.rt:59:5
 loop-less : tie.Need-loop-less Inv-loop μ-loop
 loop-less c = search needs
 
--- src/lib.rt:59:5
 loop-again : tie.Need-loop-again Inv-loop μ-loop
 loop-again c = (omega arith, wrote-each _ _ (c .before .before .before .before .loop .inv .1) (c .before .put-clock-group .ensures))
 
--- src/lib.rt:54:1
 same-length : tie.Need-same-length Inv-loop μ-loop
 same-length c = search needs
 
--- src/lib.rt:54:1
 returns : tie.Need-returns Inv-loop μ-loop
 returns c =
     let done : c .before .loop .i ≡ c .before .before .before .args .m .clocks = omega arith in

@@ -5,28 +5,19 @@ use Rattle.model.specs.Automaton.{counter}
 use borrow.Author.Needs.{needs}
 use Rattle.state_pieces.proofs.put_counter_group.Statement.{statement}
 use Rattle.state_pieces.proofs.put_counter_group.Tie as tie
-use Rattle.state_pieces.proofs.put_counter_group.Reads as reads
-use Rattle.state_pieces.proofs.put_counter_group.Lts as lts
-use Rattle.numbering.proofs.counter_group.Reads as counter-group-reads
-use Rattle.words.proofs.put_group.Reads as put-group-reads
 
--- src/lib.rt:28:9
 counter-group-requires : tie.Need-counter-group-requires
 counter-group-requires c κs = search needs
 
--- src/lib.rt:29:15
 add-put-group : tie.Need-add-put-group
 add-put-group c = search needs
 
--- src/lib.rt:29:5
 put-group-requires : tie.Need-put-group-requires
 put-group-requires c κs = (omega arith, room-as (group-is (c .before .before .before .args .m) (c .before .before .before .args .o) (counter (c .before .before .before .args .i)) _ (c .before .before .counter-group .ensures)) (c .before .before .before .pre .3))
 
--- src/lib.rt:24:1
 same-length : tie.Need-same-length
 same-length c = search needs
 
--- src/lib.rt:24:1
 returns : tie.Need-returns
 returns c = wrote-as (group-is (c .before .before .before .before .before .args .m) (c .before .before .before .before .before .args .o) (counter (c .before .before .before .before .before .args .i)) _ (c .before .before .before .before .counter-group .ensures)) (c .before .put-group .ensures)
 

@@ -5,33 +5,22 @@ use Rattle.model.proofs.FormLaws.{formed}
 use borrow.Author.Needs.{needs}
 use Rattle.state_pieces.proofs.put_groups.Statement.{statement}
 use Rattle.state_pieces.proofs.put_groups.Tie as tie
-use Rattle.state_pieces.proofs.put_groups.Reads as reads
-use Rattle.state_pieces.proofs.put_groups.Lts as lts
-use Rattle.state_pieces.proofs.put_clock_groups.Reads as put-clock-groups-reads
-use Rattle.state_pieces.proofs.put_counter_groups.Reads as put-counter-groups-reads
-use Rattle.words.proofs.put_group.Reads as put-group-reads
 
--- src/lib.rt:70:33
 cast-put-group : tie.Need-cast-put-group
 cast-put-group c = search needs
 
--- src/lib.rt:70:9
 put-group-requires : tie.Need-put-group-requires
 put-group-requires c κs = (omega (arith, formed (c .before .before .args .m) (c .before .before .pre .0) .locations-le), room-first _ (room-first _ (room-as (groups-are (c .before .before .args .m) (c .before .before .args .o)) (c .before .before .pre .3))))
 
--- src/lib.rt:71:9
 put-counter-groups-requires : tie.Need-put-counter-groups-requires
 put-counter-groups-requires c κs = (c .before .before .before .before .before .pre .0, omega arith, room-then (c .before .before .put-group .ensures) (room-first _ (room-as (groups-are (c .before .before .before .before .before .args .m) (c .before .before .before .before .before .args .o)) (c .before .before .before .before .before .pre .3))))
 
--- src/lib.rt:72:5
 put-clock-groups-requires : tie.Need-put-clock-groups-requires
 put-clock-groups-requires c κs = (c .before .before .before .before .before .before .before .before .pre .0, c .before .before .before .before .before .before .before .before .pre .1, omega arith, room-then (wrote-then (c .before .before .before .before .before .put-group .ensures) (c .before .before .put-counter-groups .ensures)) (room-as (groups-are (c .before .before .before .before .before .before .before .before .args .m) (c .before .before .before .before .before .before .before .before .args .o)) (c .before .before .before .before .before .before .before .before .pre .3)))
 
--- src/lib.rt:66:1
 same-length : tie.Need-same-length
 same-length c = search needs
 
--- src/lib.rt:66:1
 returns : tie.Need-returns
 returns c = wrote-as (groups-are (c .before .before .before .before .before .before .before .before .before .before .args .m) (c .before .before .before .before .before .before .before .before .before .before .args .o)) (wrote-then (wrote-then (c .before .before .before .before .before .before .before .put-group .ensures) (c .before .before .before .before .put-counter-groups .ensures)) (c .before .put-clock-groups .ensures))
 

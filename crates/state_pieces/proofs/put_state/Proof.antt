@@ -4,24 +4,16 @@ use Rattle.list.proofs.Pieces.{state-piece}
 use borrow.Author.Needs.{needs}
 use Rattle.state_pieces.proofs.put_state.Statement.{statement}
 use Rattle.state_pieces.proofs.put_state.Tie as tie
-use Rattle.state_pieces.proofs.put_state.Reads as reads
-use Rattle.state_pieces.proofs.put_state.Lts as lts
-use Rattle.state_pieces.proofs.put_groups.Reads as put-groups-reads
-use Rattle.state_pieces.proofs.put_invariants.Reads as put-invariants-reads
 
--- src/lib.rt:158:9
 put-groups-requires : tie.Need-put-groups-requires
 put-groups-requires c κs = (c .before .pre .0, c .before .pre .1, omega arith, room-first _ (room-as (state-piece (c .before .args .m) (c .before .args .o)) (c .before .pre .3)))
 
--- src/lib.rt:159:5
 put-invariants-requires : tie.Need-put-invariants-requires
 put-invariants-requires c κs = (c .before .before .before .before .pre .0, c .before .before .before .before .pre .1, omega arith, room-then (c .before .before .put-groups .ensures) (room-as (state-piece (c .before .before .before .before .args .m) (c .before .before .before .before .args .o)) (c .before .before .before .before .pre .3)))
 
--- src/lib.rt:154:1
 same-length : tie.Need-same-length
 same-length c = search needs
 
--- src/lib.rt:154:1
 returns : tie.Need-returns
 returns c = wrote-as (state-piece (c .before .before .before .before .before .before .args .m) (c .before .before .before .before .before .before .args .o)) (wrote-then (c .before .before .before .before .put-groups .ensures) (c .before .put-invariants .ensures))
 

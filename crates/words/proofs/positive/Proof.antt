@@ -4,18 +4,13 @@ use Rattle.words.proofs.Signed.{read}
 use borrow.Author.Needs.{needs}
 use Rattle.words.proofs.positive.Statement.{statement}
 use Rattle.words.proofs.positive.Tie as tie
-use Rattle.words.proofs.positive.Reads as reads
-use Rattle.words.proofs.positive.Lts as lts
 
--- src/lib.rt:15:6
 add-result : tie.Need-add-result
 add-result c = search needs
 
--- src/lib.rt:15:5
 cast-result : tie.Need-cast-result
 cast-result c = search needs
 
--- src/lib.rt:11:1
 returns : tie.Need-returns
 returns c = read (c .args .a + 1) (omega arith)
 

@@ -1,69 +1,53 @@
 use native.Mathlib.Omega.{arith}
 use Rattle.words.proofs.Kit.{clause-2, size-2}
-use Rattle.list.specs.Clauses.{negated, negated}
+use Rattle.list.specs.Clauses.{negated}
 use denote.Ref.{now}
 use lib.ListN.{length, length-set}
 use Prim.Native.Nat.{_+_, _≤_}
 use borrow.Author.Needs.{needs}
 use Rattle.words.proofs.put_exclusion.Statement.{statement}
 use Rattle.words.proofs.put_exclusion.Tie as tie
-use Rattle.words.proofs.put_exclusion.Reads as reads
-use Rattle.words.proofs.put_exclusion.Lts as lts
-use Rattle.words.proofs.negative.Reads as negative-reads
 
 -- the clause takes three words
 room : (c : tie.Start) → c .args .at + 3 ≤ length (now (c .args .out))
 room c = omega (arith, c .pre .2, size-2 (negated (c .args .a)) (negated (c .args .b)))
 
--- src/lib.rt:66:9
 negative-requires : tie.Need-negative-requires
 negative-requires c κs = search needs
 
--- src/lib.rt:67:9
 negative-requires-2 : tie.Need-negative-requires-2
 negative-requires-2 c κs = search needs
 
--- src/lib.rt:68:5
 mul-x : tie.Need-mul-x
 mul-x c = search needs
 
--- src/lib.rt:68:5
 slice-set-from-x : tie.Need-slice-set-from-x
 slice-set-from-x c = omega (arith, room (c .before .before))
 
--- src/lib.rt:69:9
 add-y : tie.Need-add-y
 add-y c = search needs
 
--- src/lib.rt:69:5
 mul-y : tie.Need-mul-y
 mul-y c = search needs
 
--- src/lib.rt:69:5
 slice-set-from-y : tie.Need-slice-set-from-y
 slice-set-from-y c = simp length-set (omega (arith, room (c .before .before)))
 
--- src/lib.rt:70:9
 add-out : tie.Need-add-out
 add-out c = search needs
 
--- src/lib.rt:70:5
 mul-out : tie.Need-mul-out
 mul-out c = search needs
 
--- src/lib.rt:70:5
 slice-set-of-out : tie.Need-slice-set-of-out
 slice-set-of-out c = simp length-set (omega (arith, room (c .before .before)))
 
--- src/lib.rt:71:5
 add-result : tie.Need-add-result
 add-result c = search needs
 
--- src/lib.rt:62:1
 same-length : tie.Need-same-length
 same-length c = search needs
 
--- src/lib.rt:62:1
 returns : tie.Need-returns
 returns c = clause-2 _ _ _ _ _ _ (c .before .negative .ensures) (c .negative2 .ensures) (search needs) (search needs) (c .before .before .pre .2)
 

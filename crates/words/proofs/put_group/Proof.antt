@@ -2,19 +2,13 @@ use native.Mathlib.Omega.{arith}
 use borrow.Author.Needs.{needs}
 use Rattle.words.proofs.Kit.{wrote-then, wrote-each, wrote-each-none, room-first, room-then, room-each}
 use Rattle.words.specs.Pairs.{pairsOf}
-use Rattle.words.specs.Written.{Room, Wrote}
+use Rattle.words.specs.Written.{Wrote}
 use Rattle.list.specs.Clauses.{pairs, groupClauses}
 use Rattle.model.specs.Indexed.{each}
-use Prim.Native.Nat.{_+_, _-_, _≤_}
+use Prim.Native.Nat.{_-_, _≤_}
 use mathlib.Core.Path.{_≡_}
-use denote.Ref.{now}
-use lib.ListN.{length}
 use Rattle.words.proofs.put_group.Statement.{statement}
 use Rattle.words.proofs.put_group.Tie as tie
-use Rattle.words.proofs.put_group.Reads as reads
-use Rattle.words.proofs.put_group.Lts as lts
-use Rattle.words.proofs.put_members.Reads as put-members-reads
-use Rattle.words.proofs.put_pairs_of.Reads as put-pairs-of-reads
 
 abbrev Inv-loop : tie.InvT-loop
 Inv-loop b n out₀ at o₀ i₀ out o i = (i ≤ n) × Wrote (each i (pairsOf b n)) out₀ out o₀ o
@@ -22,37 +16,29 @@ Inv-loop b n out₀ at o₀ i₀ out o i = (i ≤ n) × Wrote (each i (pairsOf b
 abbrev μ-loop : tie.MeasureT-loop
 μ-loop b n out₀ at o₀ i₀ out o i = n - i
 
--- src/lib.rt:121:9
 put-members-requires : tie.Need-put-members-requires Inv-loop μ-loop
 unfolding groupClauses pairs
 put-members-requires c κs = (search needs, room-first _ (c .before .pre .1))
 
--- src/lib.rt:122:5
 loop-holds : tie.Need-loop-holds Inv-loop μ-loop
 loop-holds c = (omega arith, wrote-each-none _ _ _ (omega arith))
 
--- src/lib.rt:123:9
 put-pairs-of-requires : tie.Need-put-pairs-of-requires Inv-loop μ-loop
 unfolding groupClauses pairs
 put-pairs-of-requires c κs = (omega arith, omega arith, room-each _ _ _ (c .before .before .loop .inv .1) (c .before .loop-test .taken) (room-then (c .before .before .before .before .put-members .ensures) (c .before .before .before .before .before .before .pre .1)))
 
--- src/lib.rt:122:9
 add-i : tie.Need-add-i Inv-loop μ-loop
 add-i c = search needs
 
--- src/lib.rt:122:5
 loop-less : tie.Need-loop-less Inv-loop μ-loop
 loop-less c = search needs
 
--- src/lib.rt:122:5
 loop-again : tie.Need-loop-again Inv-loop μ-loop
 loop-again c = (omega arith, wrote-each _ _ (c .before .before .before .before .loop .inv .1) (c .before .put-pairs-of .ensures))
 
--- src/lib.rt:117:1
 same-length : tie.Need-same-length Inv-loop μ-loop
 same-length c = search needs
 
--- src/lib.rt:117:1
 returns : tie.Need-returns Inv-loop μ-loop
 unfolding groupClauses pairs
 returns c =

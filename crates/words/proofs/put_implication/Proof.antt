@@ -7,64 +7,47 @@ use Prim.Native.Nat.{_+_, _≤_}
 use borrow.Author.Needs.{needs}
 use Rattle.words.proofs.put_implication.Statement.{statement}
 use Rattle.words.proofs.put_implication.Tie as tie
-use Rattle.words.proofs.put_implication.Reads as reads
-use Rattle.words.proofs.put_implication.Lts as lts
-use Rattle.words.proofs.negative.Reads as negative-reads
-use Rattle.words.proofs.positive.Reads as positive-reads
 
 -- the clause takes three words
 room : (c : tie.Start) → c .args .at + 3 ≤ length (now (c .args .out))
 room c = omega (arith, c .pre .2, size-2 (negated (c .args .a)) (bare (c .args .b)))
 
--- src/lib.rt:53:9
 negative-requires : tie.Need-negative-requires
 negative-requires c κs = search needs
 
--- src/lib.rt:54:9
 positive-requires : tie.Need-positive-requires
 positive-requires c κs = search needs
 
--- src/lib.rt:55:5
 mul-x : tie.Need-mul-x
 mul-x c = search needs
 
--- src/lib.rt:55:5
 slice-set-from-x : tie.Need-slice-set-from-x
 slice-set-from-x c = omega (arith, room (c .before .before))
 
--- src/lib.rt:56:9
 add-y : tie.Need-add-y
 add-y c = search needs
 
--- src/lib.rt:56:5
 mul-y : tie.Need-mul-y
 mul-y c = search needs
 
--- src/lib.rt:56:5
 slice-set-from-y : tie.Need-slice-set-from-y
 slice-set-from-y c = simp length-set (omega (arith, room (c .before .before)))
 
--- src/lib.rt:57:9
 add-out : tie.Need-add-out
 add-out c = search needs
 
--- src/lib.rt:57:5
 mul-out : tie.Need-mul-out
 mul-out c = search needs
 
--- src/lib.rt:57:5
 slice-set-of-out : tie.Need-slice-set-of-out
 slice-set-of-out c = simp length-set (omega (arith, room (c .before .before)))
 
--- src/lib.rt:58:5
 add-result : tie.Need-add-result
 add-result c = search needs
 
--- src/lib.rt:49:1
 same-length : tie.Need-same-length
 same-length c = search needs
 
--- src/lib.rt:49:1
 returns : tie.Need-returns
 returns c = clause-2 _ _ _ _ _ _ (c .before .negative .ensures) (c .positive .ensures) (search needs) (search needs) (c .before .before .pre .2)
 

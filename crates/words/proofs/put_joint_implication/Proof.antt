@@ -7,80 +7,59 @@ use Prim.Native.Nat.{_+_, _≤_}
 use borrow.Author.Needs.{needs}
 use Rattle.words.proofs.put_joint_implication.Statement.{statement}
 use Rattle.words.proofs.put_joint_implication.Tie as tie
-use Rattle.words.proofs.put_joint_implication.Reads as reads
-use Rattle.words.proofs.put_joint_implication.Lts as lts
-use Rattle.words.proofs.negative.Reads as negative-reads
-use Rattle.words.proofs.positive.Reads as positive-reads
 
 -- the clause takes four words
 room : (c : tie.Start) → c .args .at + 4 ≤ length (now (c .args .out))
 room c = omega (arith, c .pre .3, size-3 (negated (c .args .a)) (negated (c .args .b)) (bare (c .args .c)))
 
--- src/lib.rt:79:9
 negative-requires : tie.Need-negative-requires
 negative-requires c κs = search needs
 
--- src/lib.rt:80:9
 negative-requires-2 : tie.Need-negative-requires-2
 negative-requires-2 c κs = search needs
 
--- src/lib.rt:81:9
 positive-requires : tie.Need-positive-requires
 positive-requires c κs = search needs
 
--- src/lib.rt:82:5
 mul-x : tie.Need-mul-x
 mul-x c = search needs
 
--- src/lib.rt:82:5
 slice-set-from-x : tie.Need-slice-set-from-x
 slice-set-from-x c = omega (arith, room (c .before .before .before))
 
--- src/lib.rt:83:9
 add-y : tie.Need-add-y
 add-y c = search needs
 
--- src/lib.rt:83:5
 mul-y : tie.Need-mul-y
 mul-y c = search needs
 
--- src/lib.rt:83:5
 slice-set-from-y : tie.Need-slice-set-from-y
 slice-set-from-y c = simp length-set (omega (arith, room (c .before .before .before)))
 
--- src/lib.rt:84:9
 add-z : tie.Need-add-z
 add-z c = search needs
 
--- src/lib.rt:84:5
 mul-z : tie.Need-mul-z
 mul-z c = search needs
 
--- src/lib.rt:84:5
 slice-set-from-z : tie.Need-slice-set-from-z
 slice-set-from-z c = simp length-set (omega (arith, room (c .before .before .before)))
 
--- src/lib.rt:85:9
 add-out : tie.Need-add-out
 add-out c = search needs
 
--- src/lib.rt:85:5
 mul-out : tie.Need-mul-out
 mul-out c = search needs
 
--- src/lib.rt:85:5
 slice-set-of-out : tie.Need-slice-set-of-out
 slice-set-of-out c = simp length-set (omega (arith, room (c .before .before .before)))
 
--- src/lib.rt:86:5
 add-result : tie.Need-add-result
 add-result c = search needs
 
--- src/lib.rt:75:1
 same-length : tie.Need-same-length
 same-length c = search needs
 
--- src/lib.rt:75:1
 returns : tie.Need-returns
 returns c = clause-3 _ _ _ _ _ _ _ _ (c .before .before .negative .ensures) (c .before .negative2 .ensures) (c .positive .ensures) (search needs) (search needs) (search needs) (c .before .before .before .pre .3)
 

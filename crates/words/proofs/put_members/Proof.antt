@@ -10,9 +10,6 @@ use denote.Ref.{now}
 use lib.ListN.{length}
 use Rattle.words.proofs.put_members.Statement.{statement}
 use Rattle.words.proofs.put_members.Tie as tie
-use Rattle.words.proofs.put_members.Reads as reads
-use Rattle.words.proofs.put_members.Lts as lts
-use Rattle.words.proofs.positive.Reads as positive-reads
 
 abbrev Inv-loop : tie.InvT-loop
 Inv-loop b n out₀ at o₀ v₀ out o v = (v ≤ n) × (o ≡ at + v) × Put (map word (members b v)) out₀ out at o
@@ -24,59 +21,45 @@ abbrev μ-loop : tie.MeasureT-loop
 room : (c : tie.Start Inv-loop μ-loop) → c .args .at + (c .args .n + 1) ≤ length (now (c .args .out))
 room c = omega (arith, c .pre .1 .room, size-members (c .args .b) (c .args .n))
 
--- src/lib.rt:95:5
 loop-holds : tie.Need-loop-holds Inv-loop μ-loop
 loop-holds c = (search needs, search needs, rw (members-none (c .args .b)) (put-none _ _ (omega (arith, room c))))
 
--- src/lib.rt:96:26
 add-positive : tie.Need-add-positive Inv-loop μ-loop
 add-positive c = search needs
 
--- src/lib.rt:96:13
 positive-requires : tie.Need-positive-requires Inv-loop μ-loop
 positive-requires c κs = search needs
 
--- src/lib.rt:97:9
 mul-w : tie.Need-mul-w Inv-loop μ-loop
 mul-w c = search needs
 
--- src/lib.rt:97:9
 slice-set-from-w : tie.Need-slice-set-from-w Inv-loop μ-loop
 slice-set-from-w c = omega (arith, room (c .before .before .before))
 
--- src/lib.rt:98:9
 add-o : tie.Need-add-o Inv-loop μ-loop
 add-o c = search needs
 
--- src/lib.rt:95:9
 add-v : tie.Need-add-v Inv-loop μ-loop
 add-v c = search needs
 
--- src/lib.rt:95:5
 loop-less : tie.Need-loop-less Inv-loop μ-loop
 loop-less c = search needs
 
--- src/lib.rt:95:5
 loop-again : tie.Need-loop-again Inv-loop μ-loop
 loop-again c = (search needs, search needs, rw (members-more (c .before .before .before .args .b) (c .before .before .loop .v)) (put-then (c .before .before .loop .inv .2) (put-word _ _ _ (c .positive .ensures) (search needs) (omega (arith, room (c .before .before .before))))))
 
--- src/lib.rt:100:5
 mul-out : tie.Need-mul-out Inv-loop μ-loop
 mul-out c = search needs
 
--- src/lib.rt:100:5
 slice-set-of-out : tie.Need-slice-set-of-out Inv-loop μ-loop
 slice-set-of-out c = omega (arith, room (c .before .before))
 
--- src/lib.rt:101:5
 add-result : tie.Need-add-result Inv-loop μ-loop
 add-result c = search needs
 
--- src/lib.rt:90:1
 same-length : tie.Need-same-length Inv-loop μ-loop
 same-length c = search needs
 
--- src/lib.rt:90:1
 returns : tie.Need-returns Inv-loop μ-loop
 returns c =
     let done : c .before .loop .v ≡ c .before .before .args .n = omega arith in

@@ -7,47 +7,35 @@ use Prim.Native.Nat.{_+_, _≤_}
 use borrow.Author.Needs.{needs}
 use Rattle.words.proofs.put_negated_unit.Statement.{statement}
 use Rattle.words.proofs.put_negated_unit.Tie as tie
-use Rattle.words.proofs.put_negated_unit.Reads as reads
-use Rattle.words.proofs.put_negated_unit.Lts as lts
-use Rattle.words.proofs.negative.Reads as negative-reads
 
 -- the clause takes two words
 room : (c : tie.Start) → c .args .at + 2 ≤ length (now (c .args .out))
 room c = omega (arith, c .pre .1, size-1 (negated (c .args .a)))
 
--- src/lib.rt:42:9
 negative-requires : tie.Need-negative-requires
 negative-requires c κs = search needs
 
--- src/lib.rt:43:5
 mul-x : tie.Need-mul-x
 mul-x c = search needs
 
--- src/lib.rt:43:5
 slice-set-from-x : tie.Need-slice-set-from-x
 slice-set-from-x c = omega (arith, room (c .before))
 
--- src/lib.rt:44:9
 add-out : tie.Need-add-out
 add-out c = search needs
 
--- src/lib.rt:44:5
 mul-out : tie.Need-mul-out
 mul-out c = search needs
 
--- src/lib.rt:44:5
 slice-set-of-out : tie.Need-slice-set-of-out
 slice-set-of-out c = simp length-set (omega (arith, room (c .before)))
 
--- src/lib.rt:45:5
 add-result : tie.Need-add-result
 add-result c = search needs
 
--- src/lib.rt:38:1
 same-length : tie.Need-same-length
 same-length c = search needs
 
--- src/lib.rt:38:1
 returns : tie.Need-returns
 returns c = clause-1 _ _ _ _ (c .negative .ensures) (search needs) (c .before .pre .1)
 

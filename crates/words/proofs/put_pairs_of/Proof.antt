@@ -6,12 +6,8 @@ use Rattle.words.specs.Written.{Wrote}
 use Rattle.model.specs.Indexed.{each}
 use Prim.Native.Nat.{_+_, _-_, _≤_}
 use mathlib.Core.Path.{_≡_}
-use lib.ListN.{length}
 use Rattle.words.proofs.put_pairs_of.Statement.{statement}
 use Rattle.words.proofs.put_pairs_of.Tie as tie
-use Rattle.words.proofs.put_pairs_of.Reads as reads
-use Rattle.words.proofs.put_pairs_of.Lts as lts
-use Rattle.words.proofs.put_exclusion.Reads as put-exclusion-reads
 
 abbrev Inv-loop : tie.InvT-loop
 Inv-loop b n i out₀ at o₀ j₀ j-end out o j = (j ≤ j-end) × Wrote (each j (pair b i)) out₀ out o₀ o
@@ -19,55 +15,42 @@ Inv-loop b n i out₀ at o₀ j₀ j-end out o j = (j ≤ j-end) × Wrote (each 
 abbrev μ-loop : tie.MeasureT-loop
 μ-loop b n i out₀ at o₀ j₀ j-end out o j = j-end - j
 
--- src/lib.rt:110:22
 add-j-end : tie.Need-add-j-end Inv-loop μ-loop
 add-j-end c = search needs
 
--- src/lib.rt:110:17
 sub-j-end : tie.Need-sub-j-end Inv-loop μ-loop
 sub-j-end c = search needs
 
--- src/lib.rt:110:5
 loop-holds : tie.Need-loop-holds Inv-loop μ-loop
 loop-holds c = (omega arith, wrote-each-none _ _ _ (omega (arith, c .pre .2 .room)))
 
--- src/lib.rt:111:27
 add-put-exclusion : tie.Need-add-put-exclusion Inv-loop μ-loop
 add-put-exclusion c = search needs
 
--- src/lib.rt:111:34
 add-put-exclusion-2 : tie.Need-add-put-exclusion-2 Inv-loop μ-loop
 add-put-exclusion-2 c = search needs
 
--- src/lib.rt:111:34
 add-put-exclusion-3 : tie.Need-add-put-exclusion-3 Inv-loop μ-loop
 add-put-exclusion-3 c = search needs
 
--- src/lib.rt:111:34
 add-put-exclusion-4 : tie.Need-add-put-exclusion-4 Inv-loop μ-loop
 add-put-exclusion-4 c = search needs
 
--- src/lib.rt:111:9
 put-exclusion-requires : tie.Need-put-exclusion-requires Inv-loop μ-loop
 put-exclusion-requires c κs = (omega arith, omega arith, room-each _ _ _ (c .before .before .loop .inv .1) (c .before .loop-test .taken) (c .before .before .before .pre .2))
 
--- src/lib.rt:110:9
 add-j : tie.Need-add-j Inv-loop μ-loop
 add-j c = search needs
 
--- src/lib.rt:110:5
 loop-less : tie.Need-loop-less Inv-loop μ-loop
 loop-less c = search needs
 
--- src/lib.rt:110:5
 loop-again : tie.Need-loop-again Inv-loop μ-loop
 loop-again c = (omega arith, wrote-each _ _ (c .before .before .before .before .loop .inv .1) (c .before .put-exclusion .ensures))
 
--- src/lib.rt:105:1
 same-length : tie.Need-same-length Inv-loop μ-loop
 same-length c = search needs
 
--- src/lib.rt:105:1
 returns : tie.Need-returns Inv-loop μ-loop
 returns c =
     let done : c .before .loop .j ≡ c .before .before .args .n - (c .before .before .args .i + 1) = omega arith in
