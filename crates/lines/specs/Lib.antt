@@ -1,0 +1,4 @@
+pub mod Store
+pub mod Progress
+pub mod Lines
+pub mod Place

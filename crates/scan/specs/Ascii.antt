@@ -1,0 +1,10 @@
+-- The bytes of a quoted text.
+use Prim.Native.Nat.{ℕ}
+use mathlib.Core.List.{List, [], _∷_}
+use Prim.Native.String as S
+use Prim.Native.String.{String}
+use Prim.Native.Char.{code}
+
+abbrev pub ascii : String → List ℕ
+ascii S.[] = []
+ascii (S._∷_ c s) = code c ∷ ascii s

@@ -1,0 +1,69 @@
+-- The steps of the code after the last line.
+use Prim.Native.Nat.{ℕ, _+_, _≤_, _<_}
+use mathlib.Core.Path.{_≡_, sym, ap, _∙_}
+use mathlib.Core.List.{List}
+use mathlib.Core.Bool.{Bool, true, false, cond}
+use native.Mathlib.Omega.{arith}
+use native.Mathlib.Nat.{zero-add}
+use lib.ListN.{length, drop, length-drop}
+use lib.Dec.{eqb}
+use borrow.Author.Tests.{lt-ltb, le-ltb}
+use Rattle.scan.specs.Ascii.{ascii}
+use Rattle.scan.specs.Bytes.{firstAt, numberOf}
+use Rattle.scan.specs.Faulty.{lineTold, isNoFault}
+use Rattle.scan.specs.declared.NumberRead.{NumberRead}
+use Rattle.scan.proofs.Flags.{no-fault-number}
+use Rattle.model.specs.Record.{blankModel}
+use Rattle.lines.specs.declared.Reading.{Reading}
+use Rattle.lines.specs.Place.{progress}
+use Rattle.due.specs.declared.Due.{Due}
+use Rattle.due.specs.Place.{DueLine, valueIn}
+use Rattle.due.proofs.DueLaws.{found-is, line-end, value-is}
+use Rattle.sequence.specs.Place.{ReadsFrom}
+use Rattle.text.specs.declared.ReadOutcome.{ReadOutcome}
+use Rattle.text.specs.declared.ReadOutcome.the-variants.{Read, TooLong, BytesLeft}
+use Rattle.text.specs.declared.ReadAnswer.{ReadAnswer}
+use Rattle.text.specs.Text.{ReadReport, readEnded, readReport, readTold, Outcome}
+use Rattle.text.specs.Bound.{BoundReport, boundRefused, boundIn, boundReport}
+
+module _ (t : List ℕ) (r : Reading) {b : Bool} (is : b ≡ isNoFault (r .fault)) where
+  sound : (c : Bool) → b ≡ c → eqb (lineTold (r .fault)) 0 ≡ c
+  sound c h = no-fault-number (r .fault) ∙ sym is ∙ h
+
+  pub ended-refused : b ≡ false → (o : ReadOutcome) → Outcome (r .fault) (r .line) o → {a : ReadAnswer} → a ≡ record { outcome = o; model = blankModel } → readTold a ≡ readEnded (progress t r)
+  unfolding readEnded
+  ended-refused h o p e =
+      let k : isNoFault (r .fault) ≡ false = sym is ∙ h in
+      let line : cond (isNoFault (r .fault)) 0 (r .line) ≡ r .line = rw k in
+      ap readTold e ∙ rw (sound false h) (λ i. record { number = p .number-is i; line = (p .line-is ∙ line) i; model = blankModel })
+
+  pub ended-left : b ≡ true → r .at < length t → {a : ReadAnswer} → a ≡ record { outcome = BytesLeft (r .line); model = blankModel } → readTold a ≡ readEnded (progress t r)
+  unfolding readEnded
+  ended-left h l e = ap readTold e ∙ rw (sound true h, lt-ltb 0 (length (drop (r .at) t)) (omega (arith, length-drop (r .at) t)))
+
+  pub ended-read : b ≡ true → length t ≤ r .at → readTold (record { outcome = Read; model = r .model }) ≡ readEnded (progress t r)
+  unfolding readEnded
+  ended-read h l = rw (sound true h, le-ltb 0 (length (drop (r .at) t)) (omega (arith, length-drop (r .at) t)))
+
+pub read-long : (t : List ℕ) → 8192 < length t → {a : ReadAnswer} → a ≡ record { outcome = TooLong; model = blankModel } → readTold a ≡ readReport t
+unfolding readReport
+read-long t h e = ap readTold e ∙ rw (lt-ltb 8192 (length t) h)
+
+pub read-whole : (t : List ℕ) → length t ≤ 8192 → (r : Reading) → ReadsFrom t 0 r → {x : ReadReport} → x ≡ readEnded (progress t r) → x ≡ readReport t
+unfolding readReport
+read-whole t h r p e = e ∙ ap readEnded (p .is) ∙ rw (le-ltb 8192 (length t) h)
+
+-- ---- the bound line
+module _ (t : List ℕ) (d : Due) (p : DueLine (ascii "bound=") t 0 d) where
+  pub bound-other : d .found ≡ false → boundRefused ≡ boundReport t
+  unfolding boundReport
+  bound-other h = rw (sym (found-is (ascii "bound=") t 0 d (p .is)) ∙ h)
+
+  pub bound-found : d .found ≡ true → (n : NumberRead) → n ≡ numberOf (valueIn t d) → {b : BoundReport} → b ≡ boundIn n (d .end + 1) → b ≡ boundReport t
+  unfolding boundReport
+  bound-found h n q e =
+      let f = sym (found-is (ascii "bound=") t 0 d (p .is)) ∙ h in
+      e ∙ rw (f, q, value-is (ascii "bound=") t 0 d (p .is) h, end)
+    where
+      end : d .end ≡ firstAt 10 t
+      end = line-end (ascii "bound=") t 0 d (p .is) h ∙ zero-add (firstAt 10 t)

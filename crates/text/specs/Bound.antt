@@ -1,0 +1,35 @@
+-- The first line of a program's input: bound= and a number.
+use Prim.Native.Nat.{ℕ, _+_}
+use mathlib.Core.List.{List}
+use mathlib.Core.Bool.{cond}
+use Rattle.scan.specs.Ascii.{ascii}
+use Rattle.scan.specs.Bytes.{firstAt, isDue, valueOf, numberOf}
+use Rattle.scan.specs.declared.NumberRead.{NumberRead}
+use Rattle.scan.specs.declared.NumberRead.the-variants.{Malformed, Number}
+use Rattle.text.specs.declared.BoundRead.{BoundRead}
+use Rattle.text.specs.declared.BoundRead.the-variants.{NotABound, Bound}
+
+-- the number of the refusal, or 0; the bound; the place after the line, where the model text begins
+pub record BoundReport : Type 0 where
+  pub number : ℕ
+  pub bound : ℕ
+  pub next : ℕ
+
+abbrev pub boundRefused : BoundReport
+boundRefused = record { number = 9; bound = 0; next = 0 }
+
+abbrev pub boundAccepted : ℕ → ℕ → BoundReport
+boundAccepted n next = record { number = 0; bound = n; next = next }
+
+abbrev pub boundIn : NumberRead → ℕ → BoundReport
+boundIn Malformed next = boundRefused
+boundIn (Number n) next = boundAccepted n next
+
+-- 9 not bound= and a number (also for no LF)
+unfoldable pub boundReport : List ℕ → BoundReport
+boundReport t = cond (isDue (ascii "bound=") t) (boundIn (numberOf (valueOf (ascii "bound=") t)) (firstAt 10 t + 1)) boundRefused
+
+-- the number and the values of each case of the answer
+abbrev pub boundTold : BoundRead → BoundReport
+boundTold NotABound = boundRefused
+boundTold (Bound n next) = boundAccepted n next

@@ -1,0 +1,181 @@
+// The reader of a model text.
+use lines::Reading;
+use model::Model;
+use scan::LineFault;
+use scan::NumberRead;
+ghost use mathlib.Core.Path.{_≡_};
+ghost use Prim.Native.Nat.{_+_};
+ghost use Rattle.model.specs.Record.{blankModel};
+ghost use Rattle.lines.specs.Place.{progress};
+ghost use Rattle.sequence.specs.Place.{ReadsFrom};
+ghost use Rattle.text.specs.Text.{readEnded, readReport, readTold, Outcome, outcomeNumber, outcomeLine};
+ghost use Rattle.text.specs.Bound.{boundIn, boundReport, boundTold};
+
+// What became of a text. A line is counted from 1.
+pub enum ReadOutcome {
+    Read,
+    TooLong,
+    NotDue { line: usize },
+    NotOfItsForm { line: usize },
+    TooManyItems { line: usize },
+    OutOfRange { line: usize },
+    NotDeclared { line: usize },
+    NotRising { line: usize },
+    BytesLeft { line: usize },
+}
+
+// The model read, or the blank model.
+pub struct ReadAnswer {
+    pub outcome: ReadOutcome,
+    pub model: Model,
+}
+
+// The bound of the program's first line, and where the model text begins.
+pub enum BoundRead {
+    NotABound,
+    Bound { bound: u16, next: usize },
+}
+
+// A text and a place in it. The functions over it are thin; the work is done by functions on a slice and a place.
+pub struct Reader<'a> {
+    pub text: &'a [u8],
+    pub at: usize,
+}
+
+// At the start of the text.
+pub fn new<'a>(text: &'a [u8]) -> Reader<'a>
+    ensures { λ r. ⌜ (r .text ≡ text .entry) × (r .at ≡ 0) ⌝ }
+{
+    Reader { text, at: 0 }
+}
+
+// At another place of the same text.
+pub fn moved<'a>(r: Reader<'a>, at: usize) -> Reader<'a>
+    ensures { λ q. ⌜ (q .text ≡ r .entry .text) × (q .at ≡ at) ⌝ }
+{
+    Reader { text: r.text, at }
+}
+
+// The lines of a model from the reader's place on. The result says where it stopped.
+pub fn read<'a>(r: Reader<'a>) -> Reading
+    ensures { λ s. ⌜ ReadsFrom (now (r .entry .text)) (r .entry .at) s ⌝ }
+{
+    sequence::read_at(r.text, r.at)
+}
+
+// The lines of a model from the start of the text.
+pub fn read_first(text: &[u8]) -> Reading
+    ensures { λ s. ⌜ ReadsFrom (now (text .entry)) 0 s ⌝ }
+{
+    read(new(text))
+}
+
+fn outcome(fault: LineFault, line: usize) -> ReadOutcome
+    ensures { λ o. ⌜ Outcome fault line o ⌝ }
+{
+    match fault {
+        LineFault::NoFault => ReadOutcome::Read,
+        LineFault::NotDue => ReadOutcome::NotDue { line },
+        LineFault::NotOfItsForm => ReadOutcome::NotOfItsForm { line },
+        LineFault::TooManyItems => ReadOutcome::TooManyItems { line },
+        LineFault::OutOfRange => ReadOutcome::OutOfRange { line },
+        LineFault::NotDeclared => ReadOutcome::NotDeclared { line },
+        LineFault::NotRising => ReadOutcome::NotRising { line },
+    }
+}
+
+fn refused(outcome: ReadOutcome) -> ReadAnswer
+    ensures { λ a. ⌜ a ≡ record { outcome = outcome; model = blankModel } ⌝ }
+{
+    let model = Model::blank();
+    ReadAnswer { outcome, model }
+}
+
+// After the last line.
+fn ended(text: &[u8], r: Reading) -> ReadAnswer
+    ensures { λ a. ⌜ readTold a ≡ readEnded (progress (now (text .entry)) r) ⌝ }
+{
+    let fault = r.fault;
+    if !fault.is_none() {
+        return refused(outcome(fault, r.line));
+    }
+    if r.at < text.len() {
+        return refused(ReadOutcome::BytesLeft { line: r.line });
+    }
+    let model = r.model;
+    ReadAnswer {
+        outcome: ReadOutcome::Read,
+        model,
+    }
+}
+
+impl ReadAnswer {
+    // The longest text that is read.
+    pub const BYTES: usize = 8192;
+}
+
+// The whole text: 1, then its lines, then 8.
+pub fn read_model(text: &[u8]) -> ReadAnswer
+    ensures { λ a. ⌜ readTold a ≡ readReport (now (text .entry)) ⌝ }
+{
+    if ReadAnswer::BYTES < text.len() {
+        return refused(ReadOutcome::TooLong);
+    }
+    ended(text, read_first(text))
+}
+
+impl ReadOutcome {
+    pub fn number(self) -> u8
+        ensures { λ n. ⌜ n ≡ outcomeNumber self ⌝ }
+    {
+        match self {
+            ReadOutcome::Read => 0,
+            ReadOutcome::TooLong => 1,
+            ReadOutcome::NotDue { line: _ } => 2,
+            ReadOutcome::NotOfItsForm { line: _ } => 3,
+            ReadOutcome::OutOfRange { line: _ } => 4,
+            ReadOutcome::NotDeclared { line: _ } => 5,
+            ReadOutcome::NotRising { line: _ } => 6,
+            ReadOutcome::TooManyItems { line: _ } => 7,
+            ReadOutcome::BytesLeft { line: _ } => 8,
+        }
+    }
+
+    pub fn line(self) -> usize
+        ensures { λ n. ⌜ n ≡ outcomeLine self ⌝ }
+    {
+        match self {
+            ReadOutcome::Read => 0,
+            ReadOutcome::TooLong => 0,
+            ReadOutcome::NotDue { line } => line,
+            ReadOutcome::NotOfItsForm { line } => line,
+            ReadOutcome::OutOfRange { line } => line,
+            ReadOutcome::NotDeclared { line } => line,
+            ReadOutcome::NotRising { line } => line,
+            ReadOutcome::TooManyItems { line } => line,
+            ReadOutcome::BytesLeft { line } => line,
+        }
+    }
+}
+
+fn bound_in(n: NumberRead, next: usize) -> BoundRead
+    ensures { λ b. ⌜ boundTold b ≡ boundIn n next ⌝ }
+{
+    match n {
+        NumberRead::Malformed => BoundRead::NotABound,
+        NumberRead::Number(k) => BoundRead::Bound { bound: k, next },
+    }
+}
+
+// The first line of a program's input: 9.
+pub fn read_bound(text: &[u8]) -> BoundRead
+    ensures { λ b. ⌜ boundTold b ≡ boundReport (now (text .entry)) ⌝ }
+{
+    let d = due::due_at(text, 0, b"bound=");
+    if !d.found {
+        return BoundRead::NotABound;
+    }
+    let start = d.start;
+    let end = d.end;
+    bound_in(scan::number(&text[start..end]), end + 1)
+}

@@ -1,0 +1,143 @@
+-- Texts, and what reading each comes to: the worked cases of document 01, and a line for each way of being refused.
+use mathlib.Core.Path.{_≡_}
+use mathlib.Core.List.{List, [], _∷_}
+use Prim.Native.String.{String}
+use Rattle.scan.specs.Ascii.{ascii}
+use Rattle.text.specs.Text.{ReadReport, readRefused, readAccepted, readReport}
+use Rattle.text.specs.Bound.{BoundReport, boundRefused, boundAccepted, boundReport}
+use Rattle.samples.specs.Models.{modelA, modelB}
+
+-- ---- the worked models
+abbrev pub textA : String
+textA = "locations=2\ninit=0\ntarget=1\nclocks=0\nvars=0\ninv=-\ninv=-\nedges=1\nfrom=0\nto=1\nwhen=-\nset=-\nreset=-\n"
+
+abbrev pub textB : String
+textB = "locations=4\ninit=0\ntarget=3\nclocks=1\nvars=1\nvar=1,0\ninv=-\ninv=x0<=3\ninv=-\ninv=-\nedges=3\nfrom=0\nto=1\nwhen=-\nset=-\nreset=x0\nfrom=1\nto=2\nwhen=x0<=2\nset=v0:=v0+1\nreset=-\nfrom=1\nto=3\nwhen=x0>=3\nset=-\nreset=-\n"
+
+-- ---- texts
+pub record Reading : Type 0 where
+  pub text : String
+  pub report : ReadReport
+
+abbrev pub reading : String → ReadReport → Reading
+reading t r = record { text = t; report = r }
+
+-- every text is read as its row says
+abbrev pub EachRead : List Reading → Type 0
+EachRead [] = Unit {0}
+EachRead (r ∷ l) = (readReport (ascii (r .text)) ≡ r .report) × EachRead l
+
+unfoldable pub accepted : List Reading
+accepted = reading textA (readAccepted modelA) ∷ reading textB (readAccepted modelB) ∷ []
+
+unfoldable pub refused : List Reading
+refused =
+    -- 8 has the line after the last
+    reading "locations=2\ninit=0\ntarget=1\nclocks=0\nvars=0\ninv=-\ninv=-\nedges=1\nfrom=0\nto=1\nwhen=-\nset=-\nreset=-\nx" (readRefused 8 14) ∷
+    -- no LF at the end of the last line
+    reading "locations=2\ninit=0\ntarget=1\nclocks=0\nvars=0\ninv=-\ninv=-\nedges=1\nfrom=0\nto=1\nwhen=-\nset=-\nreset=-" (readRefused 2 13) ∷
+    -- the empty text
+    reading "" (readRefused 2 1) ∷
+    -- another key is due
+    reading "locations=2\ntarget=0\ntarget=1\nclocks=0\nvars=0\ninv=-\ninv=-\nedges=1\nfrom=0\nto=1\nwhen=-\nset=-\nreset=-\n" (readRefused 2 2) ∷
+    -- no =
+    reading "locations=2\ninit=0\ntarget=1\nclocks0\nvars=0\ninv=-\ninv=-\nedges=1\nfrom=0\nto=1\nwhen=-\nset=-\nreset=-\n" (readRefused 2 4) ∷
+    -- 0 locations
+    reading "locations=0\ninit=0\ntarget=1\nclocks=0\nvars=0\ninv=-\ninv=-\nedges=1\nfrom=0\nto=1\nwhen=-\nset=-\nreset=-\n" (readRefused 4 1) ∷
+    -- 17 locations
+    reading "locations=17\ninit=0\ntarget=1\nclocks=0\nvars=0\ninv=-\ninv=-\nedges=1\nfrom=0\nto=1\nwhen=-\nset=-\nreset=-\n" (readRefused 4 1) ∷
+    -- a number of four digits
+    reading "locations=1000\ninit=0\ntarget=1\nclocks=0\nvars=0\ninv=-\ninv=-\nedges=1\nfrom=0\nto=1\nwhen=-\nset=-\nreset=-\n" (readRefused 3 1) ∷
+    -- a number of three digits
+    reading "locations=999\ninit=0\ntarget=1\nclocks=0\nvars=0\ninv=-\ninv=-\nedges=1\nfrom=0\nto=1\nwhen=-\nset=-\nreset=-\n" (readRefused 4 1) ∷
+    -- a leading zero
+    reading "locations=02\ninit=0\ntarget=1\nclocks=0\nvars=0\ninv=-\ninv=-\nedges=1\nfrom=0\nto=1\nwhen=-\nset=-\nreset=-\n" (readRefused 3 1) ∷
+    -- a reference meets 5, never 4
+    reading "locations=2\ninit=999\ntarget=1\nclocks=0\nvars=0\ninv=-\ninv=-\nedges=1\nfrom=0\nto=1\nwhen=-\nset=-\nreset=-\n" (readRefused 5 2) ∷
+    -- an undeclared target
+    reading "locations=2\ninit=0\ntarget=2\nclocks=0\nvars=0\ninv=-\ninv=-\nedges=1\nfrom=0\nto=1\nwhen=-\nset=-\nreset=-\n" (readRefused 5 3) ∷
+    -- a hyphen where a number is due
+    reading "locations=2\ninit=0\ntarget=1\nclocks=0\nvars=-\ninv=-\ninv=-\nedges=1\nfrom=0\nto=1\nwhen=-\nset=-\nreset=-\n" (readRefused 3 5) ∷
+    -- CR is part of the value
+    reading "locations=2\ninit=0\ntarget=1\nclocks=0\nvars=0\r\ninv=-\ninv=-\nedges=1\nfrom=0\nto=1\nwhen=-\nset=-\nreset=-\n" (readRefused 3 5) ∷
+    -- 33 edges
+    reading "locations=2\ninit=0\ntarget=1\nclocks=0\nvars=0\ninv=-\ninv=-\nedges=33\nfrom=0\nto=1\nwhen=-\nset=-\nreset=-\n" (readRefused 4 8) ∷
+    -- an empty value
+    reading "locations=2\ninit=0\ntarget=1\nclocks=0\nvars=0\ninv=\ninv=-\nedges=1\nfrom=0\nto=1\nwhen=-\nset=-\nreset=-\n" (readRefused 3 6) ∷
+    -- x0<=30 taken, x0<=31 gives 4
+    reading "locations=4\ninit=0\ntarget=3\nclocks=1\nvars=1\nvar=1,0\ninv=-\ninv=x0<=31\ninv=-\ninv=-\nedges=3\nfrom=0\nto=1\nwhen=-\nset=-\nreset=x0\nfrom=1\nto=2\nwhen=x0<=2\nset=v0:=v0+1\nreset=-\nfrom=1\nto=3\nwhen=x0>=3\nset=-\nreset=-\n" (readRefused 4 8) ∷
+    -- five atoms give 7
+    reading "locations=4\ninit=0\ntarget=3\nclocks=1\nvars=1\nvar=1,0\ninv=-\ninv=x0<=3,x0<=3,x0<=3,x0<=3,x0<=3\ninv=-\ninv=-\nedges=3\nfrom=0\nto=1\nwhen=-\nset=-\nreset=x0\nfrom=1\nto=2\nwhen=x0<=2\nset=v0:=v0+1\nreset=-\nfrom=1\nto=3\nwhen=x0>=3\nset=-\nreset=-\n" (readRefused 7 8) ∷
+    -- five atoms with an undeclared clock and a constant out of range
+    reading "locations=4\ninit=0\ntarget=3\nclocks=1\nvars=1\nvar=1,0\ninv=-\ninv=x7<31,x0<=3,x0<=3,x0<=3,x0<=3\ninv=-\ninv=-\nedges=3\nfrom=0\nto=1\nwhen=-\nset=-\nreset=x0\nfrom=1\nto=2\nwhen=x0<=2\nset=v0:=v0+1\nreset=-\nfrom=1\nto=3\nwhen=x0>=3\nset=-\nreset=-\n" (readRefused 7 8) ∷
+    -- five atoms, one malformed
+    reading "locations=4\ninit=0\ntarget=3\nclocks=1\nvars=1\nvar=1,0\ninv=-\ninv=x0<=3,x0<=3,x0<=3,x0<=3,x0\ninv=-\ninv=-\nedges=3\nfrom=0\nto=1\nwhen=-\nset=-\nreset=x0\nfrom=1\nto=2\nwhen=x0<=2\nset=v0:=v0+1\nreset=-\nfrom=1\nto=3\nwhen=x0>=3\nset=-\nreset=-\n" (readRefused 3 8) ∷
+    -- a counter in inv
+    reading "locations=4\ninit=0\ntarget=3\nclocks=1\nvars=1\nvar=1,0\ninv=-\ninv=x0<=31,v9=1\ninv=-\ninv=-\nedges=3\nfrom=0\nto=1\nwhen=-\nset=-\nreset=x0\nfrom=1\nto=2\nwhen=x0<=2\nset=v0:=v0+1\nreset=-\nfrom=1\nto=3\nwhen=x0>=3\nset=-\nreset=-\n" (readRefused 3 8) ∷
+    -- != on a clock
+    reading "locations=4\ninit=0\ntarget=3\nclocks=1\nvars=1\nvar=1,0\ninv=-\ninv=x0<=3\ninv=-\ninv=-\nedges=3\nfrom=0\nto=1\nwhen=-\nset=-\nreset=x0\nfrom=1\nto=2\nwhen=x0!=2\nset=v0:=v0+1\nreset=-\nfrom=1\nto=3\nwhen=x0>=3\nset=-\nreset=-\n" (readRefused 3 19) ∷
+    -- out of range before undeclared
+    reading "locations=4\ninit=0\ntarget=3\nclocks=1\nvars=1\nvar=1,0\ninv=-\ninv=x0<=3\ninv=-\ninv=-\nedges=3\nfrom=0\nto=1\nwhen=-\nset=-\nreset=x0\nfrom=1\nto=2\nwhen=v9<40\nset=v0:=v0+1\nreset=-\nfrom=1\nto=3\nwhen=x0>=3\nset=-\nreset=-\n" (readRefused 4 19) ∷
+    -- an undeclared counter
+    reading "locations=4\ninit=0\ntarget=3\nclocks=1\nvars=1\nvar=1,0\ninv=-\ninv=x0<=3\ninv=-\ninv=-\nedges=3\nfrom=0\nto=1\nwhen=-\nset=-\nreset=x0\nfrom=1\nto=2\nwhen=v1!=31\nset=v0:=v0+1\nreset=-\nfrom=1\nto=3\nwhen=x0>=3\nset=-\nreset=-\n" (readRefused 5 19) ∷
+    -- x00
+    reading "locations=4\ninit=0\ntarget=3\nclocks=1\nvars=1\nvar=1,0\ninv=-\ninv=x0<=3\ninv=-\ninv=-\nedges=3\nfrom=0\nto=1\nwhen=-\nset=-\nreset=x0\nfrom=1\nto=2\nwhen=x00<=2\nset=v0:=v0+1\nreset=-\nfrom=1\nto=3\nwhen=x0>=3\nset=-\nreset=-\n" (readRefused 3 19) ∷
+    -- x1000
+    reading "locations=4\ninit=0\ntarget=3\nclocks=1\nvars=1\nvar=1,0\ninv=-\ninv=x0<=3\ninv=-\ninv=-\nedges=3\nfrom=0\nto=1\nwhen=-\nset=-\nreset=x0\nfrom=1\nto=2\nwhen=x1000<=2\nset=v0:=v0+1\nreset=-\nfrom=1\nto=3\nwhen=x0>=3\nset=-\nreset=-\n" (readRefused 3 19) ∷
+    -- x999
+    reading "locations=4\ninit=0\ntarget=3\nclocks=1\nvars=1\nvar=1,0\ninv=-\ninv=x0<=3\ninv=-\ninv=-\nedges=3\nfrom=0\nto=1\nwhen=-\nset=-\nreset=x0\nfrom=1\nto=2\nwhen=x999<=2\nset=v0:=v0+1\nreset=-\nfrom=1\nto=3\nwhen=x0>=3\nset=-\nreset=-\n" (readRefused 5 19) ∷
+    -- a hyphen beside items
+    reading "locations=4\ninit=0\ntarget=3\nclocks=1\nvars=1\nvar=1,0\ninv=-\ninv=x0<=3\ninv=-\ninv=-\nedges=3\nfrom=0\nto=1\nwhen=-\nset=-\nreset=x0\nfrom=1\nto=2\nwhen=-,x0<=2\nset=v0:=v0+1\nreset=-\nfrom=1\nto=3\nwhen=x0>=3\nset=-\nreset=-\n" (readRefused 3 19) ∷
+    -- initial above greatest
+    reading "locations=4\ninit=0\ntarget=3\nclocks=1\nvars=1\nvar=1,2\ninv=-\ninv=x0<=3\ninv=-\ninv=-\nedges=3\nfrom=0\nto=1\nwhen=-\nset=-\nreset=x0\nfrom=1\nto=2\nwhen=x0<=2\nset=v0:=v0+1\nreset=-\nfrom=1\nto=3\nwhen=x0>=3\nset=-\nreset=-\n" (readRefused 4 6) ∷
+    -- greatest above 31
+    reading "locations=4\ninit=0\ntarget=3\nclocks=1\nvars=1\nvar=32,0\ninv=-\ninv=x0<=3\ninv=-\ninv=-\nedges=3\nfrom=0\nto=1\nwhen=-\nset=-\nreset=x0\nfrom=1\nto=2\nwhen=x0<=2\nset=v0:=v0+1\nreset=-\nfrom=1\nto=3\nwhen=x0>=3\nset=-\nreset=-\n" (readRefused 4 6) ∷
+    -- one number
+    reading "locations=4\ninit=0\ntarget=3\nclocks=1\nvars=1\nvar=1\ninv=-\ninv=x0<=3\ninv=-\ninv=-\nedges=3\nfrom=0\nto=1\nwhen=-\nset=-\nreset=x0\nfrom=1\nto=2\nwhen=x0<=2\nset=v0:=v0+1\nreset=-\nfrom=1\nto=3\nwhen=x0>=3\nset=-\nreset=-\n" (readRefused 3 6) ∷
+    -- three numbers
+    reading "locations=4\ninit=0\ntarget=3\nclocks=1\nvars=1\nvar=1,0,0\ninv=-\ninv=x0<=3\ninv=-\ninv=-\nedges=3\nfrom=0\nto=1\nwhen=-\nset=-\nreset=x0\nfrom=1\nto=2\nwhen=x0<=2\nset=v0:=v0+1\nreset=-\nfrom=1\nto=3\nwhen=x0>=3\nset=-\nreset=-\n" (readRefused 3 6) ∷
+    -- -0
+    reading "locations=4\ninit=0\ntarget=3\nclocks=1\nvars=1\nvar=1,0\ninv=-\ninv=x0<=3\ninv=-\ninv=-\nedges=3\nfrom=0\nto=1\nwhen=-\nset=-\nreset=x0\nfrom=1\nto=2\nwhen=x0<=2\nset=v0:=v0-0\nreset=-\nfrom=1\nto=3\nwhen=x0>=3\nset=-\nreset=-\n" (readRefused 3 20) ∷
+    -- no offset
+    reading "locations=4\ninit=0\ntarget=3\nclocks=1\nvars=1\nvar=1,0\ninv=-\ninv=x0<=3\ninv=-\ninv=-\nedges=3\nfrom=0\nto=1\nwhen=-\nset=-\nreset=x0\nfrom=1\nto=2\nwhen=x0<=2\nset=v0:=v0\nreset=-\nfrom=1\nto=3\nwhen=x0>=3\nset=-\nreset=-\n" (readRefused 3 20) ∷
+    -- offset 32
+    reading "locations=4\ninit=0\ntarget=3\nclocks=1\nvars=1\nvar=1,0\ninv=-\ninv=x0<=3\ninv=-\ninv=-\nedges=3\nfrom=0\nto=1\nwhen=-\nset=-\nreset=x0\nfrom=1\nto=2\nwhen=x0<=2\nset=v0:=v0-32\nreset=-\nfrom=1\nto=3\nwhen=x0>=3\nset=-\nreset=-\n" (readRefused 4 20) ∷
+    -- constant 32
+    reading "locations=4\ninit=0\ntarget=3\nclocks=1\nvars=1\nvar=1,0\ninv=-\ninv=x0<=3\ninv=-\ninv=-\nedges=3\nfrom=0\nto=1\nwhen=-\nset=-\nreset=x0\nfrom=1\nto=2\nwhen=x0<=2\nset=v0:=32\nreset=-\nfrom=1\nto=3\nwhen=x0>=3\nset=-\nreset=-\n" (readRefused 4 20) ∷
+    -- 5 before 6
+    reading "locations=4\ninit=0\ntarget=3\nclocks=1\nvars=1\nvar=1,0\ninv=-\ninv=x0<=3\ninv=-\ninv=-\nedges=3\nfrom=0\nto=1\nwhen=-\nset=-\nreset=x0\nfrom=1\nto=2\nwhen=x0<=2\nset=v1:=1,v0:=v9+0\nreset=-\nfrom=1\nto=3\nwhen=x0>=3\nset=-\nreset=-\n" (readRefused 5 20) ∷
+    -- a counter set twice
+    reading "locations=4\ninit=0\ntarget=3\nclocks=1\nvars=1\nvar=1,0\ninv=-\ninv=x0<=3\ninv=-\ninv=-\nedges=3\nfrom=0\nto=1\nwhen=-\nset=-\nreset=x0\nfrom=1\nto=2\nwhen=x0<=2\nset=v0:=1,v0:=0\nreset=-\nfrom=1\nto=3\nwhen=x0>=3\nset=-\nreset=-\n" (readRefused 6 20) ∷
+    -- five items in set meet 6, not 7
+    reading "locations=4\ninit=0\ntarget=3\nclocks=1\nvars=1\nvar=1,0\ninv=-\ninv=x0<=3\ninv=-\ninv=-\nedges=3\nfrom=0\nto=1\nwhen=-\nset=-\nreset=x0\nfrom=1\nto=2\nwhen=x0<=2\nset=v0:=1,v0:=0,v0:=0,v0:=0,v0:=0\nreset=-\nfrom=1\nto=3\nwhen=x0>=3\nset=-\nreset=-\n" (readRefused 6 20) ∷
+    -- a clock reset twice
+    reading "locations=4\ninit=0\ntarget=3\nclocks=1\nvars=1\nvar=1,0\ninv=-\ninv=x0<=3\ninv=-\ninv=-\nedges=3\nfrom=0\nto=1\nwhen=-\nset=-\nreset=x0,x0\nfrom=1\nto=2\nwhen=x0<=2\nset=v0:=v0+1\nreset=-\nfrom=1\nto=3\nwhen=x0>=3\nset=-\nreset=-\n" (readRefused 6 16) ∷
+    -- an undeclared clock reset
+    reading "locations=4\ninit=0\ntarget=3\nclocks=1\nvars=1\nvar=1,0\ninv=-\ninv=x0<=3\ninv=-\ninv=-\nedges=3\nfrom=0\nto=1\nwhen=-\nset=-\nreset=x1,x0\nfrom=1\nto=2\nwhen=x0<=2\nset=v0:=v0+1\nreset=-\nfrom=1\nto=3\nwhen=x0>=3\nset=-\nreset=-\n" (readRefused 5 16) ∷
+    []
+
+-- ---- bound lines
+pub record BoundReading : Type 0 where
+  pub text : String
+  pub report : BoundReport
+
+abbrev pub bound : String → BoundReport → BoundReading
+bound t r = record { text = t; report = r }
+
+abbrev pub EachBound : List BoundReading → Type 0
+EachBound [] = Unit {0}
+EachBound (r ∷ l) = (boundReport (ascii (r .text)) ≡ r .report) × EachBound l
+
+unfoldable pub bounds : List BoundReading
+bounds =
+    -- A bound
+    bound "bound=64\nx" (boundAccepted 64 9) ∷
+    -- no LF
+    bound "bound=64" boundRefused ∷
+    -- four digits
+    bound "bound=1000\n" boundRefused ∷
+    -- a leading zero
+    bound "bound=064\n" boundRefused ∷
+    -- another key
+    bound "bounds=6\n" boundRefused ∷
+    []

@@ -1,0 +1,4 @@
+pub mod Parts
+pub mod Signed
+pub mod Stages
+pub mod UpdatesFormed
