@@ -1,0 +1,108 @@
+-- The steps of the code: each case of the answer is the one that the definition gives.
+use Prim.Native.Nat.{ℕ, _+_, _≤_}
+use mathlib.Core.Path.{_≡_, refl, sym, ap, _∙_}
+use mathlib.Core.List.{List}
+use mathlib.Core.Bool.{Bool, true, false, cond, _&&_}
+use native.Mathlib.Omega.{arith}
+use lib.Dec.{eqb, ltb}
+use lib.IntN.{ℤ}
+use lib.ListN.{length, drop}
+use borrow.Author.Tests.{eq-eqb, ne-eqb, ltb-true}
+use Rattle.scan.specs.Ascii.{ascii}
+use Rattle.scan.specs.Bytes.{firstAt, isDue, valueOf, numberOf}
+use Rattle.scan.specs.declared.NumberRead.{NumberRead}
+use Rattle.scan.specs.declared.NumberRead.the-variants.{Malformed, Number}
+use Rattle.text.specs.Bound.{BoundReport, boundRefused, boundAccepted, boundIn, boundReport, boundTold}
+use Rattle.text.specs.Text.{ReadReport, readReport, readTold, outcomeNumber, outcomeLine}
+use Rattle.text.specs.declared.ReadAnswer.{ReadAnswer}
+use Rattle.text.specs.declared.BoundRead.{BoundRead}
+use Rattle.text.specs.declared.BoundRead.the-variants.{NotABound, Bound}
+use Rattle.emission.specs.EmitCall.{emitReport, emitLeft, emitTold}
+use Rattle.emission.specs.declared.Emission.{Emission}
+use Rattle.sizing.specs.SizeCall.{SizeReport, refusedSizes, emittedSizes, textSizes, textLeft, boundSizes, boundLeft, sizeReport, sizeLeft}
+
+-- ---- emission's answer
+pub told-is : {e f : Emission} → e ≡ f → {r : SizeReport} → r ≡ emittedSizes (emitTold f) → r ≡ emittedSizes (emitTold e)
+told-is q p = p ∙ ap (λ (x : Emission). emittedSizes (emitTold x)) (sym q)
+
+-- ---- the text
+module _ (t : List ℕ) (a : ReadAnswer) (is : readTold a ≡ readReport t) (k : ℕ) (out : List ℤ) (n : ℕ) (number : n ≡ outcomeNumber (a .outcome)) where
+  sizes-as : (r : SizeReport) → r ≡ textSizes (readTold a) k (length out) → r ≡ textSizes (readReport t) k (length out)
+  sizes-as r h = h ∙ ap (λ (x : ReadReport). textSizes x k (length out)) is
+
+  left-as : (o : List ℤ) → o ≡ textLeft (readTold a) k out → o ≡ textLeft (readReport t) k out
+  left-as o h = h ∙ ap (λ (x : ReadReport). textLeft x k out) is
+
+  module _ (f : eqb (outcomeNumber (a .outcome)) 0 ≡ false) where
+    refused-sizes : refusedSizes (outcomeNumber (a .outcome)) (outcomeLine (a .outcome)) ≡ textSizes (readTold a) k (length out)
+    unfolding textSizes
+    refused-sizes = rw f
+
+    refused-left : out ≡ textLeft (readTold a) k out
+    unfolding textLeft
+    refused-left = rw f
+
+  module _ (f : eqb (outcomeNumber (a .outcome)) 0 ≡ true) where
+    emitted-sizes : emittedSizes (emitReport (a .model) k (length out)) ≡ textSizes (readTold a) k (length out)
+    unfolding textSizes
+    emitted-sizes = rw f
+
+    emitted-left : emitLeft (a .model) k (length out) out ≡ textLeft (readTold a) k out
+    unfolding textLeft
+    emitted-left = rw f
+
+  pub text-refused : (n ≡ 0 → ⊥) → (l : ℕ) → l ≡ outcomeLine (a .outcome) → (r : SizeReport) → r ≡ refusedSizes n l → (r ≡ textSizes (readReport t) k (length out)) × (out ≡ textLeft (readReport t) k out)
+  text-refused ne l line r e =
+      let f : eqb (outcomeNumber (a .outcome)) 0 ≡ false = ap (λ (x : ℕ). eqb x 0) (sym number) ∙ ne-eqb n 0 ne in
+      (sizes-as r (e ∙ (λ i. refusedSizes (number i) (line i)) ∙ refused-sizes f), left-as out (refused-left f))
+
+  pub text-emitted : n ≡ 0 → (e : Emission) → emitTold e ≡ emitReport (a .model) k (length out) → (o : List ℤ) → o ≡ emitLeft (a .model) k (length out) out → (r : SizeReport) → r ≡ emittedSizes (emitTold e) → (r ≡ textSizes (readReport t) k (length out)) × (o ≡ textLeft (readReport t) k out)
+  text-emitted z e told o left r p =
+      let f : eqb (outcomeNumber (a .outcome)) 0 ≡ true = ap (λ (x : ℕ). eqb x 0) (sym number) ∙ eq-eqb n 0 z in
+      (sizes-as r (p ∙ ap emittedSizes told ∙ emitted-sizes f), left-as o (left ∙ emitted-left f))
+
+-- ---- the bound line
+sizes-at : (t : List ℕ) (room : ℕ) (b : BoundReport) → boundReport t ≡ b → boundSizes b t room ≡ sizeReport t room
+unfolding sizeReport
+sizes-at t room b h = ap (λ (x : BoundReport). boundSizes x t room) (sym h)
+
+left-at : (t : List ℕ) (out : List ℤ) (b : BoundReport) → boundReport t ≡ b → boundLeft b t out ≡ sizeLeft t out
+unfolding sizeLeft
+left-at t out b h = ap (λ (x : BoundReport). boundLeft x t out) (sym h)
+
+-- an accepted bound line ends within the input
+refused-absurd : {A : Type 0} {n next : ℕ} → boundRefused ≡ boundAccepted n next → A
+refused-absurd h = let q : _≡_ {A = ℕ} 9 0 = ap (λ (r : BoundReport). r .number) h in absurd (omega (arith, q))
+
+accepted-cases : (d : Bool) (x : NumberRead) (e n next : ℕ) → cond d (boundIn x e) boundRefused ≡ boundAccepted n next → (d ≡ true) × (e ≡ next)
+accepted-cases true Malformed e n next h = refused-absurd h
+accepted-cases true (Number k) e n next h = (refl, ap (λ (r : BoundReport). r .next) h)
+accepted-cases false x e n next h = refused-absurd h
+
+left-true : (x y : Bool) → (x && y) ≡ true → x ≡ true
+left-true true y h = refl
+left-true false y h = h
+
+due-ended : (key t : List ℕ) → isDue key t ≡ true → ltb (firstAt 10 t) (length t) ≡ true
+unfolding isDue
+due-ended key t h = left-true _ _ h
+
+pub next-within : (t : List ℕ) (n next : ℕ) → boundReport t ≡ boundAccepted n next → next ≤ length t
+unfolding boundReport
+next-within t n next h =
+    let c = accepted-cases (isDue (ascii "bound=") t) (numberOf (valueOf (ascii "bound=") t)) (firstAt 10 t + 1) n next h in
+    omega (arith, ltb-true (firstAt 10 t) (length t) (due-ended (ascii "bound=") t (c .0)), c .1)
+
+module _ (t : List ℕ) (b : BoundRead) (is : boundTold b ≡ boundReport t) where
+  pub accepted-is : (n next : ℕ) → b ≡ Bound n next → boundReport t ≡ boundAccepted n next
+  accepted-is n next q = sym is ∙ ap boundTold q
+
+  pub bound-refused : b ≡ NotABound → (out : List ℤ) (r : SizeReport) → r ≡ refusedSizes 9 0 → (r ≡ sizeReport t (length out)) × (out ≡ sizeLeft t out)
+  bound-refused q out r e =
+      let h : boundReport t ≡ boundRefused = sym is ∙ ap boundTold q in
+      (e ∙ sizes-at t (length out) boundRefused h, left-at t out boundRefused h)
+
+  pub bound-accepted : (n next : ℕ) → b ≡ Bound n next → (s : List ℕ) → s ≡ drop next t → (out o : List ℤ) (r : SizeReport) → (r ≡ textSizes (readReport s) n (length out)) × (o ≡ textLeft (readReport s) n out) → (r ≡ sizeReport t (length out)) × (o ≡ sizeLeft t out)
+  bound-accepted n next q s part out o r e =
+      let h = accepted-is n next q in
+      (e .0 ∙ ap (λ (x : List ℕ). textSizes (readReport x) n (length out)) part ∙ sizes-at t (length out) (boundAccepted n next) h, e .1 ∙ ap (λ (x : List ℕ). textLeft (readReport x) n out) part ∙ left-at t out (boundAccepted n next) h)

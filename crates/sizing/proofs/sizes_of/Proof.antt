@@ -1,0 +1,59 @@
+use Rattle.sizing.proofs.SizeLaws.{next-within, accepted-is, bound-refused, bound-accepted}
+use Rattle.scan.proofs.Bytewise.{part-to-end}
+use denote.Ref.{now}
+use borrow.Author.Needs.{needs}
+use Rattle.sizing.proofs.sizes_of.Statement.{statement}
+use Rattle.sizing.proofs.sizes_of.Tie as tie
+
+read-bound-requires : tie.Need-read-bound-requires
+read-bound-requires c κs = search needs
+
+enum-told : tie.Need-enum-told
+enum-told c = search needs
+
+refused-requires : tie.Need-refused-requires
+refused-requires c κs = search needs
+
+enum-known-first : tie.Need-enum-known-first
+enum-known-first c = search needs
+
+sub-text-sizes : tie.Need-sub-text-sizes
+sub-text-sizes c = next-within _ _ _ (accepted-is (now (c .before .before .before .before .before .args .input)) (c .before .before .before .read-bound .result) (c .before .before .before .read-bound .ensures) _ _ (c .before .first .given .1))
+
+part-text-sizes-start : tie.Need-part-text-sizes-start
+part-text-sizes-start c = next-within _ _ _ (accepted-is (now (c .before .before .before .before .before .args .input)) (c .before .before .before .read-bound .result) (c .before .before .before .read-bound .ensures) _ _ (c .before .first .given .1))
+
+part-text-sizes-end : tie.Need-part-text-sizes-end
+part-text-sizes-end c = search needs
+
+cast-text-sizes : tie.Need-cast-text-sizes
+cast-text-sizes c = search needs
+
+text-sizes-requires : tie.Need-text-sizes-requires
+text-sizes-requires c κs = search needs
+
+returns : tie.Need-returns
+returns c = bound-refused (now (c .before .before .before .before .before .args .input)) (c .before .before .before .read-bound .result) (c .before .before .before .read-bound .ensures) (c .before .enum-told .given .1) (now (c .before .before .before .before .before .args .out)) _ (c .refused .ensures)
+
+same-length : tie.Need-same-length
+same-length c = search needs
+
+returns-2 : tie.Need-returns-2
+returns-2 c = bound-accepted (now (c .before .before .before .before .before .before .before .before .before .args .input)) (c .before .before .before .before .before .before .before .read-bound .result) (c .before .before .before .before .before .before .before .read-bound .ensures) _ _ (c .before .before .before .before .before .first .given .1) _ (part-to-end (now (c .before .before .before .before .before .before .before .before .before .args .input)) _) (now (c .before .before .before .before .before .before .before .before .before .args .out)) _ _ (c .before .text-sizes .ensures)
+
+pub sizes-of-spec : {M : Type 1} → statement M
+sizes-of-spec =
+    tie.close
+    (tie.spec
+    read-bound-requires
+    enum-told
+    refused-requires
+    enum-known-first
+    sub-text-sizes
+    part-text-sizes-start
+    part-text-sizes-end
+    cast-text-sizes
+    text-sizes-requires
+    returns
+    same-length
+    returns-2)
