@@ -1,9 +1,10 @@
-// Cases of the model layer, read from standard input, a line each: docs/TESTING.md says what a line means.
+// Cases of the calls with a record, read from standard input, a line each: docs/TESTING.md says what a line means.
 // A line that begins with # is written out again, and each question writes the numbers of its answer.
 use model::Model;
 use numbers::Numbers;
 
 mod answers;
+mod calls;
 mod numbers;
 mod records;
 
@@ -19,6 +20,10 @@ fn command(m: Model, n: Numbers) -> Model {
         12 => answers::totals_for(m, values[1]),
         13 => answers::walked(m, values, n.last),
         14 => answers::stepped(m, values),
+        15 => calls::counted(m, values[1]),
+        16 => calls::emitted(m, values[1], values[2], values[3]),
+        17 => calls::encoded(m, values, n.last),
+        18 => calls::decoded(m, values, n.last),
         _ => answers::unknown(),
     }
     m

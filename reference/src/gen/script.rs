@@ -8,11 +8,17 @@
 //! its sort (0 none, 1 clock, 2 counter), index, relation and constant; an update
 //! its sort (0 keep, 1 constant, 2 sum), number and offset plus 32. Questions:
 //! `10` refusal; `11` refusal and ceiling; `12 BOUND` refusal, S, H, N; `13 RUN`
-//! refusal and place; `14 STATE BYTE` refusal and state. A line that begins with
-//! `#` is written out again.
+//! refusal and place; `14 STATE BYTE` refusal and state; `15 BOUND` refusal and
+//! totals of the list; `16 BOUND HIGH LOW` the same for an emission of at most
+//! HIGH times 256 plus LOW words, and the words; `17 RUN` refusal and place of the
+//! run as an assignment, and the assignment; `18 BOUND BYTES` refusal and place of
+//! the assignment as a run, and the run. A line that begins with `#` is written
+//! out again.
 
 use super::rng::Rng;
 use super::{models, records, runs};
+use crate::assign::{decode, encode};
+use crate::list::{emit, totals};
 use crate::model::{
     ceiling, choice_length, state_length, test_record, test_record_and_bound, variables, Atom,
     Counter, Edge, Model, Relation, Update, MAX_BOUND,
@@ -20,6 +26,13 @@ use crate::model::{
 use crate::refusal::number_and_place;
 use crate::state::State;
 use crate::step::{step_call, walk};
+
+/// Words that the program lends, and what they hold before.
+const MOST_WORDS: u32 = 16_384;
+const LENT_WORD: i32 = 77_777;
+/// Bytes that the program lends for an assignment, and what they hold before.
+const ASSIGNMENT_BYTES: usize = 4_096;
+const LENT_BYTE: u8 = 255;
 
 /// What goes in and what must come out.
 #[derive(Default)]
@@ -35,6 +48,15 @@ impl Script {
 
     fn answer(&mut self, numbers: &[u32]) {
         push_line(&mut self.answers, numbers);
+    }
+
+    /// What a lent buffer holds: a space before each value.
+    fn answer_values<'a, T: 'a + ToString>(&mut self, values: impl Iterator<Item = &'a T>) {
+        for value in values {
+            self.answers.push(' ');
+            self.answers.push_str(&value.to_string());
+        }
+        self.answers.push('\n');
     }
 }
 
@@ -52,10 +74,13 @@ pub fn script(seed: u64) -> Script {
     let heading = format!("# seed={seed}\n");
     script.input.push_str(&heading);
     script.answers.push_str(&heading);
-    match rng.below(3) {
+    match rng.below(6) {
         0 => ask_record(&mut rng, &mut script),
         1 => ask_step(&mut rng, &mut script),
-        _ => ask_run(&mut rng, &mut script),
+        2 => ask_run(&mut rng, &mut script),
+        3 => ask_list(&mut rng, &mut script),
+        4 => ask_encoding(&mut rng, &mut script),
+        _ => ask_decoding(&mut rng, &mut script),
     }
     script
 }
@@ -127,6 +152,67 @@ fn ask_run(rng: &mut Rng, script: &mut Script) {
     script.tell(&question);
     let (number, place) = walk(&model, &run);
     script.answer(&[number, place]);
+}
+
+fn ask_list(rng: &mut Rng, script: &mut Script) {
+    let model = if rng.one_in(8) {
+        records::record(rng)
+    } else {
+        models::any_model(rng)
+    };
+    if !build(&model, script) {
+        return;
+    }
+    let bound = rng.pick(&[0, 1, 1, 2, 3, MAX_BOUND, MAX_BOUND + 1]);
+    let outcome = totals(&model, bound);
+    let (number, _) = number_and_place(&outcome);
+    let counted = outcome.unwrap_or_default();
+    script.tell(&[15, bound as u32]);
+    script.answer(&[number, counted.variables, counted.clauses, counted.words]);
+    let exact = counted.words.min(MOST_WORDS);
+    let limit = rng.pick(&[exact, exact.saturating_sub(1), MOST_WORDS]);
+    script.tell(&[16, bound as u32, limit / 256, limit % 256]);
+    let mut buffer = vec![LENT_WORD; limit as usize];
+    let told = emit(&model, bound, &mut buffer);
+    script.answer(&[
+        told.refusal,
+        told.totals.variables,
+        told.totals.clauses,
+        told.totals.words,
+    ]);
+    let written = buffer.iter().take_while(|&&word| word != LENT_WORD);
+    script.answer_values(written);
+}
+
+fn ask_encoding(rng: &mut Rng, script: &mut Script) {
+    let (mut model, run) = runs::model_and_run(rng);
+    if rng.one_in(16) {
+        records::damage(rng, &mut model);
+    }
+    if run.len() > MAX_BOUND + 8 || !build(&model, script) {
+        return;
+    }
+    let mut question = vec![17];
+    question.extend(run.iter().map(|&byte| u32::from(byte)));
+    script.tell(&question);
+    let mut buffer = vec![LENT_BYTE; ASSIGNMENT_BYTES];
+    let (number, place) = encode(&model, &run, &mut buffer);
+    script.answer(&[number, place]);
+    script.answer_values(buffer.iter().take_while(|&&byte| byte != LENT_BYTE));
+}
+
+fn ask_decoding(rng: &mut Rng, script: &mut Script) {
+    let (model, bound, assignment) = runs::model_and_assignment(rng, 6);
+    if assignment.len() > 70 || !build(&model, script) {
+        return;
+    }
+    let mut question = vec![18, bound as u32];
+    question.extend(assignment.iter().map(|&byte| u32::from(byte)));
+    script.tell(&question);
+    let mut buffer = vec![LENT_BYTE; MAX_BOUND];
+    let (number, place) = decode(&model, bound, &assignment, &mut buffer);
+    script.answer(&[number, place]);
+    script.answer_values(buffer.iter().take_while(|&&byte| byte != LENT_BYTE));
 }
 
 /// Location, counters, clocks.
