@@ -92,6 +92,7 @@ pub struct Model {
 }
 
 // A state: the location, and what each counter and each clock shows. A slot that is not declared shows 0.
+#[repr(C)]
 pub struct State {
     pub location: u8,
     pub counters: [u8; Model::COUNTERS],

@@ -11,6 +11,7 @@ ghost use Rattle.text.specs.Text.{readReport};
 ghost use Rattle.sizing.specs.SizeCall.{refusedSizes, emittedSizes, textSizes, textLeft, sizeReport, sizeLeft, sizeTold};
 
 // The number of the refusal, or 0; the line of the model text, or 0; the totals of the list.
+#[repr(C)]
 pub struct SizeAnswer {
     pub number: u8,
     pub line: usize,
@@ -59,7 +60,7 @@ fn emitted(e: Emission) -> SizeAnswer
 }
 
 // The text, then 21, then 22.
-fn text_sizes(text: &[u8], bound: usize, out: &mut [i32]) -> SizeAnswer
+pub fn text_sizes(text: &[u8], bound: usize, out: &mut [i32]) -> SizeAnswer
     ensures { λ r. ⌜ (sizeTold r ≡ textSizes (readReport (now (text .entry))) bound (length (now (out .entry)))) × (now (out .exit) ≡ textLeft (readReport (now (text .entry))) bound (now (out .entry))) ⌝ }
 {
     let read = read_model(text);
