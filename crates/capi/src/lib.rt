@@ -62,10 +62,13 @@ pub extern "C" fn wirdoku_read(text: &[u8]) -> Answer
 {
     let read = read_model(text);
     let outcome = read.outcome;
-    Answer {
-        number: outcome.number(),
-        place: outcome.line(),
-    }
+    told(outcome.number(), outcome.line())
+}
+
+fn told(number: u8, place: usize) -> Answer
+    ensures { λ r. ⌜ r ≡ record { number = number; place = place } ⌝ }
+{
+    Answer { number, place }
 }
 
 fn shape_of(m: Model) -> Shape
@@ -179,6 +182,16 @@ pub extern "C" fn wirdoku_size(input: &[u8], out: &mut [i32]) -> SizeAnswer
     sizes_of(input, out)
 }
 
+fn state_answer(number: u8, line: usize, state: State) -> StateAnswer
+    ensures { λ r. ⌜ r ≡ stateAnswer number line state ⌝ }
+{
+    StateAnswer {
+        number,
+        line,
+        state,
+    }
+}
+
 fn zero_state() -> State
     ensures { λ r. ⌜ r ≡ zeroState ⌝ }
 {
@@ -198,21 +211,10 @@ pub extern "C" fn wirdoku_initial(text: &[u8]) -> StateAnswer
     let outcome = read.outcome;
     let number = outcome.number();
     if number != 0 {
-        let line = outcome.line();
-        let state = zero_state();
-        return StateAnswer {
-            number,
-            line,
-            state,
-        };
+        return state_answer(number, outcome.line(), zero_state());
     }
     let model = read.model;
-    let state = model.initial_state();
-    StateAnswer {
-        number: 0,
-        line: 0,
-        state,
-    }
+    state_answer(0, 0, model.initial_state())
 }
 
 // One step byte from a state: the text, 10, 27, 28, and then the given state.
@@ -224,22 +226,13 @@ pub extern "C" fn wirdoku_step(text: &[u8], state: State, byte: u8) -> StateAnsw
     let outcome = read.outcome;
     let number = outcome.number();
     if number != 0 {
-        let line = outcome.line();
-        return StateAnswer {
-            number,
-            line,
-            state,
-        };
+        return state_answer(number, outcome.line(), state);
     }
     let model = read.model;
     let stepped = step(model, state, byte);
     let what = stepped.outcome;
     let next = stepped.state;
-    StateAnswer {
-        number: what.number(),
-        line: 0,
-        state: next,
-    }
+    state_answer(what.number(), 0, next)
 }
 
 // Walks a run: the text, 21, 29; per step 27, 28; 30.
@@ -251,17 +244,11 @@ pub extern "C" fn wirdoku_walk(text: &[u8], run: &[u8]) -> Answer
     let outcome = read.outcome;
     let number = outcome.number();
     if number != 0 {
-        return Answer {
-            number,
-            place: outcome.line(),
-        };
+        return told(number, outcome.line());
     }
     let model = read.model;
     let verdict = walk(model, run);
-    Answer {
-        number: verdict.number(),
-        place: verdict.place() as usize,
-    }
+    told(verdict.number(), verdict.place() as usize)
 }
 
 // Writes the run of an assignment: the text, 21, 23, 24, 25, 26.
@@ -279,17 +266,11 @@ pub extern "C" fn wirdoku_assignment_to_run(
     let outcome = read.outcome;
     let number = outcome.number();
     if number != 0 {
-        return Answer {
-            number,
-            place: outcome.line(),
-        };
+        return told(number, outcome.line());
     }
     let model = read.model;
     let decoded = assignment_to_run(model, bound, assignment, run);
-    Answer {
-        number: decoded.number(),
-        place: decoded.place(),
-    }
+    told(decoded.number(), decoded.place())
 }
 
 // Writes the assignment of a run: the text, 21 and the walker's rows, 31.
@@ -306,15 +287,9 @@ pub extern "C" fn wirdoku_run_to_assignment(
     let outcome = read.outcome;
     let number = outcome.number();
     if number != 0 {
-        return Answer {
-            number,
-            place: outcome.line(),
-        };
+        return told(number, outcome.line());
     }
     let model = read.model;
     let encoded = run_to_assignment(model, run, assignment);
-    Answer {
-        number: encoded.number(),
-        place: encoded.place() as usize,
-    }
+    told(encoded.number(), encoded.place() as usize)
 }

@@ -10,6 +10,7 @@ use Rattle.capi.proofs.wirdoku_step.Statement.{statement}
 use Rattle.capi.proofs.wirdoku_step.Tie as tie
 use Rattle.capi.proofs.wirdoku_step.Reads as reads
 use Rattle.capi.proofs.wirdoku_step.Lts as lts
+use Rattle.capi.proofs.state_answer.Reads as state-answer-reads
 use Rattle.text.proofs.ReadOutcome.line.Reads as line-reads
 use Rattle.text.proofs.ReadOutcome.number.Reads as ReadOutcome-number-reads
 use Rattle.text.proofs.read_model.Reads as read-model-reads
@@ -25,8 +26,11 @@ number-requires c κs = search needs
 line-requires : tie.Need-line-requires
 line-requires c κs = search needs
 
+state-answer-requires : tie.Need-state-answer-requires
+state-answer-requires c κs = search needs
+
 returns : tie.Need-returns
-returns c = refused-text (λ (m : Model). stepAnswer (stepReport m (c .before .before .before .before .before .args .state) (c .before .before .before .before .before .args .byte))) (λ (n l : ℕ). stateAnswer n l (c .before .before .before .before .before .args .state)) (now (c .before .before .before .before .before .args .text)) (c .before .before .before .read-model .result) (c .before .before .before .read-model .ensures) (c .before .before .number .result) (c .before .before .number .ensures) (c .before .if1 .taken) _ (c .line .ensures)
+returns c = (c .state-answer .ensures) ∙ refused-text (λ (m : Model). stepAnswer (stepReport m (c .before .before .before .before .before .before .args .state) (c .before .before .before .before .before .before .args .byte))) (λ (n l : ℕ). stateAnswer n l (c .before .before .before .before .before .before .args .state)) (now (c .before .before .before .before .before .before .args .text)) (c .before .before .before .before .read-model .result) (c .before .before .before .before .read-model .ensures) (c .before .before .before .number .result) (c .before .before .before .number .ensures) (c .before .before .if1 .taken) _ (c .before .line .ensures)
 
 step-requires : tie.Need-step-requires
 step-requires c κs = search needs
@@ -34,8 +38,11 @@ step-requires c κs = search needs
 number-requires-2 : tie.Need-number-requires-2
 number-requires-2 c κs = search needs
 
+state-answer-requires-2 : tie.Need-state-answer-requires-2
+state-answer-requires-2 c κs = search needs
+
 returns-2 : tie.Need-returns-2
-returns-2 c = (λ i. stateAnswer (c .number2 .ensures i) 0 (c .before .before .step .result .state)) ∙ ap stepAnswer (c .before .before .step .ensures) ∙ read-text (λ (m : Model). stepAnswer (stepReport m (c .before .before .before .before .before .before .before .before .args .state) (c .before .before .before .before .before .before .before .before .args .byte))) (λ (n l : ℕ). stateAnswer n l (c .before .before .before .before .before .before .before .before .args .state)) (now (c .before .before .before .before .before .before .before .before .args .text)) (c .before .before .before .before .before .before .read-model .result) (c .before .before .before .before .before .before .read-model .ensures) (c .before .before .before .before .before .number .result) (c .before .before .before .before .before .number .ensures) (c .before .before .before .before .if1 .left)
+returns-2 c = (c .state-answer2 .ensures) ∙ (λ i. stateAnswer (c .before .number2 .ensures i) 0 (c .before .before .before .step .result .state)) ∙ ap stepAnswer (c .before .before .before .step .ensures) ∙ read-text (λ (m : Model). stepAnswer (stepReport m (c .before .before .before .before .before .before .before .before .before .args .state) (c .before .before .before .before .before .before .before .before .before .args .byte))) (λ (n l : ℕ). stateAnswer n l (c .before .before .before .before .before .before .before .before .before .args .state)) (now (c .before .before .before .before .before .before .before .before .before .args .text)) (c .before .before .before .before .before .before .before .read-model .result) (c .before .before .before .before .before .before .before .read-model .ensures) (c .before .before .before .before .before .before .number .result) (c .before .before .before .before .before .before .number .ensures) (c .before .before .before .before .before .if1 .left)
 
 pub wirdoku-step-spec : {M : Type 1} → statement M
 wirdoku-step-spec =
@@ -44,7 +51,9 @@ wirdoku-step-spec =
     read-model-requires
     number-requires
     line-requires
+    state-answer-requires
     returns
     step-requires
     number-requires-2
+    state-answer-requires-2
     returns-2)
