@@ -1,0 +1,133 @@
+//! The states that a run passes, as a table. The states come from the proved step call.
+
+use crate::library::{self, Shape, State};
+
+/// A row: the choice that led here (none in the first row), the state, and the ticks that have passed.
+#[derive(Clone, Copy, Debug, PartialEq, Eq)]
+pub struct Row {
+    pub choice: Option<u8>,
+    pub state: State,
+    pub elapsed: usize,
+}
+
+/// The rows of a run from the initial state up to its end, or up to its first step that is refused.
+pub fn rows(text: &[u8], shape: &Shape, run: &[u8]) -> Vec<Row> {
+    let mut row = Row { choice: None, state: library::initial(text).state, elapsed: 0 };
+    let mut rows = vec![row];
+    for byte in run {
+        let answer = library::step(text, row.state, *byte);
+        if answer.number != 0 {
+            break;
+        }
+        // A delay of d is d ticks, at the ceiling too: only what clocks show is cut there.
+        let ticks = if usize::from(*byte) <= shape.ceiling { usize::from(*byte) } else { 0 };
+        row = Row { choice: Some(*byte), state: answer.state, elapsed: row.elapsed + ticks };
+        rows.push(row);
+    }
+    rows
+}
+
+/// What a step byte stands for.
+pub fn choice(ceiling: usize, byte: u8) -> String {
+    match usize::from(byte).checked_sub(ceiling + 1) {
+        None => format!("delay {}", byte),
+        Some(edge) => format!("edge {}", edge),
+    }
+}
+
+/// The rows under a line of headings, in columns. A clock at the ceiling has a `+`.
+pub fn table(shape: &Shape, rows: &[Row]) -> String {
+    let mut lines = vec![headings(shape)];
+    lines.extend(rows.iter().enumerate().map(|(step, row)| cells(shape, step, row)));
+    let widths: Vec<usize> =
+        (0..lines[0].len()).map(|column| lines.iter().map(|line| line[column].len()).max().unwrap_or(0)).collect();
+    lines.iter().map(|line| joined(line, &widths)).collect()
+}
+
+fn headings(shape: &Shape) -> Vec<String> {
+    let mut line = vec!["step".to_string(), "choice".to_string(), "location".to_string()];
+    line.extend((0..shape.counters).map(|index| format!("v{}", index)));
+    line.extend((0..shape.clocks).map(|index| format!("x{}", index)));
+    line.push("elapsed".to_string());
+    line
+}
+
+fn cells(shape: &Shape, step: usize, row: &Row) -> Vec<String> {
+    let choice = row.choice.map_or("-".to_string(), |byte| choice(shape.ceiling, byte));
+    let mut line = vec![step.to_string(), choice, row.state.location.to_string()];
+    let counters = row.state.counters.iter().take(usize::from(shape.counters));
+    line.extend(counters.map(|value| value.to_string()));
+    let clocks = row.state.clocks.iter().take(usize::from(shape.clocks));
+    line.extend(clocks.map(|value| clock(shape.ceiling, *value)));
+    line.push(row.elapsed.to_string());
+    line
+}
+
+fn clock(ceiling: usize, value: u8) -> String {
+    let mark = if usize::from(value) == ceiling { "+" } else { "" };
+    format!("{}{}", value, mark)
+}
+
+/// The cells of a line, two spaces apart: the choice to the left of its column, numbers to the right.
+fn joined(line: &[String], widths: &[usize]) -> String {
+    let padded: Vec<String> = line
+        .iter()
+        .zip(widths)
+        .enumerate()
+        .map(|(column, (cell, width))| match column {
+            1 => format!("{:<1$}", cell, *width),
+            _ => format!("{:>1$}", cell, *width),
+        })
+        .collect();
+    format!("{}\n", padded.join("  "))
+}
+
+#[cfg(test)]
+mod tests {
+    use super::{choice, table, Row};
+    use crate::library::{Shape, State};
+
+    fn shape(counters: u8, clocks: u8, ceiling: usize) -> Shape {
+        Shape {
+            number: 0,
+            line: 0,
+            locations: 16,
+            initial: 0,
+            target: 1,
+            clocks,
+            counters,
+            edges: 32,
+            ceiling,
+            state: 0,
+            choices: ceiling + 33,
+        }
+    }
+
+    fn row(choice: Option<u8>, location: u8, counters: [u8; 4], clocks: [u8; 4], elapsed: usize) -> Row {
+        Row { choice, state: State { location, counters, clocks }, elapsed }
+    }
+
+    #[test]
+    fn step_bytes_are_delays_up_to_the_ceiling_and_then_edges() {
+        assert_eq!(choice(4, 0), "delay 0");
+        assert_eq!(choice(4, 4), "delay 4");
+        assert_eq!(choice(4, 5), "edge 0");
+        assert_eq!(choice(31, 63), "edge 31");
+    }
+
+    #[test]
+    fn columns_are_as_many_as_declared() {
+        let rows = [row(None, 0, [0; 4], [0; 4], 0), row(Some(2), 1, [0; 4], [0; 4], 0)];
+        let expected = "step  choice  location  elapsed\n   0  -              0        0\n   1  edge 0         1        0\n";
+        assert_eq!(table(&shape(0, 0, 1), &rows), expected);
+    }
+
+    #[test]
+    fn a_clock_at_the_ceiling_is_marked_and_a_counter_is_not() {
+        let rows = [row(None, 0, [4, 0, 0, 0], [0, 3, 0, 0], 0), row(Some(4), 15, [4, 31, 0, 0], [4, 4, 0, 0], 4)];
+        let expected = "step  choice   location  v0  v1  x0  x1  elapsed\n\
+                        \u{20}  0  -               0   4   0   0   3        0\n\
+                        \u{20}  1  delay 4        15   4  31  4+  4+        4\n";
+        assert_eq!(table(&shape(2, 2, 4), &rows), expected);
+    }
+}

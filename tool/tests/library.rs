@@ -1,0 +1,203 @@
+//! The safe calls over the C boundary: that every number arrives where it belongs, with the document's worked cases.
+
+mod common;
+
+use common::model_text;
+use wirdoku::library::{self, Answer, Shape, Sizes, State, StateAnswer};
+
+const UNTOUCHED: u8 = 77;
+
+fn a() -> Vec<u8> {
+    model_text("a.txt").into_bytes()
+}
+
+fn b() -> Vec<u8> {
+    model_text("logger_b.txt").into_bytes()
+}
+
+/// Model A with a clock and an initial invariant that fails.
+fn without_start() -> Vec<u8> {
+    let text = model_text("a.txt").replace("clocks=0", "clocks=1");
+    text.replacen("inv=-", "inv=x0>=1", 1).into_bytes()
+}
+
+fn answer(number: u8, place: usize) -> Answer {
+    Answer { number, place }
+}
+
+fn sizes(number: u8, line: usize, variables: usize, clauses: usize, words: usize) -> Sizes {
+    Sizes { number, line, variables, clauses, words }
+}
+
+fn state(location: u8, v0: u8, x0: u8) -> State {
+    State { location, counters: [v0, 0, 0, 0], clocks: [x0, 0, 0, 0] }
+}
+
+fn state_answer(number: u8, line: usize, state: State) -> StateAnswer {
+    StateAnswer { number, line, state }
+}
+
+#[test]
+fn texts_are_read() {
+    assert_eq!(library::read(&a()), answer(0, 0));
+    assert_eq!(library::read(&b()), answer(0, 0));
+    assert_eq!(library::read(b""), answer(2, 1));
+    assert_eq!(library::read(&[b'\n'; 8193]), answer(1, 0));
+    let text = [&b()[..], b"\n"].concat();
+    assert_eq!(library::read(&text), answer(8, 27));
+}
+
+#[test]
+fn a_model_shows_what_it_declares() {
+    let expected = Shape {
+        number: 0,
+        line: 0,
+        locations: 4,
+        initial: 0,
+        target: 3,
+        clocks: 1,
+        counters: 1,
+        edges: 3,
+        ceiling: 4,
+        state: 11,
+        choices: 8,
+    };
+    assert_eq!(library::shape(&b()), expected);
+    let refused = Shape {
+        number: 5,
+        line: 2,
+        locations: 0,
+        initial: 0,
+        target: 0,
+        clocks: 0,
+        counters: 0,
+        edges: 0,
+        ceiling: 0,
+        state: 0,
+        choices: 0,
+    };
+    assert_eq!(library::shape(b"locations=2\ninit=2\n"), refused);
+}
+
+#[test]
+fn totals_by_formula() {
+    assert_eq!(library::counts(&a(), 0), sizes(0, 0, 2, 4, 10));
+    assert_eq!(library::counts(&a(), 1), sizes(0, 0, 7, 16, 51));
+    assert_eq!(library::counts(&a(), 2), sizes(0, 0, 12, 28, 92));
+    assert_eq!(library::counts(&b(), 3), sizes(0, 0, 68, 424, 1516));
+    assert_eq!(library::counts(&a(), 64).number, 0);
+    assert_eq!(library::counts(&a(), 65), sizes(21, 0, 0, 0, 0));
+    assert_eq!(library::counts(&a(), usize::MAX), sizes(21, 0, 0, 0, 0));
+    assert_eq!(library::counts(b"locations=2\ninit=2\n", 65), sizes(5, 2, 0, 0, 0));
+}
+
+#[test]
+fn lists_are_written_from_the_start_and_nothing_beyond() {
+    let list = [
+        1, 2, 0, -1, -2, 0, 1, 0, 3, 4, 5, 0, -3, -4, 0, -3, -5, 0, -4, -5, 0, -3, -1, 6, 0, -3, -2, 7, 0, -4, -1, 6, 0, -4, -2,
+        7, 0, -5, 1, 0, -5, 7, 0, 6, 7, 0, -6, -7, 0, 7, 0,
+    ];
+    let mut out = [i32::MIN; 53];
+    assert_eq!(library::emit(&a(), 1, &mut out), sizes(0, 0, 7, 16, 51));
+    assert_eq!(out[..51], list);
+    assert_eq!(out[51..], [i32::MIN; 2]);
+    let mut out = [i32::MIN; 51];
+    assert_eq!(library::emit(&a(), 1, &mut out).number, 0);
+    assert_eq!(out, list);
+    let mut out = [i32::MIN; 50];
+    assert_eq!(library::emit(&a(), 1, &mut out), sizes(22, 0, 0, 0, 51));
+    assert_eq!(library::emit(&a(), 65, &mut out), sizes(21, 0, 0, 0, 0));
+    assert_eq!(library::emit(b"x", 1, &mut out), sizes(2, 1, 0, 0, 0));
+    assert_eq!(out, [i32::MIN; 50]);
+    assert_eq!(library::emit(&a(), 1, &mut []), sizes(22, 0, 0, 0, 51));
+}
+
+#[test]
+fn the_size_programs_question() {
+    let mut out = [i32::MIN; 51];
+    let input = [b"bound=1\n", &a()[..]].concat();
+    assert_eq!(library::size(&input, &mut out[..50]), sizes(22, 0, 0, 0, 51));
+    assert_eq!(library::size(&a(), &mut out), sizes(9, 0, 0, 0, 0));
+    assert_eq!(library::size(b"bound=1\nx", &mut out), sizes(2, 1, 0, 0, 0));
+    assert_eq!(out, [i32::MIN; 51]);
+    assert_eq!(library::size(&input, &mut out), sizes(0, 0, 7, 16, 51));
+    assert_eq!(out[48..], [0, 7, 0]);
+}
+
+#[test]
+fn steps_from_states() {
+    assert_eq!(library::initial(&b()), state_answer(0, 0, state(0, 0, 0)));
+    assert_eq!(library::initial(b"x"), state_answer(2, 1, state(0, 0, 0)));
+    assert_eq!(library::initial(&without_start()).number, 0);
+    assert_eq!(library::step(&b(), state(0, 0, 2), 5), state_answer(0, 0, state(1, 0, 0)));
+    assert_eq!(library::step(&b(), state(1, 0, 2), 6), state_answer(0, 0, state(2, 1, 2)));
+    assert_eq!(library::step(&b(), state(0, 1, 3), 4), state_answer(0, 0, state(0, 1, 4)));
+    assert_eq!(library::step(&b(), state(1, 0, 0), 4), state_answer(28, 0, state(1, 0, 0)));
+    assert_eq!(library::step(&b(), state(1, 1, 2), 6), state_answer(28, 0, state(1, 1, 2)));
+    assert_eq!(library::step(&b(), state(1, 0, 3), 8), state_answer(27, 0, state(1, 0, 3)));
+    assert_eq!(library::step(&b(), state(9, 8, 7), 0), state_answer(10, 0, state(9, 8, 7)));
+    let unused = State { location: 0, counters: [0, 0, 0, 1], clocks: [0, 0, 0, 2] };
+    assert_eq!(library::step(&b(), unused, 0), state_answer(10, 0, unused));
+    assert_eq!(library::step(b"x", unused, 0), state_answer(2, 1, unused));
+}
+
+#[test]
+fn all_slots_of_a_state_arrive() {
+    let text = b"locations=2\ninit=0\ntarget=1\nclocks=4\nvars=4\nvar=9,1\nvar=9,2\nvar=9,3\nvar=9,4\ninv=-\ninv=-\nedges=1\n\
+                 from=0\nto=1\nwhen=x0<=30\nset=v0:=v3+0,v1:=v2+0,v2:=v1+0,v3:=v0+0\nreset=x1,x3\n";
+    let start = State { location: 0, counters: [1, 2, 3, 4], clocks: [0; 4] };
+    assert_eq!(library::initial(text), state_answer(0, 0, start));
+    let before = State { clocks: [5, 6, 7, 8], ..start };
+    let after = State { location: 1, counters: [4, 3, 2, 1], clocks: [5, 0, 7, 0] };
+    assert_eq!(library::step(text, before, 32), state_answer(0, 0, after));
+}
+
+#[test]
+fn runs_are_walked() {
+    assert_eq!(library::walk(&b(), &[5, 3, 7]), answer(0, 0));
+    assert_eq!(library::walk(&b(), &[5, 4, 7]), answer(28, 2));
+    assert_eq!(library::walk(&b(), &[5, 3]), answer(30, 0));
+    assert_eq!(library::walk(&b(), &[5, 3, 8]), answer(27, 3));
+    assert_eq!(library::walk(&b(), &[]), answer(30, 0));
+    assert_eq!(library::walk(&b(), &[0; 65]), answer(21, 0));
+    assert_eq!(library::walk(&without_start(), &[]), answer(29, 0));
+    assert_eq!(library::walk(b"x", &[]), answer(2, 1));
+}
+
+#[test]
+fn assignments_become_runs() {
+    let mut run = [UNTOUCHED; 2];
+    assert_eq!(library::assignment_to_run(&a(), 1, &[1, 0, 1, 0, 0, 1, 0], &mut run), answer(26, 15));
+    assert_eq!(library::assignment_to_run(&a(), 1, &[1, 0, 0, 0, 1, 0], &mut run), answer(23, 0));
+    assert_eq!(library::assignment_to_run(&a(), 1, &[1, 0, 0, 2, 1, 0, 3], &mut run), answer(24, 3));
+    assert_eq!(library::assignment_to_run(&a(), 1, &[1, 0, 0, 0, 1, 0, 1], &mut []), answer(25, 0));
+    assert_eq!(library::assignment_to_run(&a(), 65, &[], &mut run), answer(21, 0));
+    assert_eq!(library::assignment_to_run(b"x", 1, &[], &mut run), answer(2, 1));
+    assert_eq!(run, [UNTOUCHED; 2]);
+    assert_eq!(library::assignment_to_run(&a(), 1, &[1, 0, 0, 0, 1, 0, 1], &mut run), answer(0, 0));
+    assert_eq!(run, [2, UNTOUCHED]);
+}
+
+#[test]
+fn runs_become_assignments() {
+    let mut assignment = [UNTOUCHED; 8];
+    assert_eq!(library::run_to_assignment(&a(), &[2], &mut assignment[..6]), answer(31, 0));
+    assert_eq!(library::run_to_assignment(&a(), &[1], &mut assignment), answer(30, 0));
+    assert_eq!(library::run_to_assignment(&a(), &[0, 3], &mut assignment), answer(27, 2));
+    assert_eq!(library::run_to_assignment(&a(), &[2, 2], &mut assignment), answer(28, 2));
+    assert_eq!(library::run_to_assignment(&without_start(), &[2], &mut assignment), answer(29, 0));
+    assert_eq!(library::run_to_assignment(&a(), &[0; 65], &mut assignment), answer(21, 0));
+    assert_eq!(library::run_to_assignment(b"x", &[2], &mut assignment), answer(2, 1));
+    assert_eq!(assignment, [UNTOUCHED; 8]);
+    assert_eq!(library::run_to_assignment(&a(), &[2], &mut assignment), answer(0, 0));
+    assert_eq!(assignment, [1, 0, 0, 0, 1, 0, 1, UNTOUCHED]);
+}
+
+#[test]
+fn a_run_comes_back_from_its_assignment() {
+    let mut assignment = [UNTOUCHED; 68];
+    let mut run = [UNTOUCHED; 3];
+    assert_eq!(library::run_to_assignment(&b(), &[5, 3, 7], &mut assignment), answer(0, 0));
+    assert_eq!(library::assignment_to_run(&b(), 3, &assignment, &mut run), answer(0, 0));
+    assert_eq!(run, [5, 3, 7]);
+}
