@@ -1,0 +1,72 @@
+//! One call each: asked of the library with lent buffers, and compared with the reference.
+
+use wirdoku::library::{self, State};
+
+use crate::expected::{self, List};
+use crate::lent::Lent;
+use crate::tally::Tally;
+
+/// Read, shape and initial state; and the list at bound 1, in which the whole record of an accepted
+/// text is seen.
+pub fn reading(tally: &mut Tally, seed: u64, text: &[u8]) {
+    let expected = expected::read(text);
+    tally.answer("read", expected, library::read(text));
+    tally.answer("shape", expected::shape(text), library::shape(text));
+    tally.answer("initial", expected::initial(text), library::initial(text));
+    if expected.number == 0 {
+        let needed = List::of_text(text, 1).counts.words;
+        list(tally, seed, text, 1, &[needed]);
+    }
+}
+
+/// The totals, and an emission into each number of words.
+pub fn list(tally: &mut Tally, seed: u64, text: &[u8], bound: usize, rooms: &[usize]) {
+    let list = List::of_text(text, bound);
+    tally.answer("counts", list.counts, library::counts(text, bound));
+    let words = list.words();
+    for (turn, room) in rooms.iter().enumerate() {
+        let mut lent = Lent::new(seed + turn as u64, *room);
+        let got = library::emit(text, bound, lent.slice());
+        let expected = list.emitted(*room);
+        let written = if expected.number == 0 { words.len() } else { 0 };
+        tally.answer("emit", expected, got);
+        tally.buffer("emit", &lent, &words[..written]);
+    }
+}
+
+/// The size program's question with some words lent.
+pub fn size(tally: &mut Tally, seed: u64, input: &[u8], list: &List, room: usize) {
+    let mut lent = Lent::new(seed, room);
+    let got = library::size(input, lent.slice());
+    tally.answer("size", list.emitted(room), got);
+    tally.buffer("size", &lent, &list.written(room));
+}
+
+/// One step; gives the state that the library hands back.
+pub fn step(tally: &mut Tally, text: &[u8], state: State, byte: u8) -> State {
+    let got = library::step(text, state, byte);
+    tally.answer("step", expected::step(text, state, byte), got);
+    got.state
+}
+
+pub fn walk(tally: &mut Tally, text: &[u8], run: &[u8]) {
+    tally.answer("walk", expected::walk(text, run), library::walk(text, run));
+}
+
+/// An assignment into a run buffer of some length.
+pub fn decode(tally: &mut Tally, seed: u64, text: &[u8], (bound, assignment): (usize, &[u8]), room: usize) {
+    let mut lent = Lent::new(seed, room);
+    let got = library::assignment_to_run(text, bound, assignment, lent.slice());
+    let (expected, written) = expected::assignment_to_run(text, bound, assignment, room);
+    tally.answer("assignment_to_run", expected, got);
+    tally.buffer("assignment_to_run", &lent, &written);
+}
+
+/// A run into an assignment buffer of some length.
+pub fn encode(tally: &mut Tally, seed: u64, text: &[u8], run: &[u8], room: usize) {
+    let mut lent = Lent::new(seed, room);
+    let got = library::run_to_assignment(text, run, lent.slice());
+    let (expected, written) = expected::run_to_assignment(text, run, room);
+    tally.answer("run_to_assignment", expected, got);
+    tally.buffer("run_to_assignment", &lent, &written);
+}

@@ -1,0 +1,191 @@
+//! The answers that the reference gives to the questions of each call, in the library's terms. `what was written` is what a lent
+//! buffer holds from its start after the call; it holds what it held beyond.
+
+use reference::assign::{decode, encode};
+use reference::list::{totals, words, Totals};
+use reference::model::{ceiling, choice_length, state_length, Model};
+use reference::refusal::{Refusal, WORDS_SHORT};
+use reference::state::State as ReferenceState;
+use reference::step::{self, step_call};
+use reference::text::{read_bound_line, read_whole};
+use wirdoku::library::{Answer, Shape, Sizes, State, StateAnswer};
+
+const NO_TOTALS: Totals = Totals { variables: 0, clauses: 0, words: 0 };
+
+const NO_SHAPE: Shape = Shape {
+    number: 0,
+    line: 0,
+    locations: 0,
+    initial: 0,
+    target: 0,
+    clocks: 0,
+    counters: 0,
+    edges: 0,
+    ceiling: 0,
+    state: 0,
+    choices: 0,
+};
+
+fn answer((number, place): (u32, u32)) -> Answer {
+    Answer { number: number as u8, place: place as usize }
+}
+
+fn refused(refusal: Refusal) -> Answer {
+    answer((refusal.number, refusal.place))
+}
+
+fn sizes(number: u32, line: u32, totals: Totals) -> Sizes {
+    Sizes {
+        number: number as u8,
+        line: line as usize,
+        variables: totals.variables as usize,
+        clauses: totals.clauses as usize,
+        words: totals.words as usize,
+    }
+}
+
+pub fn library_state(state: ReferenceState) -> State {
+    State { location: state.location, counters: state.counters, clocks: state.clocks }
+}
+
+fn reference_state(state: State) -> ReferenceState {
+    ReferenceState { location: state.location, counters: state.counters, clocks: state.clocks }
+}
+
+pub fn read(text: &[u8]) -> Answer {
+    match read_whole(text) {
+        Ok(_) => answer((0, 0)),
+        Err(refusal) => refused(refusal),
+    }
+}
+
+pub fn shape(text: &[u8]) -> Shape {
+    match read_whole(text) {
+        Err(refusal) => Shape { number: refusal.number as u8, line: refusal.place as usize, ..NO_SHAPE },
+        Ok(model) => Shape {
+            number: 0,
+            line: 0,
+            locations: model.locations,
+            initial: model.init,
+            target: model.target,
+            clocks: model.clocks,
+            counters: model.counters,
+            edges: model.edges,
+            ceiling: ceiling(&model) as usize,
+            state: state_length(&model) as usize,
+            choices: choice_length(&model) as usize,
+        },
+    }
+}
+
+/// A list that is asked for: its totals, or the refusal before a buffer is looked at.
+pub struct List {
+    pub counts: Sizes,
+    asked: Option<(Model, usize)>,
+}
+
+impl List {
+    fn refused(refusal: Refusal) -> List {
+        List { counts: sizes(refusal.number, refusal.place, NO_TOTALS), asked: None }
+    }
+
+    /// The list of a text and a bound: 1 to 8, 21.
+    pub fn of_text(text: &[u8], bound: usize) -> List {
+        let counted = read_whole(text).and_then(|model| {
+            let totals = totals(&model, bound)?;
+            Ok((totals, model))
+        });
+        match counted {
+            Err(refusal) => List::refused(refusal),
+            Ok((totals, model)) => List { counts: sizes(0, 0, totals), asked: Some((model, bound)) },
+        }
+    }
+
+    /// The list that an input of the size program asks for: 9, 1 to 8, 21.
+    pub fn of_input(input: &[u8]) -> List {
+        match read_bound_line(input) {
+            Err(refusal) => List::refused(refusal),
+            Ok((bound, text)) => List::of_text(text, bound as usize),
+        }
+    }
+
+    /// The answer of an emission into `room` words.
+    pub fn emitted(&self, room: usize) -> Sizes {
+        if self.asked.is_some() && room < self.counts.words {
+            let needed = Totals { words: self.counts.words as u32, ..NO_TOTALS };
+            return sizes(WORDS_SHORT, 0, needed);
+        }
+        self.counts
+    }
+
+    /// The words; none after a refusal.
+    pub fn words(&self) -> Vec<i32> {
+        match &self.asked {
+            Some((model, bound)) => words(model, *bound).unwrap_or_default(),
+            None => Vec::new(),
+        }
+    }
+
+    /// What an emission into `room` words writes.
+    pub fn written(&self, room: usize) -> Vec<i32> {
+        if self.emitted(room).number == 0 {
+            self.words()
+        } else {
+            Vec::new()
+        }
+    }
+}
+
+pub fn initial(text: &[u8]) -> StateAnswer {
+    match read_whole(text) {
+        Ok(model) => StateAnswer { number: 0, line: 0, state: library_state(ReferenceState::initial(&model)) },
+        Err(refusal) => StateAnswer {
+            number: refusal.number as u8,
+            line: refusal.place as usize,
+            state: State { location: 0, counters: [0; 4], clocks: [0; 4] },
+        },
+    }
+}
+
+pub fn step(text: &[u8], state: State, byte: u8) -> StateAnswer {
+    match read_whole(text) {
+        Err(refusal) => StateAnswer { number: refusal.number as u8, line: refusal.place as usize, state },
+        Ok(model) => {
+            let (number, after) = step_call(&model, reference_state(state), byte);
+            StateAnswer { number: number as u8, line: 0, state: library_state(after) }
+        }
+    }
+}
+
+pub fn walk(text: &[u8], run: &[u8]) -> Answer {
+    match read_whole(text) {
+        Ok(model) => answer(step::walk(&model, run)),
+        Err(refusal) => refused(refusal),
+    }
+}
+
+/// The answer for a run buffer of `room` bytes, and what was written.
+pub fn assignment_to_run(text: &[u8], bound: usize, assignment: &[u8], room: usize) -> (Answer, Vec<u8>) {
+    let mut run = vec![0; room];
+    let told = match read_whole(text) {
+        Ok(model) => answer(decode(&model, bound, assignment, &mut run)),
+        Err(refusal) => refused(refusal),
+    };
+    run.truncate(if told.number == 0 { bound } else { 0 });
+    (told, run)
+}
+
+/// The answer for an assignment buffer of `room` bytes, and what was written.
+pub fn run_to_assignment(text: &[u8], run: &[u8], room: usize) -> (Answer, Vec<u8>) {
+    let mut assignment = vec![0; room];
+    let (told, length) = match read_whole(text) {
+        Ok(model) => {
+            let told = answer(encode(&model, run, &mut assignment));
+            let length = reference::model::variables(&model, run.len().min(64)) as usize;
+            (told, length)
+        }
+        Err(refusal) => (refused(refusal), 0),
+    };
+    assignment.truncate(if told.number == 0 { length } else { 0 });
+    (told, assignment)
+}

@@ -1,0 +1,214 @@
+//! Worked cases: the answers stand here as the document gives them, or follow from trying everything.
+
+use reference::gen::models::{model_a, model_b};
+use reference::model::{Atom, Model, Relation};
+use wirdoku::library::{self, Answer, Sizes};
+
+use crate::lent::Lent;
+use crate::part::Seeds;
+use crate::tally::Tally;
+use crate::texts::written;
+use crate::{calls, nulls};
+
+const ACCEPTED: Answer = Answer { number: 0, place: 0 };
+
+/// P1: the list of model A at bound 0.
+const A_AT_0: [i32; 10] = [1, 2, 0, -1, -2, 0, 1, 0, 2, 0];
+/// P2: the list of model A at bound 1.
+const A_AT_1: [i32; 51] = [
+    1, 2, 0, -1, -2, 0, 1, 0, 3, 4, 5, 0, -3, -4, 0, -3, -5, 0, -4, -5, 0, -3, -1, 6, 0, -3, -2, 7, 0, -4, -1, 6, 0, -4, -2, 7,
+    0, -5, 1, 0, -5, 7, 0, 6, 7, 0, -6, -7, 0, 7, 0,
+];
+
+pub fn fixed(tally: &mut Tally, _: Seeds) {
+    models_in_the_repository(tally);
+    lists(tally);
+    assignments_of_a(tally);
+    runs_of_a_at_2(tally);
+    runs_of_b(tally);
+    initial_invariant(tally);
+    greatest_bound(tally);
+    limits_of_the_text(tally);
+    nulls::nulls(tally);
+}
+
+fn sizes(number: u8, variables: usize, clauses: usize, words: usize) -> Sizes {
+    Sizes { number, line: 0, variables, clauses, words }
+}
+
+fn told(number: u8, place: usize) -> Answer {
+    Answer { number, place }
+}
+
+/// `models/a.txt` and `models/logger_b.txt` are the two models of the document.
+fn models_in_the_repository(tally: &mut Tally) {
+    let models = concat!(env!("CARGO_MANIFEST_DIR"), "/../models");
+    for (name, model) in [("a.txt", model_a()), ("logger_b.txt", model_b())] {
+        let stored = std::fs::read(format!("{models}/{name}")).unwrap_or_default();
+        tally.same("stored text", written(&model), stored.clone());
+        tally.answer("read", ACCEPTED, library::read(&stored));
+        tally.case(|| format!("models/{name}"));
+    }
+}
+
+fn lists(tally: &mut Tally) {
+    let (a, b) = (written(&model_a()), written(&model_b()));
+    list(tally, &a, 0, sizes(0, 2, 4, 10), Some(&A_AT_0));
+    list(tally, &a, 1, sizes(0, 7, 16, 51), Some(&A_AT_1));
+    list(tally, &a, 2, sizes(0, 12, 28, 92), None);
+    list(tally, &b, 3, sizes(0, 68, 424, 1516), None);
+    let shape = library::shape(&b);
+    tally.same("M, S and H of B", (4, 11, 8), (shape.ceiling, shape.state, shape.choices));
+    tally.case(|| "shape of B".to_string());
+}
+
+/// The totals; the words needed suffice and one less gives 22; the list is the reference's, and the
+/// one given if there is one.
+fn list(tally: &mut Tally, text: &[u8], bound: usize, expected: Sizes, words: Option<&[i32]>) {
+    tally.answer("counts", expected, library::counts(text, bound));
+    let mut exact = Lent::new(3, expected.words);
+    tally.answer("emit", expected, library::emit(text, bound, exact.slice()));
+    if let Some(words) = words {
+        tally.buffer("emit", &exact, words);
+    }
+    let mut short = Lent::new(5, expected.words - 1);
+    let refused = sizes(22, 0, 0, expected.words);
+    tally.answer("emit", refused, library::emit(text, bound, short.slice()));
+    tally.buffer("emit", &short, &[]);
+    calls::list(tally, 7, text, bound, &[expected.words, expected.words + 9, expected.words - 1, 0]);
+    tally.case(|| format!("list of a worked model at bound {bound}"));
+}
+
+/// P3 and P4; and of all 128 assignments for bound 1 exactly one is accepted, of all 4,096 for bound 2
+/// exactly four, each answered as the reference does.
+fn assignments_of_a(tally: &mut Tally) {
+    let a = written(&model_a());
+    let mut run = [9];
+    let p3 = library::assignment_to_run(&a, 1, &[1, 0, 0, 0, 1, 0, 1], &mut run);
+    tally.same("P3", (ACCEPTED, [2]), (p3, run));
+    tally.case(|| "P3".to_string());
+    let p4 = library::assignment_to_run(&a, 1, &[1, 0, 1, 0, 0, 1, 0], &mut run);
+    tally.same("P4", (told(26, 15), [2]), (p4, run));
+    tally.case(|| "P4".to_string());
+    for (bound, variables, runs) in [(0, 2, 0), (1, 7, 1), (2, 12, 4)] {
+        let mut accepted = 0;
+        for bits in 0..1_u32 << variables {
+            let assignment: Vec<u8> = (0..variables).map(|v| (bits >> v & 1) as u8).collect();
+            calls::decode(tally, u64::from(bits), &a, (bound, &assignment), bound);
+            let told = library::assignment_to_run(&a, bound, &assignment, &mut [0; 2]);
+            accepted += u32::from(told.number == 0);
+        }
+        tally.same("accepted", runs, accepted);
+        tally.case(|| format!("every assignment of A at bound {bound}"));
+    }
+}
+
+/// P5: of the nine pairs of steps exactly four are runs; each becomes an assignment and a run again.
+fn runs_of_a_at_2(tally: &mut Tally) {
+    let a = written(&model_a());
+    let mut accepted = Vec::new();
+    for run in (0..9).map(|pair| [pair / 3, pair % 3]) {
+        calls::walk(tally, &a, &run);
+        calls::encode(tally, 5, &a, &run, 12);
+        let mut assignment = [9; 12];
+        if library::run_to_assignment(&a, &run, &mut assignment) == ACCEPTED {
+            let mut back = [9; 2];
+            let answer = library::assignment_to_run(&a, 2, &assignment, &mut back);
+            tally.same("run to assignment to run", (ACCEPTED, run), (answer, back));
+            accepted.push(run);
+        }
+    }
+    tally.same("runs", vec![[0, 2], [1, 2], [2, 0], [2, 1]], accepted);
+    tally.case(|| "P5: the runs of A at bound 2".to_string());
+}
+
+/// P6 to P9.
+fn runs_of_b(tally: &mut Tally) {
+    let b = written(&model_b());
+    let every = (0..512_u32).map(|n| [(n / 64) as u8, (n / 8 % 8) as u8, (n % 8) as u8]);
+    let runs: Vec<[u8; 3]> = every.filter(|run| library::walk(&b, run) == ACCEPTED).collect();
+    tally.same("runs of 3 steps", vec![[5, 3, 7]], runs);
+    tally.case(|| "P6: the only run of B at bound 3".to_string());
+    tally.answer("walk", told(28, 2), library::walk(&b, &[5, 4, 7]));
+    tally.case(|| "P7".to_string());
+    tally.answer("walk", told(30, 0), library::walk(&b, &[5, 3]));
+    tally.case(|| "P8".to_string());
+    tally.answer("walk", told(27, 3), library::walk(&b, &[5, 3, 8]));
+    tally.case(|| "P9".to_string());
+    let mut assignment = [9; 68];
+    tally.answer("run_to_assignment", ACCEPTED, library::run_to_assignment(&b, &[5, 3, 7], &mut assignment));
+    let flipped = |index: usize| {
+        let mut other = assignment;
+        other[index] ^= 1;
+        other
+    };
+    calls::decode(tally, 5, &b, (3, &assignment), 3);
+    for index in 0..68 {
+        calls::decode(tally, 5, &b, (3, &flipped(index)), 3);
+        tally.same("flipped", 26, library::assignment_to_run(&b, 3, &flipped(index), &mut [0; 3]).number);
+    }
+    tally.case(|| "the run of B at bound 3 and each byte of its assignment flipped".to_string());
+}
+
+/// P10: A with one clock and x0>=1 in location 0 has no run, not even of 0 steps.
+fn initial_invariant(tally: &mut Tally) {
+    let mut model: Model = model_a();
+    model.clocks = 1;
+    model.invariant[0][0] = Atom::clock(0, Relation::GreaterEqual, 1);
+    model.target = 0;
+    let text = written(&model);
+    tally.answer("walk", told(29, 0), library::walk(&text, &[]));
+    calls::encode(tally, 5, &text, &[], 5);
+    calls::reading(tally, 5, &text);
+    tally.case(|| "P10".to_string());
+}
+
+/// 64 is taken and 65 gives 21, in every call with a bound or a run.
+fn greatest_bound(tally: &mut Tally) {
+    let a = written(&model_a());
+    let mut run = [0; 65];
+    run[0] = 2;
+    for (bound, number) in [(64, 0), (65, 21)] {
+        let run = &run[..bound];
+        tally.same("counts", number, library::counts(&a, bound).number);
+        tally.same("walk", number, library::walk(&a, run).number);
+        let mut words = vec![0; library::counts(&a, bound).words];
+        tally.same("emit", number, library::emit(&a, bound, &mut words).number);
+        let mut assignment = vec![0; 2 + 5 * bound];
+        tally.same("run to assignment", number, library::run_to_assignment(&a, run, &mut assignment).number);
+        let answer = library::assignment_to_run(&a, bound, &assignment, &mut [0; 65]);
+        tally.same("assignment to run", number, answer.number);
+        let input = [format!("bound={bound}\n").as_bytes(), &a].concat();
+        tally.same("size", number, library::size(&input, &mut words).number);
+        tally.case(|| format!("bound {bound}"));
+    }
+}
+
+/// Texts on both sides of a limit.
+fn limits_of_the_text(tally: &mut Tally) {
+    let a = String::from_utf8(written(&model_a())).unwrap_or_default();
+    let b = String::from_utf8(written(&model_b())).unwrap_or_default();
+    let locations = |count: usize| {
+        a.replace("locations=2", &format!("locations={count}"))
+            .replace("inv=-\n", "")
+            .replace("edges", &("inv=-\n".repeat(count) + "edges"))
+    };
+    let invariant = |value: &str| b.replace("inv=x0<=3", &format!("inv={value}"));
+    let longer = |length: usize| a.clone() + &"\n".repeat(length - a.len());
+    let cases = [
+        (locations(16), told(0, 0)),
+        (locations(17), told(4, 1)),
+        (invariant("x0<=30"), told(0, 0)),
+        (invariant("x0<=31"), told(4, 8)),
+        (invariant("x0<=3,x0<=3,x0<=3,x0<=3"), told(0, 0)),
+        (invariant("x0<=3,x0<=3,x0<=3,x0<=3,x0<=3"), told(7, 8)),
+        (longer(8192), told(8, 14)),
+        (longer(8193), told(1, 0)),
+        (String::new(), told(2, 1)),
+    ];
+    for (text, expected) in cases {
+        tally.answer("read", expected, library::read(text.as_bytes()));
+        calls::reading(tally, 5, text.as_bytes());
+        tally.case(|| crate::show::text(text.as_bytes()));
+    }
+}

@@ -1,0 +1,120 @@
+//! Models at every limit, at bound 64: the list with the most words, and runs of 64 steps both ways.
+
+use reference::gen::models;
+use reference::gen::rng::Rng;
+use reference::gen::runs::walk;
+use reference::list::digest;
+use reference::model::{Atom, Edge, Model, Relation, Update, MAX_BOUND};
+use wirdoku::library::{self, Sizes};
+
+use crate::expected::List;
+use crate::lent::Lent;
+use crate::part::Seeds;
+use crate::tally::Tally;
+use crate::texts::written;
+use crate::{calls, show};
+
+/// The totals of the longest list.
+const MOST: Sizes = Sizes { number: 0, line: 0, variables: 21_776, clauses: 1_876_043, words: 6_729_941 };
+/// Seeds of the runs.
+const RUNS: [u64; 3] = [7_000_000, 7_000_001, 7_000_002];
+
+pub fn largest(tally: &mut Tally, _: Seeds) {
+    longest_list(tally);
+    for seed in RUNS {
+        let (model, run) = model_and_run(seed);
+        both_ways(tally, seed, &written(&model), &run);
+    }
+}
+
+/// The longest list: totals, words, their digest; 22 with one word less.
+fn longest_list(tally: &mut Tally) {
+    let model = models::largest();
+    let text = written(&model);
+    tally.answer("counts", MOST, library::counts(&text, MAX_BOUND));
+    let mut lent = Lent::new(1, MOST.words + 100);
+    tally.answer("emit", MOST, library::emit(&text, MAX_BOUND, lent.slice()));
+    tally.same("digest", digest(&model, MAX_BOUND).ok(), Some(fnv(&lent.slice()[..MOST.words])));
+    tally.buffer("emit", &lent, &List::of_text(&text, MAX_BOUND).words());
+    calls::list(tally, 2, &text, MAX_BOUND, &[MOST.words, MOST.words - 1]);
+    let input = [b"bound=64\n", &text[..]].concat();
+    let list = List::of_input(&input);
+    calls::size(tally, 4, &input, &list, MOST.words);
+    calls::size(tally, 5, &input, &list, 16_384);
+    calls::walk(tally, &text, &[]);
+    tally.case(|| "the longest list".to_string());
+}
+
+/// 64-bit FNV-1a over each word's four bytes, the lowest first.
+fn fnv(words: &[i32]) -> u64 {
+    let bytes = words.iter().flat_map(|word| word.to_le_bytes());
+    bytes.fold(0xcbf2_9ce4_8422_2325, |digest, byte| (digest ^ u64::from(byte)).wrapping_mul(0x0000_0100_0000_01b3))
+}
+
+/// A model at every limit and a run of 64 steps of it.
+pub fn model_and_run(seed: u64) -> (Model, Vec<u8>) {
+    let mut model = busy();
+    let (run, end) = walk(&mut Rng::new(seed), &model, MAX_BOUND);
+    model.target = end.location;
+    (model, run)
+}
+
+/// A model at every limit whose edges can often be taken: two from each location, with four atoms in
+/// every guard and invariant, an update of each counter, and resets.
+fn busy() -> Model {
+    let mut model = models::largest();
+    let at_most = |clock| Atom::clock(clock, Relation::LessEqual, 30);
+    model.invariant = [[at_most(0), at_most(1), at_most(2), Atom::clock(3, Relation::GreaterEqual, 0)]; 16];
+    for (index, edge) in model.edge.iter_mut().enumerate() {
+        *edge = busy_edge(index as u8);
+    }
+    model
+}
+
+fn busy_edge(index: u8) -> Edge {
+    let (one, other) = (index % 4, (index + 1) % 4);
+    let rotate = |from: u8| Update::Sum { source: from, offset: index as i8 % 5 - 2 };
+    let mut edge = Edge {
+        source: index % 16,
+        target: (index + 1 + 2 * (index / 16)) % 16,
+        guard: [
+            Atom::clock(one, Relation::LessEqual, 29),
+            Atom::clock(other, Relation::GreaterEqual, index / 16),
+            Atom::counter(one, Relation::NotEqual, index),
+            Atom::counter(other, Relation::Less, 31),
+        ],
+        updates: [rotate(1), rotate(2), Update::Constant(index), Update::Keep],
+        resets: [false; 4],
+    };
+    edge.updates[3] = if index < 16 { rotate(0) } else { Update::Keep };
+    edge.resets[usize::from(one)] = true;
+    edge.resets[usize::from(other)] = index % 3 == 0;
+    edge
+}
+
+/// Run to assignment and back; run buffers of 63 and 64; bytes flipped from the first to the last.
+fn both_ways(tally: &mut Tally, seed: u64, text: &[u8], run: &[u8]) {
+    let variables = MOST.variables;
+    tally.same("steps", MAX_BOUND, run.len());
+    calls::walk(tally, text, run);
+    for room in [variables, variables - 1, variables + 50] {
+        calls::encode(tally, seed + room as u64, text, run, room);
+    }
+    let mut assignment = vec![9; variables];
+    tally.same("accepted", 0, library::run_to_assignment(text, run, &mut assignment).number);
+    let mut back = Lent::new(seed, MAX_BOUND + 1);
+    let answer = library::assignment_to_run(text, MAX_BOUND, &assignment, back.slice());
+    tally.same("accepted", 0, answer.number);
+    tally.buffer("run to assignment to run", &back, run);
+    for room in [MAX_BOUND - 1, MAX_BOUND] {
+        calls::decode(tally, seed, text, (MAX_BOUND, &assignment), room);
+    }
+    tally.case(|| format!("seed {seed} run {}", show::run(run)));
+    let places = [0, 15, 16, 271, 272, 335, 336, 5_000, variables / 2, 21_439, 21_440, variables - 1];
+    for place in places {
+        let mut other = assignment.clone();
+        other[place] ^= 1;
+        calls::decode(tally, seed, text, (MAX_BOUND, &other), MAX_BOUND);
+        tally.case(|| format!("seed {seed} byte {place} flipped, run {}", show::run(run)));
+    }
+}

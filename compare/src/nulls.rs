@@ -1,0 +1,91 @@
+//! The calls as C sees them: an empty slice may be a null pointer and 0.
+
+use std::ptr::{null, null_mut};
+
+use reference::gen::models::model_a;
+use wirdoku::library::{Answer, Shape, Sizes, State, StateAnswer};
+
+use crate::expected::{self, List};
+use crate::tally::Tally;
+use crate::texts::written;
+
+extern "C" {
+    fn wirdoku_read(text: *const u8, text_len: usize) -> Answer;
+    fn wirdoku_shape(text: *const u8, text_len: usize) -> Shape;
+    fn wirdoku_counts(text: *const u8, text_len: usize, bound: usize) -> Sizes;
+    fn wirdoku_emit(text: *const u8, text_len: usize, bound: usize, out: *mut i32, out_len: usize) -> Sizes;
+    fn wirdoku_size(input: *const u8, input_len: usize, out: *mut i32, out_len: usize) -> Sizes;
+    fn wirdoku_initial(text: *const u8, text_len: usize) -> StateAnswer;
+    fn wirdoku_step(text: *const u8, text_len: usize, state: State, byte: u8) -> StateAnswer;
+    fn wirdoku_walk(text: *const u8, text_len: usize, run: *const u8, run_len: usize) -> Answer;
+    fn wirdoku_assignment_to_run(
+        text: *const u8,
+        text_len: usize,
+        bound: usize,
+        assignment: *const u8,
+        assignment_len: usize,
+        run: *mut u8,
+        run_len: usize,
+    ) -> Answer;
+    fn wirdoku_run_to_assignment(
+        text: *const u8,
+        text_len: usize,
+        run: *const u8,
+        run_len: usize,
+        assignment: *mut u8,
+        assignment_len: usize,
+    ) -> Answer;
+}
+
+pub fn nulls(tally: &mut Tally) {
+    null_text(tally);
+    null_buffers(tally);
+}
+
+/// No text at all is the empty text: 2 in line 1.
+fn null_text(tally: &mut Tally) {
+    let state = State { location: 7, counters: [1, 2, 3, 4], clocks: [5, 6, 7, 8] };
+    let empty = expected::read(b"");
+    let list = List::of_text(b"", 1).counts;
+    let no_input = List::of_input(b"").counts;
+    // SAFETY: each slice is a null pointer and 0, which the header allows.
+    unsafe {
+        tally.answer("read", empty, wirdoku_read(null(), 0));
+        tally.answer("shape", expected::shape(b""), wirdoku_shape(null(), 0));
+        tally.answer("counts", list, wirdoku_counts(null(), 0, 1));
+        tally.answer("emit", list, wirdoku_emit(null(), 0, 1, null_mut(), 0));
+        tally.answer("size", no_input, wirdoku_size(null(), 0, null_mut(), 0));
+        tally.answer("initial", expected::initial(b""), wirdoku_initial(null(), 0));
+        tally.answer("step", expected::step(b"", state, 3), wirdoku_step(null(), 0, state, 3));
+        tally.answer("walk", empty, wirdoku_walk(null(), 0, null(), 0));
+        let run = wirdoku_assignment_to_run(null(), 0, 1, null(), 0, null_mut(), 0);
+        tally.answer("assignment_to_run", empty, run);
+        let assignment = wirdoku_run_to_assignment(null(), 0, null(), 0, null_mut(), 0);
+        tally.answer("run_to_assignment", empty, assignment);
+    }
+    tally.case(|| "null text".to_string());
+}
+
+/// A text, and nothing else.
+fn null_buffers(tally: &mut Tally) {
+    let mut model = model_a();
+    model.target = 0;
+    let text = written(&model);
+    let (start, length) = (text.as_ptr(), text.len());
+    let list = List::of_text(&text, 0).emitted(0);
+    let (short, _) = expected::run_to_assignment(&text, &[], 0);
+    let (wrong_length, _) = expected::assignment_to_run(&text, 0, &[], 0);
+    let (accepted, _) = expected::assignment_to_run(&text, 0, &[1, 0], 0);
+    // SAFETY: the text is a slice; the others are null pointers and 0, or a slice that lives.
+    unsafe {
+        tally.answer("emit", list, wirdoku_emit(start, length, 0, null_mut(), 0));
+        tally.answer("walk", expected::walk(&text, &[]), wirdoku_walk(start, length, null(), 0));
+        let assignment = wirdoku_run_to_assignment(start, length, null(), 0, null_mut(), 0);
+        tally.answer("run_to_assignment", short, assignment);
+        let run = wirdoku_assignment_to_run(start, length, 0, null(), 0, null_mut(), 0);
+        tally.answer("assignment_to_run", wrong_length, run);
+        let run = wirdoku_assignment_to_run(start, length, 0, [1, 0].as_ptr(), 2, null_mut(), 0);
+        tally.answer("assignment_to_run", accepted, run);
+    }
+    tally.case(|| "null buffers".to_string());
+}
