@@ -6,6 +6,7 @@ use scan::NumberRead;
 ghost use mathlib.Core.Path.{_≡_};
 ghost use Prim.Native.Nat.{_≤_};
 ghost use lib.ListN.{length};
+ghost use Rattle.scan.specs.Bytes.{startsWith, isMalformed, numberIn};
 ghost use Rattle.due.specs.Values.{liesOutside, isUndeclared, numberFaults, referenceFaults, counterFaults};
 ghost use Rattle.due.specs.Place.{DueLine, narrowed, NumberLine, ReferenceLine, CounterLine};
 
@@ -30,6 +31,23 @@ pub struct CounterDue {
     pub counter: Counter,
 }
 
+// Whether the slice begins with the key.
+fn starts_with(s: &[u8], key: &[u8]) -> bool
+    ensures { λ r. ⌜ r ≡ startsWith (now (key .entry)) (now (s .entry)) ⌝ }
+{
+    let mut i = 0;
+    while i < key.len() {
+        if s.len() <= i {
+            return false;
+        }
+        if s[i] != key[i] {
+            return false;
+        }
+        i += 1;
+    }
+    true
+}
+
 // The line at `at`, if it is ended by LF and begins with the key.
 pub fn due_at(text: &[u8], at: usize, key: &[u8]) -> Due
     requires { ⌜ at ≤ length (now text) ⌝ }
@@ -44,7 +62,7 @@ pub fn due_at(text: &[u8], at: usize, key: &[u8]) -> Due
     if e == text.len() {
         return none;
     }
-    if scan::starts_with(&text[at..e], key) {
+    if starts_with(&text[at..e], key) {
         Due {
             found: true,
             start: at + key.len(),
@@ -52,6 +70,25 @@ pub fn due_at(text: &[u8], at: usize, key: &[u8]) -> Due
         }
     } else {
         none
+    }
+}
+
+fn is_malformed(n: NumberRead) -> bool
+    ensures { λ r. ⌜ r ≡ isMalformed n ⌝ }
+{
+    match n {
+        NumberRead::Malformed => true,
+        NumberRead::Number(_) => false,
+    }
+}
+
+// The number, or 0 where there is none.
+fn value(n: NumberRead) -> u16
+    ensures { λ r. ⌜ r ≡ numberIn n ⌝ }
+{
+    match n {
+        NumberRead::Malformed => 0,
+        NumberRead::Number(k) => k,
     }
 }
 
@@ -77,7 +114,7 @@ fn number_faults(n: NumberRead, least: u16, greatest: u16) -> Faults
     ensures { λ r. ⌜ r ≡ numberFaults least greatest n ⌝ }
 {
     Faults {
-        malformed: n.is_malformed(),
+        malformed: is_malformed(n),
         crowded: false,
         outside: lies_outside(n, least, greatest),
         undeclared: false,
@@ -89,7 +126,7 @@ fn reference_faults(n: NumberRead, declared: u8) -> Faults
     ensures { λ r. ⌜ r ≡ referenceFaults declared n ⌝ }
 {
     Faults {
-        malformed: n.is_malformed(),
+        malformed: is_malformed(n),
         crowded: false,
         outside: false,
         undeclared: is_undeclared(n, declared),
@@ -100,10 +137,10 @@ fn reference_faults(n: NumberRead, declared: u8) -> Faults
 fn counter_faults(greatest: NumberRead, initial: NumberRead) -> Faults
     ensures { λ r. ⌜ r ≡ counterFaults greatest initial ⌝ }
 {
-    let g = greatest.value();
-    let i = initial.value();
+    let g = value(greatest);
+    let i = value(initial);
     Faults {
-        malformed: greatest.is_malformed() | initial.is_malformed(),
+        malformed: is_malformed(greatest) | is_malformed(initial),
         crowded: false,
         outside: ((Model::COUNTER_VALUE as u16) < g) | (g < i),
         undeclared: false,
@@ -114,7 +151,7 @@ fn counter_faults(greatest: NumberRead, initial: NumberRead) -> Faults
 fn byte_of(n: NumberRead) -> u8
     ensures { λ r. ⌜ r ≡ narrowed n ⌝ }
 {
-    scan::narrow(n.value())
+    scan::narrow(value(n))
 }
 
 // A line of one number, from `least` to `greatest`.

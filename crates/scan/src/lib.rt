@@ -5,7 +5,7 @@ ghost use lib.ListN.{length, take, drop, getD};
 ghost use lib.Dec.{ltb};
 ghost use mathlib.Core.List.{[], _∷_};
 ghost use mathlib.Core.Bool.{cond};
-ghost use Rattle.scan.specs.Bytes.{FirstFrom, LeadingDigits, digitsOf, numberOf, isMalformed, numberIn, startsWith, isDigit, isHyphen};
+ghost use Rattle.scan.specs.Bytes.{FirstFrom, LeadingDigits, numberOf, isDigit, isHyphen};
 ghost use Rattle.scan.specs.Faulty.{noFaults, faultNumber, lineTold, isNoFault};
 
 pub enum NumberRead {
@@ -85,27 +85,6 @@ impl LineFault {
     }
 }
 
-impl NumberRead {
-    pub fn is_malformed(self) -> bool
-        ensures { λ r. ⌜ r ≡ isMalformed self ⌝ }
-    {
-        match self {
-            NumberRead::Malformed => true,
-            NumberRead::Number(_) => false,
-        }
-    }
-
-    // The number, or 0 where there is none.
-    pub fn value(self) -> u16
-        ensures { λ r. ⌜ r ≡ numberIn self ⌝ }
-    {
-        match self {
-            NumberRead::Malformed => 0,
-            NumberRead::Number(n) => n,
-        }
-    }
-}
-
 // A number that fits a byte, or else 0.
 pub fn narrow(n: u16) -> u8
     ensures { λ r. ⌜ r ≡ cond (ltb n 256) n 0 ⌝ }
@@ -128,7 +107,7 @@ pub fn find(s: &[u8], at: usize, b: u8) -> usize
     i
 }
 
-pub fn is_digit(b: u8) -> bool
+fn is_digit(b: u8) -> bool
     ensures { λ r. ⌜ r ≡ isDigit b ⌝ }
 {
     b'0' <= b && b <= b'9'
@@ -205,23 +184,6 @@ pub fn digits(s: &[u8]) -> usize
         }
     }
     i
-}
-
-// Whether the slice begins with the key.
-pub fn starts_with(s: &[u8], key: &[u8]) -> bool
-    ensures { λ r. ⌜ r ≡ startsWith (now (key .entry)) (now (s .entry)) ⌝ }
-{
-    let mut i = 0;
-    while i < key.len() {
-        if s.len() <= i {
-            return false;
-        }
-        if s[i] != key[i] {
-            return false;
-        }
-        i += 1;
-    }
-    true
 }
 
 // A hyphen alone.

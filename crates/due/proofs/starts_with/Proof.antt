@@ -1,11 +1,11 @@
 use Prim.Native.Nat.{_-_, _≤_}
 use mathlib.Core.Path.{_≡_, sym, _∙_}
 use lib.ListN.{length, drop}
 use Rattle.scan.specs.Bytes.{startsWith}
 use Rattle.scan.proofs.Bytewise.{startsWith-next, startsWith-other, startsWith-short, startsWith-done}
 use borrow.Author.Needs.{needs}
-use Rattle.scan.proofs.starts_with.Statement.{statement}
-use Rattle.scan.proofs.starts_with.Tie as tie
+use Rattle.due.proofs.starts_with.Statement.{statement}
+use Rattle.due.proofs.starts_with.Tie as tie
 
 abbrev Inv-loop : tie.InvT-loop
 Inv-loop s key i₀ i = (i ≤ length s) × (startsWith (drop i key) (drop i s) ≡ startsWith key s)
