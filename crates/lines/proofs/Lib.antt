@@ -1,3 +1,4 @@
 pub mod Settling
 pub mod Stores
 pub mod ListLines
+pub mod Turns

@@ -5,7 +5,7 @@ use mathlib.Core.List.{List}
 use lib.ListN.{length, drop}
 use Rattle.lines.specs.declared.Reading.{Reading}
 use Rattle.lines.specs.Place.{progress}
-use Rattle.sequence.specs.Sequence.{readLines}
+use Rattle.lines.specs.Sequence.{readLines}
 
 -- r is the reading of the lines of a model from the place `at` on; its own place, which lies within the text, is where it stopped
 pub record ReadsFrom (t : List ℕ) (at : ℕ) (r : Reading) : Type 0 where

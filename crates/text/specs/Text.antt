@@ -8,7 +8,7 @@ use lib.ListN.{length}
 use Rattle.model.specs.declared.Model.{Model}
 use Rattle.model.specs.Record.{blankModel}
 use Rattle.lines.specs.Progress.{Progress}
-use Rattle.sequence.specs.Sequence.{readLines}
+use Rattle.lines.specs.Sequence.{readLines}
 use Rattle.scan.specs.Faulty.{lineTold, isNoFault}
 use Rattle.scan.specs.declared.LineFault.{LineFault}
 use Rattle.text.specs.declared.ReadOutcome.{ReadOutcome}

@@ -1,13 +1,11 @@
-// The reader of a model text.
+// The model text: what it says, or why it is refused.
 use lines::Reading;
 use model::Model;
 use scan::LineFault;
 use scan::NumberRead;
 ghost use mathlib.Core.Path.{_≡_};
-ghost use Prim.Native.Nat.{_+_};
 ghost use Rattle.model.specs.Record.{blankModel};
 ghost use Rattle.lines.specs.Place.{progress};
-ghost use Rattle.sequence.specs.Place.{ReadsFrom};
 ghost use Rattle.text.specs.Text.{readEnded, readReport, readTold, Outcome, outcomeNumber, outcomeLine};
 ghost use Rattle.text.specs.Bound.{boundIn, boundReport, boundTold};
 
@@ -34,40 +32,6 @@ pub struct ReadAnswer {
 pub enum BoundRead {
     NotABound,
     Bound { bound: u16, next: usize },
-}
-
-// A text and a place in it. The functions over it are thin; the work is done by functions on a slice and a place.
-pub struct Reader<'a> {
-    pub text: &'a [u8],
-    pub at: usize,
-}
-
-// At the start of the text.
-pub fn new<'a>(text: &'a [u8]) -> Reader<'a>
-    ensures { λ r. ⌜ (r .text ≡ text .entry) × (r .at ≡ 0) ⌝ }
-{
-    Reader { text, at: 0 }
-}
-
-// At another place of the same text.
-pub fn moved<'a>(r: Reader<'a>, at: usize) -> Reader<'a>
-    ensures { λ q. ⌜ (q .text ≡ r .entry .text) × (q .at ≡ at) ⌝ }
-{
-    Reader { text: r.text, at }
-}
-
-// The lines of a model from the reader's place on. The result says where it stopped.
-pub fn read<'a>(r: Reader<'a>) -> Reading
-    ensures { λ s. ⌜ ReadsFrom (now (r .entry .text)) (r .entry .at) s ⌝ }
-{
-    sequence::read_at(r.text, r.at)
-}
-
-// The lines of a model from the start of the text.
-pub fn read_first(text: &[u8]) -> Reading
-    ensures { λ s. ⌜ ReadsFrom (now (text .entry)) 0 s ⌝ }
-{
-    read(new(text))
 }
 
 fn outcome(fault: LineFault, line: usize) -> ReadOutcome
@@ -121,7 +85,7 @@ pub fn read_model(text: &[u8]) -> ReadAnswer
     if ReadAnswer::BYTES < text.len() {
         return refused(ReadOutcome::TooLong);
     }
-    ended(text, read_first(text))
+    ended(text, reader::read_first(text))
 }
 
 impl ReadOutcome {

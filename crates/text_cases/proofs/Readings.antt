@@ -9,7 +9,7 @@ use Rattle.due.specs.Values.{numberFaults, referenceFaults, counterFaults}
 use Rattle.lines.specs.Store.{withLocations, withInitial, withTarget, withClocks, withVars, withUsed, withCounter, withInvariant, withEdge, withSource, withEdgeTarget, withGuard, withUpdates, withResets}
 use Rattle.lines.specs.Progress.{readLine}
 use Rattle.lines.specs.Lines.{locationsLine, initLine, targetLine, clocksLine, varsLine, varLine, invLine, edgesLine, fromLine, toLine, whenLine, setLine, resetLine}
-use Rattle.sequence.specs.Sequence.{inTurn, readHead, readCounters, readInvariants, readEdge, readEdges, readLines}
+use Rattle.lines.specs.Sequence.{inTurn, readHead, readCounters, readInvariants, readEdge, readEdges, readLines}
 use Rattle.text.specs.Text.{readEnded, readReport}
 use Rattle.text.specs.Bound.{boundReport}
 use Rattle.samples.specs.Models.{modelA, modelB}

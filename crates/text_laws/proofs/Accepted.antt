@@ -38,7 +38,7 @@ use Rattle.due.proofs.DueLaws.{number-inside, reference-declared, counter-insid
 use Rattle.lines.specs.Store.{withLocations, withInitial, withTarget, withClocks, withVars, withUsed, withCounter, withInvariant, withEdge, withSource, withEdgeTarget, withGuard, withUpdates, withResets}
 use Rattle.lines.specs.Progress.{Progress, unread}
 use Rattle.lines.specs.Lines.{locationsLine, initLine, targetLine, clocksLine, varsLine, varLine, invLine, edgesLine, fromLine, toLine, whenLine, setLine, resetLine}
-use Rattle.sequence.specs.Sequence.{inTurn, readHead, readCounters, readInvariants, readEdge, readEdges, readLines}
+use Rattle.lines.specs.Sequence.{inTurn, readHead, readCounters, readInvariants, readEdge, readEdges, readLines}
 use Rattle.text.specs.Text.{readRefused, readAccepted, readEnded, readReport}
 use Rattle.text_laws.proofs.Slots.{SlotFormed, slot-put, slot-count, slot-next, slot-none}
 use Rattle.text_laws.proofs.Keeping.{Good, line-keeps, turns-keep}

@@ -12,7 +12,7 @@ use Rattle.scan.specs.Faulty.{faultNumber, lineNumber}
 use Rattle.scan.specs.declared.Faults.{Faults}
 use Rattle.model.specs.declared.Model.{Model}
 use Rattle.lines.specs.Progress.{Progress, advanced, refused, tried, readLine}
-use Rattle.sequence.specs.Sequence.{inTurn}
+use Rattle.lines.specs.Sequence.{inTurn}
 
 -- P holds of the model, unless the reading was refused
 abbrev pub Good : (Model → Type 0) → Progress → Type 0
