@@ -1,4 +1,4 @@
--- `reader::first` meets its contract: a walk of its MIR, by hand. A `Reader` that one call returns is held in a local and passed to the read. All that the proof knows of `new` and of `next` is that each meets its contract.
+-- `reader::read_first` meets its contract: a walk of its MIR, by hand. A `Reader` that one call returns is held in a local and passed to the read. All that the proof knows of `new` and of `read` is that each meets its contract.
 -- The machine value that `new` returns is stored and passed on as it is. In a local of a body MIR erases the lifetime of the struct's type, so the value is shown to have the type at `erased`: what the struct owns does not say the lifetime's name.
 -- Assumes nothing.
 use mathlib.Core.Path.{_≡_, refl, subst}
@@ -102,7 +102,7 @@ module _ {M : Type 1} (𝓤 : URA M) (H : Heap 𝓤) (A : Atoms 𝓤) (W : Given
   new-said : (r : Reader) → ent 𝓤 (ensured 𝓤 H A new.ended (new.clauses 𝓤 H A mem run) (κ, tt) (s, tt) tt r) (fact 𝓤 ((r .text ≡ s) × (r .at ≡ 0)))
   new-said r = exE 𝓤 _ (λ ws. snd∗ 𝓤 (sem 𝓤 H A (lasts new.ended (κ, tt) (s, tt) ws)) (fact 𝓤 ((r .text ≡ s) × (r .at ≡ 0))))
 
-  -- the call of `next`, at the struct r with the machine value u
+  -- the call of `read`, at the struct r with the machine value u
   abbrev to-next : Reader → Val → Next 𝓤 H A mem run .Ghost
   to-next r u = (((κ, tt), (q, tt), tt, (r, tt), (u ∷ [], tt)), tt)
 
