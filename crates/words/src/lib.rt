@@ -8,7 +8,7 @@ ghost use Rattle.words.specs.Written.{Room, Wrote};
 ghost use Rattle.words.specs.Pairs.{pairsOf};
 
 // The word of a bare variable.
-pub fn positive(a: usize) -> i32
+fn positive(a: usize) -> i32
     requires { ⌜ a ≤ 90000 ⌝ }
     ensures { λ r. ⌜ r ≡ word (bare a) ⌝ }
 {
@@ -16,7 +16,7 @@ pub fn positive(a: usize) -> i32
 }
 
 // The word of a negated variable.
-pub fn negative(a: usize) -> i32
+fn negative(a: usize) -> i32
     requires { ⌜ a ≤ 90000 ⌝ }
     ensures { λ r. ⌜ r ≡ word (negated a) ⌝ }
 {
