@@ -25,8 +25,8 @@ pub fn put_kept_counter(
     requires { ⌜ T (wellFormed m) × (x ≤ 40000) × (o ≤ 30000) × (next ≤ 40000) × (i < m .vars) × Room (keptCounter m x o next i) (now out) at ⌝ }
     ensures { λ r. ⌜ Wrote (keptCounter m x o next i) (now (out .entry)) (now (out .exit)) at r ⌝ }
 {
-    let g = counter_group(m, i);
-    put_kept(x, o + g.place, next + g.place, g.size, out, at)
+    let c = counter_group(m, i);
+    put_kept(x, o + c.place, next + c.place, c.size, out, at)
 }
 
 // Each value of clock `i`: not `x`, not that value before, the same after.

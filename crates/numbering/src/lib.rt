@@ -35,7 +35,7 @@ pub fn variable_number(m: Model, z: Sizes, t: usize, p: usize) -> usize
 }
 
 // How many variables come before the block of state `t`.
-pub fn block_start(m: Model, z: Sizes, t: usize) -> usize
+fn block_start(m: Model, z: Sizes, t: usize) -> usize
     requires { ⌜ T (wellFormed m) × KnownSizes m z × (t ≤ 64) ⌝ }
     ensures { λ r. ⌜ r ≡ blockAt oneHotWidth m t ⌝ }
 {
