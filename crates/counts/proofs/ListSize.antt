@@ -35,7 +35,7 @@ module _ (m : Model) where
   state-size o g i = sized-app g i
 
   -- ---- the start, less its state clauses: one clause for each component
-  initial-size : Sized (initialItems oneHotWidth m) (1 + m .vars + m .clocks) ((1 + m .vars + m .clocks) * 2)
+  pub initial-size : Sized (initialItems oneHotWidth m) (1 + m .vars + m .clocks) ((1 + m .vars + m .clocks) * 2)
   unfolding initialItems
   initial-size =
       sized-is (sized-app (sized-app (sized-rule [] (some (stateMember oneHotWidth m 0 loc (m .initial))))
@@ -44,7 +44,7 @@ module _ (m : Model) where
 
   -- ---- a step
   -- a delay has a clause for each member of a state block
-  delay-size : (o d : ℕ) → Sized (delayItems oneHotWidth m o d) (stateSize m) (stateSize m * 4)
+  pub delay-size : (o d : ℕ) → Sized (delayItems oneHotWidth m o d) (stateSize m) (stateSize m * 4)
   unfolding delayItems
   delay-size o d =
       sized-is (sized-app (sized-app (leads-size m o d loc loc (λ v. v) (m .locations))

@@ -13,5 +13,5 @@ pub record KnownCounts (m : Model) (bound : ℕ) (r : ListCounts) : Type 0 where
   pub clauses : r .clauses ≡ length (clauses m bound)
   pub words : r .words ≡ length (words m bound)
   pub variables-most : r .variables ≤ 21776
-  pub clauses-most : r .clauses ≤ 30000000
-  pub words-most : r .words ≤ 100000000
+  pub clauses-most : r .clauses ≤ 1876107
+  pub words-most : r .words ≤ 6730133

@@ -1,2 +1,3 @@
 pub mod KnownCounts
 pub mod CountsCall
+pub mod Pieces

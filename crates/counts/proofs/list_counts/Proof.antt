@@ -1,5 +1,6 @@
 use native.Mathlib.Omega.{arith}
 use Rattle.counts.proofs.ListSize.{list-size, list-clauses, list-words, known-variables}
+use Rattle.counts.proofs.PieceBounds.{list-clauses-most, list-words-most}
 use Rattle.model.proofs.FormLaws.{formed, ceiling-of-sizes, variables-le}
 use native.Mathlib.Nat.{mul-le-mul}
 use mathlib.Core.Path.{sym}
@@ -88,8 +89,8 @@ returns c =
       clauses = list-clauses _ _ n;
       words = list-words _ _ n;
       variables-most = variables-most (c .before .before .before .before .before .before .before .before .before .before);
-      clauses-most = omega (arith, clauses-most (c .before .before .before .before .before .before .before .before .before .before), c .before .before .before .before .before .before .before .before .before .before .before .state-count .ensures .1, formed _ (c .before .before .before .before .before .before .before .before .before .before .before .before .before .pre .0) .vars-le, formed _ (c .before .before .before .before .before .before .before .before .before .before .before .before .before .pre .0) .clocks-le);
-      words-most = omega (arith, words-most (c .before .before .before .before .before .before .before .before .before .before), c .before .before .before .before .before .before .before .before .before .before .before .state-count .ensures .2, formed _ (c .before .before .before .before .before .before .before .before .before .before .before .before .before .pre .0) .vars-le, formed _ (c .before .before .before .before .before .before .before .before .before .before .before .before .before .pre .0) .clocks-le);
+      clauses-most = omega (arith, list-clauses _ _ n, list-clauses-most (c .before .before .before .before .before .before .before .before .before .before .before .before .before .args .m) (c .before .before .before .before .before .before .before .before .before .before .before .before .before .pre .0) (c .before .before .before .before .before .before .before .before .before .before .before .before .before .args .bound) (c .before .before .before .before .before .before .before .before .before .before .before .before .before .pre .1));
+      words-most = omega (arith, list-words _ _ n, list-words-most (c .before .before .before .before .before .before .before .before .before .before .before .before .before .args .m) (c .before .before .before .before .before .before .before .before .before .before .before .before .before .pre .0) (c .before .before .before .before .before .before .before .before .before .before .before .before .before .args .bound) (c .before .before .before .before .before .before .before .before .before .before .before .before .before .pre .1));
     }
 
 pub list-counts-spec : {M : Type 1} → statement M
