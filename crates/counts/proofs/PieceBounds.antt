@@ -202,33 +202,37 @@ module _ (m : Model) (ok : WellFormed m) where
   state-short o =
       let g : Component → List Item = λ x. group (o + offset oneHotWidth m x) (groupSize m x) ∷ [] in
       let v : ℕ → List Item = λ l. excludeAllFailing oneHotWidth m o (stateMember oneHotWidth m o loc l ∷ []) (invariantAt m l) in
-      all-app Short (overComponents m (λ x. g x ∷ [])) (each (m .locations) (λ l. v l ∷ [])) .1
-      (all-app₃ Short (g loc ∷ []) (each (m .vars) (λ i. g (counter i) ∷ [])) (each (m .clocks) (λ i. g (clock i) ∷ [])) .1
-      ((short (group-16 _ (m .locations) (ok .locations-le)) (omega arith), tt),
-      shorts (m .vars) (λ i. g (counter i)) (λ i l. short (counter-most m ok _ i l) (omega arith)),
-      shorts (m .clocks) (λ i. g (clock i)) (λ i l. short (clock-most m ok _ i) (omega arith))),
-      shorts (m .locations) v (λ l p. short (invariant-most m ok o l p) (omega arith)))
+      all-app Short (overComponents m (λ x. g x ∷ [])) (each (m .locations) (λ l. v l ∷ [])) .1 (
+        all-app₃ Short (g loc ∷ []) (each (m .vars) (λ i. g (counter i) ∷ [])) (each (m .clocks) (λ i. g (clock i) ∷ [])) .1 (
+          (short (group-16 _ (m .locations) (ok .locations-le)) (omega arith), tt),
+          shorts (m .vars) (λ i. g (counter i)) (λ i l. short (counter-most m ok _ i l) (omega arith)),
+          shorts (m .clocks) (λ i. g (clock i)) (λ i l. short (clock-most m ok _ i) (omega arith)),
+        ),
+        shorts (m .locations) v (λ l p. short (invariant-most m ok o l p) (omega arith)),
+      )
 
   step-short : (o : ℕ) → All Short (stepPieces m o)
   unfolding stepPieces choiceItems
   step-short o =
       all-app₄ Short (choiceItems oneHotWidth m o ∷ []) (each (ceiling m + 1) (λ d. delayItems oneHotWidth m o d ∷ []))
-      (each (m .used) (λ e. edgeItems oneHotWidth m o (ceiling m + 1 + e) (edgeAt m e) ∷ [])) (statePieces m (nextBlock oneHotWidth m o)) .1
-      ((short (group-64 _ (choices m) (choices-le m ok)) (omega arith), tt),
-      shorts (ceiling m + 1) (delayItems oneHotWidth m o) (λ d l. short (delay-most m ok o d) (omega arith)),
-      shorts (m .used) (λ e. edgeItems oneHotWidth m o (ceiling m + 1 + e) (edgeAt m e))
-      (λ e l. short (edge-most m ok o (ceiling m + 1 + e) (edgeAt m e) (ok .edge-ok e l)) (omega arith)),
-      state-short (nextBlock oneHotWidth m o))
+      (each (m .used) (λ e. edgeItems oneHotWidth m o (ceiling m + 1 + e) (edgeAt m e) ∷ [])) (statePieces m (nextBlock oneHotWidth m o)) .1 (
+        (short (group-64 _ (choices m) (choices-le m ok)) (omega arith), tt),
+        shorts (ceiling m + 1) (delayItems oneHotWidth m o) (λ d l. short (delay-most m ok o d) (omega arith)),
+        shorts (m .used) (λ e. edgeItems oneHotWidth m o (ceiling m + 1 + e) (edgeAt m e))
+            (λ e l. short (edge-most m ok o (ceiling m + 1 + e) (edgeAt m e) (ok .edge-ok e l)) (omega arith)),
+        state-short (nextBlock oneHotWidth m o),
+      )
 
 -- Of a well-formed model, no piece that emission writes at once has more than 6,113 words.
 pub piece-words-most : (m : Model) → T (wellFormed m) → (k : ℕ) → All (λ p. pieceWords p ≤ 6113) (pieces m k)
 unfolding pieces startPieces
 piece-words-most m h k =
     let ok = formed m h in
-    all-app₃ Short (startPieces m) (each k (λ t. stepPieces m (blockAt oneHotWidth m t))) (endItems oneHotWidth m k ∷ []) .1
-    (all-app Short (statePieces m 0) (initialItems oneHotWidth m ∷ []) .1 (state-short m ok 0, (short (initial-most m ok) (omega arith), tt)),
-    all-each Short k (λ t. stepPieces m (blockAt oneHotWidth m t)) .1 (λ t l. step-short m ok (blockAt oneHotWidth m t)),
-    (short (end-most m ok k) (omega arith), tt))
+    all-app₃ Short (startPieces m) (each k (λ t. stepPieces m (blockAt oneHotWidth m t))) (endItems oneHotWidth m k ∷ []) .1 (
+      all-app Short (statePieces m 0) (initialItems oneHotWidth m ∷ []) .1 (state-short m ok 0, (short (initial-most m ok) (omega arith), tt)),
+      all-each Short k (λ t. stepPieces m (blockAt oneHotWidth m t)) .1 (λ t l. step-short m ok (blockAt oneHotWidth m t)),
+      (short (end-most m ok k) (omega arith), tt),
+    )
 
 -- The group of 64 choices has just as many.
 pub choice-words : (m : Model) (o : ℕ) → choices m ≡ 64 → pieceWords (choiceItems oneHotWidth m o) ≡ 6113

@@ -60,7 +60,7 @@ fn put_raised_clocks(
 }
 
 // Delay `d`: each member of the state before in block order: not delay, not member, its successor in the state after.
-pub fn put_delay(m: Model, z: Sizes, b: Blocks, d: usize, out: &mut [i32], at: usize) -> usize
+fn put_delay(m: Model, z: Sizes, b: Blocks, d: usize, out: &mut [i32], at: usize) -> usize
     requires { ⌜ T (wellFormed m) × KnownSizes m z × BlocksOf m b × (d ≤ ceiling m) × Room (clausesOf (delayItems oneHotWidth m (b .state) d)) (now out) at ⌝ }
     ensures { λ r. ⌜ Wrote (clausesOf (delayItems oneHotWidth m (b .state) d)) (now (out .entry)) (now (out .exit)) at r ⌝ }
 {

@@ -174,15 +174,7 @@ fn put_resets(
 }
 
 // The edge `e`, which is choice `c`: source, target, guard, counters, clocks.
-pub fn put_edge(
-    m: Model,
-    z: Sizes,
-    b: Blocks,
-    c: usize,
-    e: Edge,
-    out: &mut [i32],
-    at: usize,
-) -> usize
+fn put_edge(m: Model, z: Sizes, b: Blocks, c: usize, e: Edge, out: &mut [i32], at: usize) -> usize
     requires { ⌜ T (wellFormed m) × KnownSizes m z × BlocksOf m b × (c < choices m) × WellFormedEdge m e × Room (clausesOf (edgeItems oneHotWidth m (b .state) c e)) (now out) at ⌝ }
     ensures { λ r. ⌜ Wrote (clausesOf (edgeItems oneHotWidth m (b .state) c e)) (now (out .entry)) (now (out .exit)) at r ⌝ }
 {

@@ -6,8 +6,8 @@ use edge_pieces::put_edges;
 use form::well_formed;
 use model::Model;
 use model::Sizes;
-use numbering::block_start;
 use numbering::step_blocks;
+use numbering::variable_number;
 use start_pieces::put_initial;
 use state_pieces::put_state;
 use words::put_unit;
@@ -63,12 +63,12 @@ fn put_end(m: Model, z: Sizes, k: usize, out: &mut [i32]) -> usize
     requires { ⌜ T (wellFormed m) × KnownSizes m z × (k ≤ 64) × Room (clausesOf (endItems oneHotWidth m k)) (now out) 0 ⌝ }
     ensures { λ r. ⌜ Wrote (clausesOf (endItems oneHotWidth m k)) (now (out .entry)) (now (out .exit)) 0 r ⌝ }
 {
-    let o = block_start(m, z, k);
-    put_unit(o + m.target as usize, out, 0)
+    let target = variable_number(m, z, k, m.target as usize);
+    put_unit(target - 1, out, 0)
 }
 
 // The list for `bound`.
-pub fn put_list(m: Model, bound: usize, out: &mut [i32]) -> usize
+fn put_list(m: Model, bound: usize, out: &mut [i32]) -> usize
     requires { ⌜ T (wellFormed m) × (bound ≤ 64) × Room (clauses m bound) (now out) 0 ⌝ }
     ensures { λ r. ⌜ Wrote (clauses m bound) (now (out .entry)) (now (out .exit)) 0 r ⌝ }
 {

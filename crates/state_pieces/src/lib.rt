@@ -21,7 +21,7 @@ ghost use Rattle.words.specs.Written.{Room, Wrote};
 ghost use Rattle.state_pieces.specs.StateClauses.{counterGroup, clockGroup, atomClauses, slotClauses};
 
 // The group clauses of counter `i`.
-pub fn put_counter_group(m: Model, o: usize, i: usize, out: &mut [i32], at: usize) -> usize
+fn put_counter_group(m: Model, o: usize, i: usize, out: &mut [i32], at: usize) -> usize
     requires { ⌜ T (wellFormed m) × (o ≤ 30000) × (i < m .vars) × Room (counterGroup m o i) (now out) at ⌝ }
     ensures { λ r. ⌜ Wrote (counterGroup m o i) (now (out .entry)) (now (out .exit)) at r ⌝ }
 {
@@ -42,7 +42,7 @@ fn put_counter_groups(m: Model, o: usize, out: &mut [i32], at: usize) -> usize
 }
 
 // The group clauses of clock `i`.
-pub fn put_clock_group(m: Model, z: Sizes, o: usize, i: usize, out: &mut [i32], at: usize) -> usize
+fn put_clock_group(m: Model, z: Sizes, o: usize, i: usize, out: &mut [i32], at: usize) -> usize
     requires { ⌜ T (wellFormed m) × KnownSizes m z × (o ≤ 30000) × (i < m .clocks) × Room (clockGroup m o i) (now out) at ⌝ }
     ensures { λ r. ⌜ Wrote (clockGroup m o i) (now (out .entry)) (now (out .exit)) at r ⌝ }
 {
@@ -92,8 +92,8 @@ fn put_atom(m: Model, z: Sizes, o: usize, x: usize, atom: Atom, out: &mut [i32],
             relation,
             constant,
         } => {
-            let g = counter_group(m, counter as usize);
-            put_excluded(x, o + g.place, g.size, relation, constant, out, at)
+            let c = counter_group(m, counter as usize);
+            put_excluded(x, o + c.place, c.size, relation, constant, out, at)
         }
     }
 }
