@@ -1,0 +1,204 @@
+//! The calls that are measured. Every library call reads the model's text, so
+//! the other sides read it too. The sides of a row stand in the
+//! order that module table names, and all must agree.
+
+use reference::assign;
+use reference::list;
+use reference::step;
+use reference::text::read;
+use wirdoku::library;
+
+use crate::input::Input;
+use crate::measure::{keep, Rounds};
+use crate::plain;
+use crate::table::{Row, Work};
+
+/// All calls on a model for a bound; those that need a run only if it has one.
+pub fn rows(input: &Input, bound: usize) -> Result<Vec<Row>, String> {
+    let mut rows = vec![
+        reading(input),
+        totals(input, bound)?,
+        emission(input, bound)?,
+    ];
+    rows.extend(search(input, bound)?);
+    rows.extend(runs(input, bound)?);
+    Ok(rows)
+}
+
+fn row(input: &Input, call: &'static str, bound: Option<usize>, work: Work, rounds: Rounds) -> Row {
+    Row {
+        call,
+        model: input.name.clone(),
+        bound,
+        work,
+        rounds,
+    }
+}
+
+fn agree(input: &Input, call: &str, agreed: bool) -> Result<(), String> {
+    if agreed {
+        Ok(())
+    } else {
+        Err(format!("{call} of {}: the answers differ", input.name))
+    }
+}
+
+fn reading(input: &Input) -> Row {
+    let text = input.text.as_slice();
+    let rounds = Rounds::of(&mut [&mut || keep(library::read(text)), &mut || keep(read(text))]);
+    row(input, "read", None, vec![(text.len(), "bytes")], rounds)
+}
+
+fn totals(input: &Input, bound: usize) -> Result<Row, String> {
+    let (text, model) = (input.text.as_slice(), &input.model);
+    let told = library::counts(text, bound);
+    let counted = list::totals(model, bound).map_err(|refusal| format!("{refusal:?}"))?;
+    let numbers = (
+        counted.variables as usize,
+        counted.clauses as usize,
+        counted.words as usize,
+    );
+    let agreed = (told.variables, told.clauses, told.words) == numbers
+        && plain::totals(model, bound) == Some(numbers);
+    agree(input, "counts", agreed)?;
+    let rounds = Rounds::of(&mut [
+        &mut || keep(library::counts(text, bound)),
+        &mut || keep(list::totals(&read(text).model, bound)),
+        &mut || keep(plain::totals(&read(text).model, bound)),
+        &mut || keep(plain::totals(model, bound)),
+        &mut || keep(library::read(text)),
+    ]);
+    Ok(row(
+        input,
+        "counts",
+        Some(bound),
+        vec![(1, "calls")],
+        rounds,
+    ))
+}
+
+pub fn emission(input: &Input, bound: usize) -> Result<Row, String> {
+    let (text, model) = (input.text.as_slice(), &input.model);
+    let words = library::counts(text, bound).words;
+    let mut buffers = [
+        vec![7; words],
+        vec![7; words],
+        vec![7; words],
+        vec![7; words],
+    ];
+    let [a, b, c, d] = &mut buffers;
+    let rounds = Rounds::of(&mut [
+        &mut || keep(library::emit(text, bound, a)),
+        &mut || keep(list::emit(&read(text).model, bound, b)),
+        &mut || keep(plain::emit(&read(text).model, bound, c)),
+        &mut || keep(plain::emit(model, bound, d)),
+        &mut || keep(library::read(text)),
+    ]);
+    agree(
+        input,
+        "emit",
+        buffers.windows(2).all(|pair| pair[0] == pair[1]),
+    )?;
+    Ok(row(
+        input,
+        "emit",
+        Some(bound),
+        vec![(words, "words")],
+        rounds,
+    ))
+}
+
+/// The search for a false clause in a list that has none, and the run.
+pub fn search(input: &Input, bound: usize) -> Result<Option<Row>, String> {
+    let (text, model) = (input.text.as_slice(), &input.model);
+    let (run, assignment) = match input.run(bound) {
+        Some(found) => found,
+        None => return Ok(None),
+    };
+    let mut buffers = [
+        vec![255; bound],
+        vec![255; bound],
+        vec![255; bound],
+        vec![255; bound],
+    ];
+    let [a, b, c, d] = &mut buffers;
+    let rounds = Rounds::of(&mut [
+        &mut || keep(library::assignment_to_run(text, bound, &assignment, a)),
+        &mut || keep(assign::decode(&read(text).model, bound, &assignment, b)),
+        &mut || keep(plain::decode(&read(text).model, bound, &assignment, c)),
+        &mut || keep(plain::decode(model, bound, &assignment, d)),
+        &mut || keep(library::read(text)),
+    ]);
+    agree(
+        input,
+        "assignment_to_run",
+        buffers.iter().all(|written| *written == run),
+    )?;
+    let clauses = library::counts(text, bound).clauses;
+    Ok(Some(row(
+        input,
+        "assignment_to_run",
+        Some(bound),
+        vec![(clauses, "clauses"), (assignment.len(), "bytes")],
+        rounds,
+    )))
+}
+
+/// The walker and the conversion of a run.
+fn runs(input: &Input, bound: usize) -> Result<Vec<Row>, String> {
+    match input.run(bound) {
+        Some((run, assignment)) => Ok(vec![
+            walking(input, &run)?,
+            encoding(input, &run, &assignment)?,
+        ]),
+        None => Ok(Vec::new()),
+    }
+}
+
+fn walking(input: &Input, run: &[u8]) -> Result<Row, String> {
+    let (text, model) = (input.text.as_slice(), &input.model);
+    let accepted = library::walk(text, run).number == 0
+        && step::walk(model, run) == (0, 0)
+        && plain::walk(model, run).is_some();
+    agree(input, "walk", accepted)?;
+    let rounds = Rounds::of(&mut [
+        &mut || keep(library::walk(text, run)),
+        &mut || keep(step::walk(&read(text).model, run)),
+        &mut || keep(plain::walk(&read(text).model, run)),
+        &mut || keep(plain::walk(model, run)),
+        &mut || keep(library::read(text)),
+    ]);
+    let steps = run.len();
+    Ok(row(
+        input,
+        "walk",
+        Some(steps),
+        vec![(steps, "steps")],
+        rounds,
+    ))
+}
+
+fn encoding(input: &Input, run: &[u8], assignment: &[u8]) -> Result<Row, String> {
+    let (text, model) = (input.text.as_slice(), &input.model);
+    let length = assignment.len();
+    let buffer = || vec![7; length];
+    let mut buffers = [buffer(), buffer(), buffer(), buffer()];
+    let [a, b, c, d] = &mut buffers;
+    let rounds = Rounds::of(&mut [
+        &mut || keep(library::run_to_assignment(text, run, a)),
+        &mut || keep(assign::encode(&read(text).model, run, b)),
+        &mut || keep(plain::encode(&read(text).model, run, c)),
+        &mut || keep(plain::encode(model, run, d)),
+        &mut || keep(library::read(text)),
+    ]);
+    let agreed = buffers.iter().all(|written| written == assignment);
+    agree(input, "run_to_assignment", agreed)?;
+    let work = vec![(length, "bytes")];
+    Ok(row(
+        input,
+        "run_to_assignment",
+        Some(run.len()),
+        work,
+        rounds,
+    ))
+}
