@@ -7,7 +7,7 @@ use model::Edge;
 use model::Model;
 use model::Sizes;
 use model::Update;
-use model::updates::in_range;
+use new_values::in_range;
 use numbering::Blocks;
 use numbering::clock_group;
 use numbering::counter_group;

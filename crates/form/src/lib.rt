@@ -181,7 +181,7 @@ fn update_formed(u: Update, vars: u8) -> bool
         Update::Keep => true,
         Update::Constant(c) => c <= Model::COUNTER_VALUE,
         Update::Sum { source, offset } => {
-            source < vars && model::updates::amount(offset) <= Model::COUNTER_VALUE
+            source < vars && new_values::amount(offset) <= Model::COUNTER_VALUE
         }
     }
 }

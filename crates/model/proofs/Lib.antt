@@ -2,7 +2,6 @@ pub mod IndexedLaws
 pub mod FormLaws
 pub mod StepLaws
 pub mod RunLaws
-pub mod Signed
 pub mod NewValues
 pub mod Filled
 pub mod Answers

@@ -5,7 +5,6 @@ use mathlib.Core.Bool.{Bool, true, false, not, _&&_, cond}
 use mathlib.Core.Option.{Option, none, some}
 use lib.ListN.{getD}
 use lib.Dec.{ltb, leb, eqb}
-use lib.IntN.{ℤ, pos, negsuc, natAbs}
 use Rattle.model.specs.declared.Relation.{Relation}
 use Rattle.model.specs.declared.Relation.the-variants.{Less, LessEqual, Equal, GreaterEqual, Greater, NotEqual}
 use Rattle.model.specs.declared.Atom.{Atom}
@@ -21,8 +20,7 @@ use Rattle.model.specs.declared.Model.{Model}
 use Rattle.model.specs.declared.State.{State}
 use Rattle.model.specs.declared.Stepped.{Stepped}
 use Rattle.model.specs.declared.Sizes.{Sizes}
-use Rattle.model.specs.declared.updates.NewValue.{NewValue}
-use Rattle.model.specs.declared.updates.NewValue.the-variants.{Value, OutOfRange}
+pub use Rattle.new_values.specs.NewValues.{inRange, moved, isNegative, shifted, newValue, isValue, valueOrZero}
 use Rattle.model.specs.Indexed.{listBelow, allBelow, maxBelow, sumBelow, onlyIf, isSome, orZero}
 use Rattle.model.specs.Record.{blankCounter, atomAt, updateAt, resetAt, counterAt, invariantAt, edgeAt}
 
@@ -121,24 +119,6 @@ delayedValue m d (counter i) v = v
 delayedValue m d (clock i) v = min (v + d) (ceiling m)
 
 -- ---- updates: keep, a constant, or another counter plus an offset
--- a value that must lie in 0 to `greatest`
-abbrev pub inRange : ℕ → ℕ → Option ℕ
-inRange greatest v = onlyIf (leb v greatest) v
-
--- v plus an amount, or less it, in 0 to `greatest`
-abbrev pub moved : ℕ → Bool → ℕ → ℕ → Option ℕ
-moved v false amount greatest = inRange greatest (v + amount)
-moved v true amount greatest = cond (leb amount v) (inRange greatest (v - amount)) none
-
--- the sign of an offset
-abbrev pub isNegative : ℤ → Bool
-isNegative (pos n) = false
-isNegative (negsuc n) = true
-
--- v plus an offset, in 0 to `greatest`
-abbrev pub shifted : ℤ → ℕ → ℕ → Option ℕ
-shifted offset greatest v = moved v (isNegative offset) (natAbs offset) greatest
-
 -- the new value of a counter, if it lies in its range; `before` gives the counters' values from before the edge
 abbrev pub newCounter : (ℕ → ℕ) → ℕ → ℕ → Update → Option ℕ
 newCounter before greatest own Keep = some own
@@ -194,21 +174,6 @@ unfoldable pub variables : Model → ℕ → ℕ
 variables m k = stateSize m + k * (stateSize m + choices m)
 
 -- ---- what the code answers
--- a new value, or that it is out of range
-abbrev pub newValue : Option ℕ → NewValue
-newValue none = OutOfRange
-newValue (some v) = Value v
-
--- the new value is in its range
-abbrev pub isValue : NewValue → Bool
-isValue OutOfRange = false
-isValue (Value v) = true
-
--- the new value, or 0 where it is out of range
-abbrev pub valueOrZero : NewValue → ℕ
-valueOrZero OutOfRange = 0
-valueOrZero (Value v) = v
-
 -- the new state, or the given one where there is none
 abbrev pub stepped : State → Option State → Stepped
 stepped s none = record { allowed = false; state = s }

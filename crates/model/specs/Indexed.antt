@@ -3,6 +3,7 @@ use mathlib.Core.Bool.{Bool, true, false, _&&_}
 use mathlib.Core.List.{List, [], _∷_, _++_}
 use mathlib.Core.Option.{Option, none, some}
 use Prim.Native.Nat.{ℕ, zero, suc, _+_, max}
+pub use Rattle.new_values.specs.NewValues.{onlyIf, isSome, orZero}
 
 module _ {ℓ} {A : Type ℓ} where
   -- for each index below n, in order: f 0 ++ f 1 ++ ..
@@ -30,11 +31,6 @@ unfoldable pub sumBelow : (ℕ → ℕ) → ℕ → ℕ
 sumBelow f zero = 0
 sumBelow f (suc n) = sumBelow f n + f n
 
--- a value that is there only if a test holds
-abbrev pub onlyIf {ℓ} : {A : Type ℓ} → Bool → A → Option A
-onlyIf true x = some x
-onlyIf false x = none
-
 module _ {ℓ κ} {A : Type ℓ} {B : Type κ} where
   -- go on with a value if it is there
   abbrev pub andThen : Option A → (A → Option B) → Option B
@@ -45,11 +41,3 @@ module _ {ℓ κ} {A : Type ℓ} {B : Type κ} where
   abbrev pub maybe : Option A → B → (A → B) → B
   maybe none y f = y
   maybe (some x) y f = f x
-
-abbrev pub isSome {ℓ} : {A : Type ℓ} → Option A → Bool
-isSome none = false
-isSome (some x) = true
-
-abbrev pub orZero : Option ℕ → ℕ
-orZero none = 0
-orZero (some x) = x

@@ -5,7 +5,7 @@ ghost use Rattle.model.specs.Record.{blankModel};
 mod atoms;
 mod steps;
 mod totals;
-pub mod updates;
+mod updates;
 
 // How an atom compares a value with its constant.
 pub enum Relation {

@@ -6,7 +6,7 @@ use crate::State;
 use crate::Stepped;
 use crate::atoms::all_hold;
 use crate::atoms::slot;
-use crate::updates::NewValue;
+use new_values::NewValue;
 ghost use mathlib.Core.Path.{_≡_};
 ghost use Prim.Native.Nat.{ℕ, _<_, min};
 ghost use Rattle.model.specs.Indexed.{listBelow, orZero};

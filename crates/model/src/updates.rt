@@ -2,85 +2,13 @@
 use crate::ClockUpdate;
 use crate::Update;
 use crate::atoms::slot;
+use new_values::NewValue;
+use new_values::in_range;
+use new_values::shift;
 ghost use mathlib.Core.Path.{_≡_};
 ghost use Prim.Native.Nat.{ℕ};
 ghost use lib.ListN.{getD};
-ghost use lib.IntN.{natAbs};
-ghost use Rattle.model.specs.Automaton.{inRange, moved, shifted, isNegative, newCounter, newClock, newValue, isValue, valueOrZero};
-
-// A counter's new value, where it lies in the counter's range.
-pub enum NewValue {
-    OutOfRange,
-    Value(u8),
-}
-
-impl NewValue {
-    pub fn is_value(self) -> bool
-        ensures { λ r. ⌜ r ≡ isValue self ⌝ }
-    {
-        match self {
-            NewValue::OutOfRange => false,
-            NewValue::Value(_) => true,
-        }
-    }
-
-    pub fn value_or_zero(self) -> u8
-        ensures { λ r. ⌜ r ≡ valueOrZero self ⌝ }
-    {
-        match self {
-            NewValue::OutOfRange => 0,
-            NewValue::Value(v) => v,
-        }
-    }
-}
-
-pub fn in_range(v: u16, greatest: u8) -> NewValue
-    ensures { λ r. ⌜ r ≡ newValue (inRange greatest v) ⌝ }
-{
-    if v <= greatest as u16 {
-        NewValue::Value(v as u8)
-    } else {
-        NewValue::OutOfRange
-    }
-}
-
-fn move_by(v: u8, negative: bool, amount: u8, greatest: u8) -> NewValue
-    ensures { λ r. ⌜ r ≡ newValue (moved v negative amount greatest) ⌝ }
-{
-    if negative {
-        if amount <= v {
-            in_range((v - amount) as u16, greatest)
-        } else {
-            NewValue::OutOfRange
-        }
-    } else {
-        in_range(v as u16 + amount as u16, greatest)
-    }
-}
-
-fn is_negative(z: i8) -> bool
-    ensures { λ r. ⌜ r ≡ isNegative z ⌝ }
-{
-    z < 0
-}
-
-// The offset without its sign.
-pub fn amount(z: i8) -> u8
-    ensures { λ r. ⌜ r ≡ natAbs z ⌝ }
-{
-    if z < 0 {
-        let up = -(z as i16);
-        up as u8
-    } else {
-        z as u8
-    }
-}
-
-pub fn shift(v: u8, offset: i8, greatest: u8) -> NewValue
-    ensures { λ r. ⌜ r ≡ newValue (shifted offset greatest v) ⌝ }
-{
-    move_by(v, is_negative(offset), amount(offset), greatest)
-}
+ghost use Rattle.model.specs.Automaton.{newCounter, newClock, newValue};
 
 impl Update {
     pub(crate) fn next(self, own: u8, before: [u8; 4], greatest: u8) -> NewValue

@@ -14,7 +14,7 @@ use Rattle.model.specs.declared.Relation.{Relation}
 use Rattle.model.specs.declared.Model.{Model}
 use Rattle.model.specs.Indexed.{each, onlyIf, isSome}
 use Rattle.model.specs.Automaton.{Component, meets, inRange, moved, shifted}
-use Rattle.model.proofs.Signed.{negative-test}
+use Rattle.new_values.proofs.Signed.{negative-test}
 use Rattle.list.specs.Lists.{toList}
 use Rattle.list.specs.Items.{Member, Item, rule, stateMember, choiceMember, nextBlock, excludeValue, puts}
 use Rattle.list.specs.Clauses.{oneHotWidth}

@@ -9,7 +9,7 @@ use model::Model;
 use model::Relation;
 use model::Update;
 use model::UpdateSlot;
-use model::updates::amount;
+use new_values::amount;
 ghost use mathlib.Core.Path.{_≡_};
 ghost use mathlib.Core.List.{[], _∷_};
 ghost use Prim.Native.Nat.{ℕ, _+_, _≤_};

@@ -5,7 +5,7 @@ use mathlib.Core.List.{[], _∷_}
 use mathlib.Core.Option.{Option, none, some}
 use Prim.Native.Nat.{ℕ, _+_}
 use Rattle.model.specs.declared.Relation.{Relation}
-use Rattle.model.specs.declared.updates.NewValue.{NewValue}
+use Rattle.new_values.specs.declared.NewValue.{NewValue}
 use Rattle.model.specs.Automaton.{meets, newValue}
 use Rattle.list.specs.Clauses.{bare, negated, one}
 use Rattle.rules.specs.Rules.{excluded, leading, putting, answered}

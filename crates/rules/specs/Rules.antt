@@ -4,8 +4,8 @@ use mathlib.Core.List.{List, [], _∷_, map}
 use mathlib.Core.Option.{Option, none, some}
 use Prim.Native.Nat.{ℕ, _+_, min}
 use Rattle.model.specs.declared.Relation.{Relation}
-use Rattle.model.specs.declared.updates.NewValue.{NewValue}
-use Rattle.model.specs.declared.updates.NewValue.the-variants.{Value, OutOfRange}
+use Rattle.new_values.specs.declared.NewValue.{NewValue}
+use Rattle.new_values.specs.declared.NewValue.the-variants.{Value, OutOfRange}
 use Rattle.model.specs.Automaton.{meets}
 use Rattle.list.specs.Lists.{toList}
 use Rattle.list.specs.Clauses.{Clause, bare, negated, one}

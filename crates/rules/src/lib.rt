@@ -1,7 +1,7 @@
 // Writers of rules for the values of a group, one value after the other. Variables are counted from 0.
 use model::Relation;
-use model::updates::NewValue;
-use model::updates::shift;
+use new_values::NewValue;
+use new_values::shift;
 use words::put_exclusion;
 use words::put_implication;
 use words::put_joint_implication;

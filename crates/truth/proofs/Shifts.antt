@@ -3,7 +3,7 @@ use mathlib.Core.Path.{_≡_, refl}
 use mathlib.Core.Option.{Option, none, some}
 use Prim.Native.Nat.{ℕ}
 use native.Mathlib.Omega.{arith}
-use Rattle.model.specs.declared.updates.NewValue.the-variants.{Value, OutOfRange}
+use Rattle.new_values.specs.declared.NewValue.the-variants.{Value, OutOfRange}
 use Rattle.model.specs.Automaton.{newValue}
 
 pub value-some : (x : Option ℕ) {u : ℕ} → Value u ≡ newValue x → x ≡ some u

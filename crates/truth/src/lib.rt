@@ -1,7 +1,7 @@
 // Which clauses an assignment makes true, and checks of a group's clauses and of a part of the list.
 use model::Relation;
-use model::updates::NewValue;
-use model::updates::shift;
+use new_values::NewValue;
+use new_values::shift;
 ghost use mathlib.Core.Path.{_≡_};
 ghost use mathlib.Core.List.{List, [], _∷_};
 ghost use Prim.Native.Nat.{ℕ, _+_, _<_, _≤_, min};

@@ -2,11 +2,11 @@ use borrow.Author.Needs.{needs}
 use mathlib.Core.Path.{_∙_, ap, ap₂}
 use mathlib.Core.Bool.{Bool}
 use Prim.Native.Nat.{ℕ}
-use Rattle.model.specs.Automaton.{moved, isNegative, newValue}
+use Rattle.new_values.specs.NewValues.{moved, isNegative, newValue}
 use lib.IntN.{natAbs}
 use mir.Facts.{toZ-ofZ}
-use Rattle.model.proofs.updates.shift.Statement.{statement}
-use Rattle.model.proofs.updates.shift.Tie as tie
+use Rattle.new_values.proofs.shift.Statement.{statement}
+use Rattle.new_values.proofs.shift.Tie as tie
 
 is-negative-requires : tie.Need-is-negative-requires
 is-negative-requires c κs = search needs

@@ -1,7 +1,7 @@
 use borrow.Author.Needs.{needs}
 use borrow.Author.Tests.{le-leb, lt-leb}
-use Rattle.model.proofs.updates.move_by.Statement.{statement}
-use Rattle.model.proofs.updates.move_by.Tie as tie
+use Rattle.new_values.proofs.move_by.Statement.{statement}
+use Rattle.new_values.proofs.move_by.Tie as tie
 
 cast-in-range : tie.Need-cast-in-range
 cast-in-range c = search needs

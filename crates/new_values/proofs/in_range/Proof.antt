@@ -1,7 +1,7 @@
 use borrow.Author.Needs.{needs}
 use borrow.Author.Tests.{le-leb, lt-leb}
-use Rattle.model.proofs.updates.in_range.Statement.{statement}
-use Rattle.model.proofs.updates.in_range.Tie as tie
+use Rattle.new_values.proofs.in_range.Statement.{statement}
+use Rattle.new_values.proofs.in_range.Tie as tie
 
 cast-t6 : tie.Need-cast-t6
 cast-t6 c = search needs

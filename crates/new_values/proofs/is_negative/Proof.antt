@@ -1,7 +1,7 @@
 use mir.Facts.{toZ-ofZ}
-use Rattle.model.proofs.Signed.{negative-test}
-use Rattle.model.proofs.updates.is_negative.Statement.{statement}
-use Rattle.model.proofs.updates.is_negative.Tie as tie
+use Rattle.new_values.proofs.Signed.{negative-test}
+use Rattle.new_values.proofs.is_negative.Statement.{statement}
+use Rattle.new_values.proofs.is_negative.Tie as tie
 
 returns : tie.Need-returns
 returns c = rw (toZ-ofZ (c .fits .z)) (negative-test (c .args .z))

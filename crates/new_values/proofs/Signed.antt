@@ -9,7 +9,7 @@ use lib.Dec.{T}
 use borrow.Author.Tests.{le-ltb, lt-ltb, ltb-true}
 use mir.Syntax.{w8, w16}
 use mir.Val.{SFits, Fits}
-use Rattle.model.specs.Automaton.{isNegative}
+use Rattle.new_values.specs.NewValues.{isNegative}
 
 pub negative-test : (z : ℤ) → ltZ z (pos 0) ≡ isNegative z
 negative-test (pos n) = le-ltb n 0 zero-le

@@ -1,9 +1,9 @@
 use borrow.Author.Needs.{needs}
 use mir.Syntax.{w16}
 use mir.Facts.{toZ-ofZ, sfits-widen}
-use Rattle.model.proofs.Signed.{minus-fits, minus-up, plus-up, minus-abs}
-use Rattle.model.proofs.updates.amount.Statement.{statement}
-use Rattle.model.proofs.updates.amount.Tie as tie
+use Rattle.new_values.proofs.Signed.{minus-fits, minus-up, plus-up, minus-abs}
+use Rattle.new_values.proofs.amount.Statement.{statement}
+use Rattle.new_values.proofs.amount.Tie as tie
 
 cast-up : tie.Need-cast-up
 cast-up c = rw (toZ-ofZ (c .before .fits .z)) (sfits-widen tt (c .before .fits .z))
