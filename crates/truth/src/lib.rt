@@ -106,7 +106,7 @@ fn counted(ok: bool, at: usize) -> Scan
     }
 }
 
-// Checks a group's clauses, counting on from `at`.
+// Checks a group's clauses, counting on from `at`. All pairs of a member that is false are true.
 pub fn check_group(a: &[u8], b: usize, n: usize, at: usize) -> Scan
     requires { ⌜ (b + n ≤ length (now a)) × (n ≤ 64) × (at ≤ 1000000000) ⌝ }
     ensures { λ r. ⌜ Checked (now (a .entry)) (groupClauses b n) at 4200 r ⌝ }
@@ -118,6 +118,11 @@ pub fn check_group(a: &[u8], b: usize, n: usize, at: usize) -> Scan
     let mut i = 0;
     'lower: while i < n {
         let m = n - (i + 1);
+        if !is_true(a, b + i) {
+            o += m;
+            i += 1;
+            continue 'lower;
+        }
         let mut d = 0;
         'upper: while d < m {
             if !not_both(a, b + i, b + i + 1 + d) {
