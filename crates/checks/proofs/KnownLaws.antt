@@ -1,27 +1,35 @@
 -- What the table of a well-formed model tells: where groups lie, which parts fit, and which pieces of the list they make.
-use mathlib.Core.Path.{_≡_, sym, ap, ap₂, subst, _∙_}
+use mathlib.Core.Path.{_≡_, refl, sym, ap, ap₂, subst, _∙_}
+use mathlib.Core.Bool.{Bool, true, false, cond}
 use mathlib.Core.List.{List, [], _∷_, _++_}
-use Prim.Native.Nat.{ℕ, _+_, _-_, _*_, _≤_, _<_}
+use Prim.Native.Nat.{ℕ, zero, suc, _+_, _-_, _*_, _≤_, _<_}
 use native.Mathlib.Nat.{mul-le-mul-right, suc-mul}
 use native.Mathlib.Omega.{arith}
+use lib.Dec.{ltb}
+use lib.ListN.{length, getD}
 use Rattle.model.specs.declared.Model.{Model}
-use Rattle.model.specs.Indexed.{each}
+use Rattle.model.specs.Indexed.{each, sumBelow}
 use Rattle.model.specs.Record.{atomAt, invariantAt, edgeAt, counterAt}
 use Rattle.model.specs.Automaton.{ceiling, Component, loc, groupSize, initialValue, stateSize, choices, variables}
+use Rattle.model.proofs.IndexedLaws.{length-each}
 use Rattle.model.proofs.FormLaws.{WellFormed, formed, choices-is, variables-is}
 use Rattle.list.specs.Items.{blockAt, stateWidth, stateMember, groupItems, initialItems, invariantItems, excludeFailing, excludeAllFailing, choiceItems, delayItems, delaysItems, edgeItems}
 use Rattle.list.specs.Clauses.{Clause, oneHotWidth, groupClauses, clausesOf}
+use Rattle.list.specs.Assignments.{bit}
 use Rattle.list.proofs.ListLaws.{each-cong}
 use Rattle.list.proofs.OneHot.{state-width-is}
 use Rattle.list.proofs.Pieces.{invariants-piece, atoms-piece, choice-piece, delays-piece}
+use Rattle.truth.specs.declared.Rule.the-variants.{Keep, Rise}
 use Rattle.truth.specs.Parts.{partClauses, Fits}
+use Rattle.truth.proofs.Skips.{AllTrue, all-each, part-true, keep-length, rise-length}
+use Rattle.piece_tables.specs.Tables.{Table, invariantOf, edgeOf}
 use Rattle.parts.specs.declared.Blocks.{Blocks}
 use Rattle.parts.specs.StateBlock.{componentAt, blocksOf, firstAt, sizeAt, Bounded}
-use Rattle.parts.specs.PartsOf.{atomPart, delayPart, edgePart}
-use Rattle.parts.proofs.GroupLaws.{size-is, comp-counter, comp-clock, bounded, group-cases}
+use Rattle.parts.specs.PartsOf.{atomPart, leadsPart, delayPart, edgePart}
+use Rattle.parts.proofs.GroupLaws.{size-is, comp-counter, comp-clock, bounded, group-cases, block-is}
 use Rattle.parts.proofs.PartPieces.{groups-are, top-is, state-is, choices-are, groups-law, initial-law, atom-law, delay-law, edge-law}
 use Rattle.parts.proofs.PartFits.{group-fits, group-small, locations-in, atom-fits, delay-fits, edge-fits}
-use Rattle.checks.specs.Pieces.{Known, BlockIn, StepIn, groupPiece, initialPiece, atomPiece, locationPiece, delayPieces, frontPiece, edgePiece, edgeClauses}
+use Rattle.checks.specs.Pieces.{Known, BlockIn, StepIn, groupPiece, initialPiece, atomPiece, locationPiece, delayPiece, delayPieces, frontPiece, edgePiece, edgeClauses}
 
 -- ---- initial values by number
 module _ (m : Model) where
@@ -60,6 +68,15 @@ step-room m t k l =
       mul-le-mul-right (stateSize m + choices m) l,
       suc-mul t (stateSize m + choices m),
     )
+
+sum-same : (f g : ℕ → ℕ) (n : ℕ) → ((i : ℕ) → i < n → f i ≡ g i) → sumBelow f n ≡ sumBelow g n
+unfolding sumBelow
+sum-same f g zero h = refl
+sum-same f g (suc n) h = omega (arith, sum-same f g n (λ i l. h i (omega arith)), h n (omega arith))
+
+-- a delay that is false
+pub delay-true : (a : List ℕ) (b : Blocks) (o d : ℕ) → bit a (o + b .state + d) ≡ false → AllTrue a (delayPieces b o d)
+delay-true a b o d h = all-each a (delayPiece b o d) (b .groups) (λ g. part-true a (o + b .state + d) h (delayPart b o d g))
 
 module _ {m : Model} {b : Blocks} (k : Known m b) where
   pub wf : WellFormed m
@@ -112,18 +129,25 @@ module _ {m : Model} {b : Blocks} (k : Known m b) where
       subst (λ (x : Blocks). each (x .groups) (initialPiece m x) ≡ clausesOf (initialItems oneHotWidth m)) (sym (k .is)) (initial-law m (wf .vars-le) (wf .clocks-le))
 
   -- ---- invariants
+  pub location-piece-of : (o l : ℕ) → l < m .locations → locationPiece m b o l ≡ clausesOf (invariantOf m o l)
+  location-piece-of o l p =
+      let z : o + l ≡ o + 0 + l = omega arith in
+      each-cong 4 (atomPiece b o (o + l) (invariantAt m l)) (λ j. clausesOf (excludeFailing oneHotWidth m o (stateMember oneHotWidth m o loc l ∷ []) (atomAt (invariantAt m l) j)))
+      (λ j q. ap (λ (x : ℕ). partClauses x (atomPart b o (atomAt (invariantAt m l) j))) z ∙ ap
+      (λ (x : Blocks). partClauses (o + 0 + l) (atomPart x o (atomAt (invariantAt m l) j))) (k .is) ∙ atom-law m wf o (stateMember oneHotWidth m o loc l) (atomAt (invariantAt m l) j)
+      (wf .invariant-ok l p j q)) ∙ sym (atoms-piece m o (stateMember oneHotWidth m o loc l ∷ []) (invariantAt m l))
+
   pub invariants-piece-of : (o : ℕ) → each (m .locations) (locationPiece m b o) ≡ clausesOf (invariantItems oneHotWidth m o)
   invariants-piece-of o =
-      each-cong (m .locations) (locationPiece m b o) (λ l. clausesOf (excludeAllFailing oneHotWidth m o (stateMember oneHotWidth m o loc l ∷ []) (invariantAt m l))) at-location ∙ sym
-      (invariants-piece m o)
-    where
-      at-location : (l : ℕ) → l < m .locations → locationPiece m b o l ≡ clausesOf (excludeAllFailing oneHotWidth m o (stateMember oneHotWidth m o loc l ∷ []) (invariantAt m l))
-      at-location l p =
-          let z : o + l ≡ o + 0 + l = omega arith in
-          each-cong 4 (atomPiece b o (o + l) (invariantAt m l)) (λ j. clausesOf (excludeFailing oneHotWidth m o (stateMember oneHotWidth m o loc l ∷ []) (atomAt (invariantAt m l) j)))
-          (λ j q. ap (λ (x : ℕ). partClauses x (atomPart b o (atomAt (invariantAt m l) j))) z ∙ ap
-          (λ (x : Blocks). partClauses (o + 0 + l) (atomPart x o (atomAt (invariantAt m l) j))) (k .is) ∙ atom-law m wf o (stateMember oneHotWidth m o loc l) (atomAt (invariantAt m l) j)
-          (wf .invariant-ok l p j q)) ∙ sym (atoms-piece m o (stateMember oneHotWidth m o loc l ∷ []) (invariantAt m l))
+      each-cong (m .locations) (locationPiece m b o) (λ l. clausesOf (invariantOf m o l)) (location-piece-of o) ∙ sym (invariants-piece m o)
+
+  -- a location that is false
+  pub location-true : (a : List ℕ) (o l : ℕ) → bit a (o + l) ≡ false → AllTrue a (locationPiece m b o l)
+  location-true a o l h =
+      all-each a (atomPiece b o (o + l) (invariantAt m l)) 4 (λ j. part-true a (o + l) h (atomPart b o (atomAt (invariantAt m l) j)))
+
+  pub location-clauses : {table : List ℕ} (o l : ℕ) → l < m .locations → Table (invariantOf m) (m .locations) 16 1024 table → getD table l 0 ≡ length (locationPiece m b o l)
+  location-clauses o l p t = t .clauses-are l p o ∙ ap length (sym (location-piece-of o l p))
 
   pub invariant-fits : (o n l : ℕ) → o + stateSize m ≤ n → l < m .locations → (j : ℕ) → j < 4 → Fits (atomPart b o (atomAt (invariantAt m l) j)) n
   invariant-fits o n l h p j q =
@@ -151,11 +175,26 @@ module _ {m : Model} {b : Blocks} (k : Known m b) where
           ap (λ (n : ℕ). each (n + 1) (delayPieces b o)) known-top ∙ each-cong (ceiling m + 1) (delayPieces b o) (λ d. clausesOf (delayItems oneHotWidth m o d)) (λ d l. delay d) ∙ sym
           (delays-piece m o)
 
+  -- a delay has a clause for each member
+  members-are : sumBelow (sizeAt b) (b .groups) ≡ b .state
+  members-are =
+      subst (λ (x : Blocks). sumBelow (sizeAt x) (x .groups) ≡ x .state) (sym (k .is))
+      (ap (sumBelow (sizeAt (blocksOf m))) (groups-are m) ∙ sum-same (sizeAt (blocksOf m)) (λ g. groupSize m (componentAt m g)) (1 + m .vars + m .clocks)
+      (λ g l. size-is m g (omega (arith, wf .vars-le, wf .clocks-le))) ∙ sym (block-is m) ∙ sym (state-is m))
+
+  delay-clauses-of : (o d : ℕ) → b .state ≡ length (delayPieces b o d)
+  delay-clauses-of o d = sym (length-each (sizeAt b) (b .groups) (delayPiece b o d) (λ g. by g (ltb g (1 + b .vars))) ∙ members-are)
+    where
+      by : (g : ℕ) (t : Bool) → length (partClauses (o + b .state + d) (leadsPart b o g g (cond t Keep (Rise d (b .top))))) ≡ sizeAt b g
+      by g true = keep-length _ _ _ _
+      by g false = rise-length _ _ _ _ _ _
+
   pub step-in : (o n : ℕ) → o + stateSize m + choices m + stateSize m ≤ n → StepIn b o n
   step-in o n h = record {
     choice-in = omega (arith, known-state, known-choices);
     delay-is-choice = omega (arith, known-top, known-choices, choices-is m);
     delay-fits = λ d g l. subst (λ (x : Blocks). Fits (delayPart x o d g) n) (sym (k .is)) (delay-fits m wf o n h d g (omega (arith, known-groups)));
+    delay-clauses = delay-clauses-of o;
   }
 
   pub edge-piece-of : (o x e : ℕ) → e < m .used → x ≡ o + stateSize m + (ceiling m + 1 + e)
@@ -171,3 +210,12 @@ module _ {m : Model} {b : Blocks} (k : Known m b) where
   edge-fits-of o n h e p j l =
       subst (λ (x : Blocks). Fits (edgePart x (edgeAt m e) o j) n) (sym (k .is))
       (edge-fits m wf o n h (edgeAt m e) (wf .edge-ok e p) j (subst (λ (x : Blocks). j < x .groups + 5) (k .is) l))
+
+  -- an edge that is false
+  pub edge-true : (a : List ℕ) (o x e : ℕ) → e < m .used → x ≡ o + stateSize m + (ceiling m + 1 + e) → bit a x ≡ false → AllTrue a (edgeClauses m o e)
+  edge-true a o x e l z h =
+      subst (AllTrue a) (edge-piece-of o x e l z) (all-each a (edgePiece x b (edgeAt m e) o) (b .groups + 5) (λ j. part-true a x h (edgePart b (edgeAt m e) o j)))
+
+  pub edge-clauses : {table : List ℕ} (o e : ℕ) → e < m .used → Table (edgeOf m) (m .used) 32 3074 table → getD table e 0 ≡ length (edgeClauses m o e)
+  unfolding edgeClauses
+  edge-clauses o e l t = t .clauses-are e l o

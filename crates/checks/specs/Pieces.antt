@@ -3,6 +3,7 @@ use mathlib.Core.Path.{_≡_}
 use mathlib.Core.List.{List, [], _∷_, _++_}
 use Prim.Native.Nat.{ℕ, _+_, _≤_, _<_}
 use lib.Dec.{T}
+use lib.ListN.{length}
 use Rattle.model.specs.declared.AtomSlot.{AtomSlot}
 use Rattle.model.specs.declared.Edge.{Edge}
 use Rattle.model.specs.declared.Model.{Model}
@@ -27,12 +28,6 @@ pub record BlockIn (b : Blocks) (o n : ℕ) : Type 0 where
   pub groups-le : b .groups ≤ 9
   pub group-in : (g : ℕ) → g < b .groups → o + firstAt b g + sizeAt b g ≤ n
   pub group-le : (g : ℕ) → g < b .groups → sizeAt b g ≤ 64
-
--- So do the choice block after it and all that delays name.
-pub record StepIn (b : Blocks) (o n : ℕ) : Type 0 where
-  pub choice-in : o + b .state + b .choices ≤ n
-  pub delay-is-choice : b .top < b .choices
-  pub delay-fits : (d g : ℕ) → g < b .groups → Fits (delayPart b o d g) n
 
 -- Group g: its group clauses.
 abbrev pub groupPiece : Blocks → ℕ → ℕ → List Clause
@@ -61,6 +56,13 @@ edgePiece x b e o j = partClauses x (edgePart b e o j)
 -- Delay d.
 abbrev pub delayPieces : Blocks → ℕ → ℕ → List Clause
 delayPieces b o d = each (b .groups) (delayPiece b o d)
+
+-- The choice block after the state block at o and all that delays name lie below n, and a delay has a clause for each member of the state block.
+pub record StepIn (b : Blocks) (o n : ℕ) : Type 0 where
+  pub choice-in : o + b .state + b .choices ≤ n
+  pub delay-is-choice : b .top < b .choices
+  pub delay-fits : (d g : ℕ) → g < b .groups → Fits (delayPart b o d g) n
+  pub delay-clauses : (d : ℕ) → b .state ≡ length (delayPieces b o d)
 
 -- A step up to its edges: the choice's group, then the delays.
 abbrev pub frontPiece : Blocks → ℕ → List Clause

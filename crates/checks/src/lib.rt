@@ -18,6 +18,7 @@ ghost use Rattle.list.specs.Items.{invariantItems, stateItems, initialItems, st
 ghost use Rattle.list.specs.Clauses.{oneHotWidth, clausesOf};
 ghost use Rattle.truth.specs.Scanning.{Checked};
 ghost use Rattle.truth.specs.Parts.{Fits};
+ghost use Rattle.piece_tables.specs.Tables.{Table, invariantOf};
 ghost use Rattle.parts.specs.StateBlock.{componentAt, Bounded};
 ghost use Rattle.parts.specs.PartsOf.{atomPart};
 ghost use Rattle.checks.specs.Pieces.{Known, BlockIn, StepIn, groupPiece, atomPiece, delayPiece, delayPieces, frontPiece};
@@ -75,15 +76,20 @@ fn check_atoms(b: Blocks, a: &[u8], o: usize, x: usize, atoms: [AtomSlot; 4], at
     }
 }
 
-// The invariant clauses of the state block that begins at `o`.
-fn check_invariants(m: Model, b: Blocks, a: &[u8], o: usize, at: usize) -> Scan
-    requires { ⌜ Known m b × (o ≤ 1000000) × (o + stateSize m ≤ length (now a)) × (at ≤ 700000000) ⌝ }
-    ensures { λ r. ⌜ Checked (now (a .entry)) (clausesOf (invariantItems oneHotWidth m o)) at 2048 r ⌝ }
+// The invariant clauses of the state block that begins at `o`. All clauses of a location that is false are true.
+fn check_invariants(m: Model, b: Blocks, table: [usize; 16], a: &[u8], o: usize, at: usize) -> Scan
+    requires { ⌜ Known m b × Table (invariantOf m) (m .locations) 16 1024 table × (o ≤ 1000000) × (o + stateSize m ≤ length (now a)) × (at ≤ 700000000) ⌝ }
+    ensures { λ r. ⌜ Checked (now (a .entry)) (clausesOf (invariantItems oneHotWidth m o)) at 16384 r ⌝ }
 {
     let n = m.locations as usize;
     let mut count = at;
     let mut l = 0;
     while l < n {
+        if !is_true(a, o + l) {
+            count += table[l];
+            l += 1;
+            continue;
+        }
         let v = m.invariants[l];
         let atoms = v.atoms;
         let s = check_atoms(b, a, o, o + l, atoms, count);
@@ -103,15 +109,15 @@ fn check_invariants(m: Model, b: Blocks, a: &[u8], o: usize, at: usize) -> Scan
 }
 
 // The state clauses of the state block that begins at `o`.
-pub fn check_state(m: Model, b: Blocks, a: &[u8], o: usize, at: usize) -> Scan
-    requires { ⌜ Known m b × (o ≤ 1000000) × (o + stateSize m ≤ length (now a)) × (at ≤ 600000000) ⌝ }
-    ensures { λ r. ⌜ Checked (now (a .entry)) (clausesOf (stateItems oneHotWidth m o)) at 40000 r ⌝ }
+pub fn check_state(m: Model, b: Blocks, table: [usize; 16], a: &[u8], o: usize, at: usize) -> Scan
+    requires { ⌜ Known m b × Table (invariantOf m) (m .locations) 16 1024 table × (o ≤ 1000000) × (o + stateSize m ≤ length (now a)) × (at ≤ 600000000) ⌝ }
+    ensures { λ r. ⌜ Checked (now (a .entry)) (clausesOf (stateItems oneHotWidth m o)) at 60000 r ⌝ }
 {
     let s = check_groups(b, a, o, at);
     if !s.ok {
         return s;
     }
-    check_invariants(m, b, a, o, s.at)
+    check_invariants(m, b, table, a, o, s.at)
 }
 
 // The initial value of group `g`.
@@ -157,11 +163,11 @@ fn check_initial(m: Model, b: Blocks, a: &[u8], at: usize) -> Scan
 }
 
 // The clauses of the start.
-pub fn check_start(m: Model, b: Blocks, a: &[u8]) -> Scan
-    requires { ⌜ Known m b × (stateSize m ≤ length (now a)) ⌝ }
-    ensures { λ r. ⌜ Checked (now (a .entry)) (clausesOf (startItems oneHotWidth m)) 0 50000 r ⌝ }
+pub fn check_start(m: Model, b: Blocks, table: [usize; 16], a: &[u8]) -> Scan
+    requires { ⌜ Known m b × Table (invariantOf m) (m .locations) 16 1024 table × (stateSize m ≤ length (now a)) ⌝ }
+    ensures { λ r. ⌜ Checked (now (a .entry)) (clausesOf (startItems oneHotWidth m)) 0 70000 r ⌝ }
 {
-    let s = check_state(m, b, a, 0, 0);
+    let s = check_state(m, b, table, a, 0, 0);
     if !s.ok {
         return s;
     }
@@ -194,7 +200,8 @@ fn check_delay(b: Blocks, a: &[u8], o: usize, d: u8, at: usize) -> Scan
     }
 }
 
-// The clauses of all delays from the state block that begins at `o`.
+// The clauses of all delays from the state block that begins at `o`. All clauses of a delay that is false are true, one for
+// each member of the state block.
 fn check_delays(b: Blocks, a: &[u8], o: usize, at: usize) -> Scan
     requires { ⌜ Bounded b × (o ≤ 1000000) × StepIn b o (length (now a)) × (at ≤ 700000000) ⌝ }
     ensures { λ r. ⌜ Checked (now (a .entry)) (each (b .top + 1) (delayPieces b o)) at 9216 r ⌝ }
@@ -203,6 +210,11 @@ fn check_delays(b: Blocks, a: &[u8], o: usize, at: usize) -> Scan
     let mut count = at;
     let mut d = 0;
     while d < n {
+        if !is_true(a, o + b.state + d) {
+            count += b.state;
+            d += 1;
+            continue;
+        }
         let s = check_delay(b, a, o, d as u8, count);
         count = s.at;
         if !s.ok {

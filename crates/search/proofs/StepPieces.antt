@@ -1,8 +1,10 @@
 -- A false clause within a step is the first of all steps, and a step is passed where its pieces are.
 use mathlib.Core.Path.{_≡_, sym, ap, ap₂, _∙_}
+use mathlib.Core.Bool.{false}
 use mathlib.Core.List.{List, _++_}
 use Prim.Native.Nat.{ℕ, _+_, _≤_, _<_}
 use native.Mathlib.Omega.{arith}
+use lib.ListN.{getD}
 use Rattle.model.specs.declared.Model.{Model}
 use Rattle.model.specs.Indexed.{each}
 use Rattle.model.specs.Record.{edgeAt}
@@ -10,15 +12,18 @@ use Rattle.model.specs.Automaton.{ceiling, stateSize, choices, variables}
 use Rattle.model.proofs.FormLaws.{variables-le}
 use Rattle.list.specs.Items.{blockAt, nextBlock, choiceItems, delaysItems, stateItems, stepItems}
 use Rattle.list.specs.Clauses.{Clause, oneHotWidth, clausesOf}
+use Rattle.list.specs.Assignments.{bit}
 use Rattle.list.proofs.OneHot.{next-block-is}
 use Rattle.list.proofs.Pieces.{next-block, step-piece, edges-piece}
 use Rattle.truth.specs.declared.Part.{Part}
 use Rattle.truth.specs.Parts.{valueClauses, partClauses}
+use Rattle.truth.proofs.Skips.{passed-over}
 use Rattle.truth.proofs.Scans.{Passed, Failed, passed-then, failed-then, failed-more, passed-each, failed-each, passed-as, failed-as}
+use Rattle.piece_tables.specs.Tables.{Table, edgeOf}
 use Rattle.parts.specs.declared.Blocks.{Blocks}
 use Rattle.parts.specs.PartsOf.{edgePart}
 use Rattle.checks.specs.Pieces.{Known, frontPiece, edgePiece, edgeClauses, stepClauses}
-use Rattle.checks.proofs.KnownLaws.{wf, known-state, known-choices, front-piece-of, edge-piece-of, step-room}
+use Rattle.checks.proofs.KnownLaws.{wf, known-state, known-choices, front-piece-of, edge-piece-of, edge-true, edge-clauses, step-room}
 
 module _ {m : Model} {b : Blocks} (k : Known m b) where
   abbrev statePiece : ℕ → List Clause
@@ -71,6 +76,10 @@ module _ {m : Model} {b : Blocks} (k : Known m b) where
 
         pub edge-passed : {j : ℕ} → Passed a (each (b .groups + 5) (edgePiece x b (edgeAt m d) o)) i₂ j → Passed a (each (d + 1) (edgeClauses m o)) i₁ j
         edge-passed p = passed-each (edgeClauses m o) d edges (passed-as (edge-piece-of k o x d u z) p)
+
+        -- an edge whose choice is false
+        pub edge-skipped : {table : List ℕ} {j : ℕ} → Table (edgeOf m) (m .used) 32 3074 table → bit a x ≡ false → j ≡ i₂ + getD table d 0 → Passed a (each (d + 1) (edgeClauses m o)) i₁ j
+        edge-skipped t h c = passed-each (edgeClauses m o) d edges (passed-over (edge-true k a o x d u z h) (edge-clauses k o d u t) c)
 
   pub part-passed : {a : List ℕ} (d x o p : ℕ) {part : Part} {i j i₂ : ℕ} → Passed a (each p (edgePiece x b (edgeAt m d) o)) i₂ i → part ≡ edgePart b (edgeAt m d) o p
       → Passed a (each (part .size) (valueClauses x part)) i j → Passed a (each (p + 1) (edgePiece x b (edgeAt m d) o)) i₂ j

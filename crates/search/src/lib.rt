@@ -5,6 +5,8 @@ use checks::check_state;
 use model::Model;
 use parts::Blocks;
 use parts::blocks_of;
+use piece_tables::edge_table;
+use piece_tables::invariant_table;
 use truth::Scan;
 use truth::check_value;
 use truth::is_true;
@@ -17,6 +19,7 @@ ghost use Rattle.model.specs.Automaton.{variables};
 ghost use Rattle.model.specs.Form.{wellFormed};
 ghost use Rattle.list.specs.Clauses.{clauses};
 ghost use Rattle.list.specs.Assignments.{firstFalse};
+ghost use Rattle.piece_tables.specs.Tables.{Table, invariantOf, edgeOf};
 ghost use Rattle.truth.specs.Scanning.{Checked};
 ghost use Rattle.checks.specs.Pieces.{Known, stepClauses};
 ghost use Rattle.search.specs.Answer.{found};
@@ -27,10 +30,19 @@ pub enum Found {
     Nothing,
 }
 
-// The clauses of the steps. The loops over step, edge, part and value are left at the first false clause.
-fn check_steps(m: Model, b: Blocks, bound: usize, a: &[u8], at: usize) -> Scan
-    requires { ⌜ Known m b × (bound ≤ 64) × (length (now a) ≡ variables m bound) × (at ≤ 100000) ⌝ }
-    ensures { λ r. ⌜ Checked (now (a .entry)) (each bound (stepClauses m)) at 6400000 r ⌝ }
+// The clauses of the steps. The loops over step, edge, part and value are left at the first false clause. All clauses of an edge
+// whose choice is false are true: they are counted and not looked at.
+fn check_steps(
+    m: Model,
+    b: Blocks,
+    invariants: [usize; 16],
+    table: [usize; 32],
+    bound: usize,
+    a: &[u8],
+    at: usize,
+) -> Scan
+    requires { ⌜ Known m b × Table (invariantOf m) (m .locations) 16 1024 invariants × Table (edgeOf m) (m .used) 32 3074 table × (bound ≤ 64) × (length (now a) ≡ variables m bound) × (at ≤ 100000) ⌝ }
+    ensures { λ r. ⌜ Checked (now (a .entry)) (each bound (stepClauses m)) at 12800000 r ⌝ }
 {
     let used = m.used as usize;
     let edges_at = b.state + b.top as usize + 1;
@@ -47,8 +59,13 @@ fn check_steps(m: Model, b: Blocks, bound: usize, a: &[u8], at: usize) -> Scan
         }
         let mut e = 0;
         'edges: while e < used {
-            let edge = m.edges[e];
             let x = o + edges_at + e;
+            if !is_true(a, x) {
+                count += table[e];
+                e += 1;
+                continue 'edges;
+            }
+            let edge = m.edges[e];
             let mut j = 0;
             'parts: while j < parts {
                 let part = b.edge_part(edge, o, j);
@@ -67,7 +84,7 @@ fn check_steps(m: Model, b: Blocks, bound: usize, a: &[u8], at: usize) -> Scan
             e += 1;
         }
         o += block;
-        let state = check_state(m, b, a, o, count);
+        let state = check_state(m, b, invariants, a, o, count);
         count = state.at;
         if !state.ok {
             break 'steps;
@@ -93,11 +110,14 @@ pub fn first_false(m: Model, bound: usize, a: &[u8]) -> Found
     ensures { λ r. ⌜ found r ≡ firstFalse (now (a .entry)) (clauses m bound) ⌝ }
 {
     let b = blocks_of(m);
-    let start = check_start(m, b, a);
+    let top = b.top as usize;
+    let invariants = invariant_table(m, top);
+    let start = check_start(m, b, invariants, a);
     if !start.ok {
         return Found::At(start.at);
     }
-    let steps = check_steps(m, b, bound, a, start.at);
+    let edges = edge_table(m, top);
+    let steps = check_steps(m, b, invariants, edges, bound, a, start.at);
     if !steps.ok {
         return Found::At(steps.at);
     }

@@ -1,53 +1,97 @@
-use borrow.Author.Needs.{needs}
-use Rattle.checks.proofs.KnownLaws.{wf, known-bounded, known-locations, invariant-fits, invariants-piece-of}
-use Rattle.checks.specs.Pieces.{locationPiece}
-use Rattle.truth.proofs.Scans.{Passed, passed-each, passed-each-none, failed-each, passed-scan, failed-scan, checked-passed, checked-failed, passed-as, failed-as}
-use Rattle.model.specs.Indexed.{each}
-use lib.ListN.{length}
-use denote.Ref.{now}
-use borrow.Author.Tests.{not-true, not-false}
-use Prim.Native.Nat.{_+_, _*_, _-_, _≤_}
-use mathlib.Core.Path.{_≡_}
 use native.Mathlib.Omega.{arith}
+use mathlib.Core.Path.{_≡_, refl, sym, _∙_}
+use Prim.Native.Nat.{_+_, _*_, _-_, _≤_}
+use borrow.Author.Tests.{not-true, not-false}
+use denote.Ref.{now}
+use lib.ListN.{length}
+use Rattle.model.specs.Indexed.{each}
+use Rattle.truth.proofs.Scans.{Passed, passed-each, passed-each-none, failed-each, passed-scan, failed-scan, checked-passed, checked-failed, passed-as, failed-as}
+use Rattle.truth.proofs.Skips.{passed-over}
+use Rattle.checks.specs.Pieces.{locationPiece}
+use Rattle.checks.proofs.KnownLaws.{wf, known-bounded, known-locations, invariant-fits, invariants-piece-of, location-true, location-clauses}
+use borrow.Author.Needs.{needs}
 use Rattle.checks.proofs.check_invariants.Statement.{statement}
 use Rattle.checks.proofs.check_invariants.Tie as tie
 
 abbrev Inv-loop : tie.InvT-loop
-Inv-loop b a o at m n count₀ l₀ count l = (l ≤ n) × (count ≤ at + l * 128) × Passed a (each l (locationPiece m b o)) at count
+Inv-loop b a o at m table n count₀ l₀ count l = (l ≤ n) × (count ≤ at + l * 1024) × Passed a (each l (locationPiece m b o)) at count
 
 abbrev μ-loop : tie.MeasureT-loop
-μ-loop b a o at m n count₀ l₀ count l = n - l
+μ-loop b a o at m table n count₀ l₀ count l = n - l
 
+-- src/lib.rt:91:13
 cast-n : tie.Need-cast-n Inv-loop μ-loop
 cast-n c = search needs
 
+-- src/lib.rt:94:5
 loop-holds : tie.Need-loop-holds Inv-loop μ-loop
 loop-holds c = (omega arith, omega arith, passed-each-none _ _ _)
 
-mul-v : tie.Need-mul-v Inv-loop μ-loop
-mul-v c = omega (arith, wf (c .before .before .before .pre .0) .locations-le)
+-- src/lib.rt:95:24
+add-is-true : tie.Need-add-is-true Inv-loop μ-loop
+add-is-true c = record { fits = omega (arith, wf (c .before .before .before .pre .0) .locations-le) }
 
-element-copy-out-v : tie.Need-element-copy-out-v Inv-loop μ-loop
-element-copy-out-v c = omega (arith, wf (c .before .before .before .pre .0) .locations-le)
+-- src/lib.rt:95:13
+is-true-requires : tie.Need-is-true-requires Inv-loop μ-loop
+is-true-requires c κs = omega (arith, known-locations (c .before .before .before .pre .0))
 
-add-check-atoms : tie.Need-add-check-atoms Inv-loop μ-loop
-add-check-atoms c = record { fits = omega (arith, wf (c .before .before .before .before .before .pre .0) .locations-le) }
+-- src/lib.rt:96:22
+mul-count : tie.Need-mul-count Inv-loop μ-loop
+mul-count c = omega (arith, wf (c .before .before .before .before .before .pre .0) .locations-le)
 
-check-atoms-requires : tie.Need-check-atoms-requires Inv-loop μ-loop
-check-atoms-requires c κs = (known-bounded (c .before .before .before .before .before .pre .0), c .before .before .before .before .before .pre .1, omega (arith, known-locations (c .before .before .before .before .before .pre .0)), invariant-fits (c .before .before .before .before .before .pre .0) (c .before .before .before .before .before .args .o) (length (now (c .before .before .before .before .before .args .a))) (c .before .before .before .loop .l) (c .before .before .before .before .before .pre .2) (c .before .before .loop-test .taken), omega (arith, wf (c .before .before .before .before .before .pre .0) .locations-le))
+-- src/lib.rt:96:22
+array-read-count : tie.Need-array-read-count Inv-loop μ-loop
+array-read-count c = omega (arith, wf (c .before .before .before .before .before .pre .0) .locations-le, c .before .before .before .before .before .pre .1 .slots-are)
 
-returns : tie.Need-returns Inv-loop μ-loop
-returns c = checked-failed (failed-as (invariants-piece-of (c .before .before .before .before .before .before .before .before .pre .0) (c .before .before .before .before .before .before .before .before .args .o)) (failed-each _ _ _ (c .before .before .before .before .before .loop-test .taken) (c .before .before .before .before .before .before .loop .inv .2) (failed-scan (c .before .before .check-atoms .ensures) (not-true _ (c .if1 .taken))))) (omega (arith, c .before .before .check-atoms .ensures .most, wf (c .before .before .before .before .before .before .before .before .pre .0) .locations-le))
+-- src/lib.rt:96:13
+add-count : tie.Need-add-count Inv-loop μ-loop
+add-count c = record { fits = omega (arith, wf (c .before .before .before .before .before .pre .0) .locations-le, c .before .before .before .before .before .pre .1 .few (c .before .before .before .loop .l) (c .before .before .loop-test .taken)) }
 
+-- src/lib.rt:97:13
 add-l : tie.Need-add-l Inv-loop μ-loop
 add-l c = search needs
 
+-- src/lib.rt:94:5
 loop-less : tie.Need-loop-less Inv-loop μ-loop
 loop-less c = search needs
 
+-- src/lib.rt:94:5
 loop-again : tie.Need-loop-again Inv-loop μ-loop
-loop-again c = (omega arith, omega (arith, c .before .before .check-atoms .ensures .most), passed-each _ _ (c .before .before .before .before .before .before .loop .inv .2) (passed-scan (c .before .before .check-atoms .ensures) (not-false _ (c .if1 .left))))
+loop-again c = (omega arith, omega (arith, c .before .before .before .before .before .pre .1 .few (c .before .before .before .loop .l) (c .before .before .loop-test .taken)), passed-each _ _ (c .before .before .before .loop .inv .2) (passed-over (location-true (c .before .before .before .before .before .pre .0) (now (c .before .before .before .before .before .args .a)) (c .before .before .before .before .before .args .o) (c .before .before .before .loop .l) (sym (c .before .is-true .ensures) ∙ not-true _ (c .if1 .taken))) (location-clauses (c .before .before .before .before .before .pre .0) (c .before .before .before .before .before .args .o) (c .before .before .before .loop .l) (c .before .before .loop-test .taken) (c .before .before .before .before .before .pre .1)) refl))
 
+-- src/lib.rt:100:17
+mul-v : tie.Need-mul-v Inv-loop μ-loop
+mul-v c = omega (arith, wf (c .before .before .before .before .before .pre .0) .locations-le)
+
+-- src/lib.rt:100:17
+element-copy-out-v : tie.Need-element-copy-out-v Inv-loop μ-loop
+element-copy-out-v c = omega (arith, wf (c .before .before .before .before .before .pre .0) .locations-le)
+
+-- src/lib.rt:102:38
+add-check-atoms : tie.Need-add-check-atoms Inv-loop μ-loop
+add-check-atoms c = record { fits = omega (arith, wf (c .before .before .before .before .before .before .before .pre .0) .locations-le) }
+
+-- src/lib.rt:102:13
+check-atoms-requires : tie.Need-check-atoms-requires Inv-loop μ-loop
+check-atoms-requires c κs = (known-bounded (c .before .before .before .before .before .before .before .pre .0), c .before .before .before .before .before .before .before .pre .2, omega (arith, known-locations (c .before .before .before .before .before .before .before .pre .0)), invariant-fits (c .before .before .before .before .before .before .before .pre .0) (c .before .before .before .before .before .before .before .args .o) (length (now (c .before .before .before .before .before .before .before .args .a))) (c .before .before .before .before .before .loop .l) (c .before .before .before .before .before .before .before .pre .3) (c .before .before .before .before .loop-test .taken), omega (arith, wf (c .before .before .before .before .before .before .before .pre .0) .locations-le))
+
+-- src/lib.rt:105:13
+returns : tie.Need-returns Inv-loop μ-loop
+returns c = checked-failed (failed-as (invariants-piece-of (c .before .before .before .before .before .before .before .before .before .before .pre .0) (c .before .before .before .before .before .before .before .before .before .before .args .o)) (failed-each _ _ _ (c .before .before .before .before .before .before .before .loop-test .taken) (c .before .before .before .before .before .before .before .before .loop .inv .2) (failed-scan (c .before .before .check-atoms .ensures) (not-true _ (c .if2 .taken))))) (omega (arith, c .before .before .check-atoms .ensures .most, wf (c .before .before .before .before .before .before .before .before .before .before .pre .0) .locations-le))
+
+-- src/lib.rt:110:9
+add-l-2 : tie.Need-add-l-2 Inv-loop μ-loop
+add-l-2 c = search needs
+
+-- src/lib.rt:94:5
+loop-less-2 : tie.Need-loop-less-2 Inv-loop μ-loop
+loop-less-2 c = search needs
+
+-- src/lib.rt:94:5
+loop-again-2 : tie.Need-loop-again-2 Inv-loop μ-loop
+loop-again-2 c = (omega arith, omega (arith, c .before .before .check-atoms .ensures .most), passed-each _ _ (c .before .before .before .before .before .before .before .before .loop .inv .2) (passed-scan (c .before .before .check-atoms .ensures) (not-false _ (c .if2 .left))))
+
+-- src/lib.rt:80:1
 returns-2 : tie.Need-returns-2 Inv-loop μ-loop
 returns-2 c =
     let done : c .before .loop .l ≡ c .before .before .before .args .t1 .locations = omega arith in
@@ -61,12 +105,20 @@ check-invariants-spec =
     μ-loop
     cast-n
     loop-holds
+    add-is-true
+    is-true-requires
+    mul-count
+    array-read-count
+    add-count
+    add-l
+    loop-less
+    loop-again
     mul-v
     element-copy-out-v
     add-check-atoms
     check-atoms-requires
     returns
-    add-l
-    loop-less
-    loop-again
+    add-l-2
+    loop-less-2
+    loop-again-2
     returns-2)
