@@ -35,12 +35,13 @@ impl Reading {
         if !before.is_none() {
             return self;
         }
-        let blank = Model::blank();
         if !d.found {
+            let blank = Model::blank();
             return self.refused(LineFault::NotDue, blank);
         }
         let first = f.first();
         if !first.is_none() {
+            let blank = Model::blank();
             return self.refused(first, blank);
         }
         Reading {
