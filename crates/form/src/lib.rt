@@ -11,8 +11,9 @@ use model::State;
 use model::Update;
 use model::UpdateSlot;
 ghost use mathlib.Core.Path.{_≡_};
-ghost use Prim.Native.Nat.{_<_};
-ghost use Rattle.model.specs.Form.{isNotEqual, atomFormed, isBlank, noGap, eachFormed, filledFromFirst, atomsFormed, counterFormed, isBlankCounter, counterSlotFormed, countersFormed, invariantSlotFormed, invariantsFormed, updateFormed, isKeep, isUnchanged, updateSlotFormed, updatesFormed, resetSlotFormed, resetsFormed, edgeFormed, edgeSlotFormed, edgesFormed, headFormed, wellFormed, slotInGroup, countersInGroup, clocksInGroup, stateFormed};
+ghost use mathlib.Core.Bool.{cond};
+ghost use lib.Dec.{ltb};
+ghost use Rattle.model.specs.Form.{isNotEqual, atomFormed, isBlank, noGap, eachFormed, filledFromFirst, atomsFormed, counterFormed, isBlankCounter, counterSlotFormed, countersFormed, invariantsFormed, updateFormed, isKeep, isUnchanged, updateSlotFormed, updatesFormed, resetSlotFormed, resetsFormed, edgeFormed, edgesFormed, headFormed, wellFormed, slotInGroup, countersInGroup, clocksInGroup, stateFormed};
 
 fn is_not_equal(r: Relation) -> bool
     ensures { λ b. ⌜ b ≡ isNotEqual r ⌝ }
@@ -150,14 +151,11 @@ fn counters_formed(counters: [Counter; 4], vars: u8) -> bool
     true
 }
 
-fn invariant_slot_formed(m: Model, l: usize) -> bool
-    requires { ⌜ l < 16 ⌝ }
-    ensures { λ r. ⌜ r ≡ invariantSlotFormed m l ⌝ }
+fn invariant_slot_formed(atoms: [AtomSlot; 4], l: usize, locations: u8, clocks: u8) -> bool
+    ensures { λ r. ⌜ r ≡ cond (ltb l locations) (atomsFormed clocks 0 atoms) (atomsFormed 0 0 atoms) ⌝ }
 {
-    let v = m.invariants[l];
-    let atoms = v.atoms;
-    if l < m.locations as usize {
-        atoms_formed(atoms, m.clocks, 0)
+    if l < locations as usize {
+        atoms_formed(atoms, clocks, 0)
     } else {
         atoms_formed(atoms, 0, 0)
     }
@@ -167,7 +165,9 @@ fn invariants_formed(m: Model) -> bool
     ensures { λ r. ⌜ r ≡ invariantsFormed m ⌝ }
 {
     for l in 0..Model::LOCATIONS {
-        if !invariant_slot_formed(m, l) {
+        let v = m.invariants[l];
+        let atoms = v.atoms;
+        if !invariant_slot_formed(atoms, l, m.locations, m.clocks) {
             return false;
         }
     }
@@ -275,13 +275,11 @@ fn edge_formed(e: Edge, locations: u8, clocks: u8, vars: u8) -> bool
     resets_formed(resets, clocks)
 }
 
-fn edge_slot_formed(m: Model, e: usize) -> bool
-    requires { ⌜ e < 32 ⌝ }
-    ensures { λ r. ⌜ r ≡ edgeSlotFormed m e ⌝ }
+fn edge_slot_formed(edge: Edge, e: usize, used: u8, locations: u8, clocks: u8, vars: u8) -> bool
+    ensures { λ r. ⌜ r ≡ cond (ltb e used) (edgeFormed locations clocks vars edge) (edgeFormed 1 0 0 edge) ⌝ }
 {
-    let edge = m.edges[e];
-    if e < m.used as usize {
-        edge_formed(edge, m.locations, m.clocks, m.vars)
+    if e < used as usize {
+        edge_formed(edge, locations, clocks, vars)
     } else {
         edge_formed(edge, 1, 0, 0)
     }
@@ -291,7 +289,8 @@ fn edges_formed(m: Model) -> bool
     ensures { λ r. ⌜ r ≡ edgesFormed m ⌝ }
 {
     for e in 0..Model::EDGES {
-        if !edge_slot_formed(m, e) {
+        let edge = m.edges[e];
+        if !edge_slot_formed(edge, e, m.used, m.locations, m.clocks, m.vars) {
             return false;
         }
     }

@@ -2,36 +2,26 @@ use borrow.Author.Tests.{lt-ltb, le-ltb}
 use borrow.Author.Needs.{needs}
 use Rattle.form.proofs.invariant_slot_formed.Statement.{statement}
 use Rattle.form.proofs.invariant_slot_formed.Tie as tie
+use Rattle.form.proofs.invariant_slot_formed.Reads as reads
+use Rattle.form.proofs.invariant_slot_formed.Lts as lts
+use Rattle.form.proofs.atoms_formed.Reads as atoms-formed-reads
 
-mul-v : tie.Need-mul-v
-mul-v c = search needs
-
-element-copy-out-v : tie.Need-element-copy-out-v
-element-copy-out-v c = search needs
-
-cast-if1 : tie.Need-cast-if1
-cast-if1 c = search needs
-
+-- src/lib.rt:158:9
 atoms-formed-requires : tie.Need-atoms-formed-requires
 atoms-formed-requires c κs = search needs
 
+-- src/lib.rt:160:9
 atoms-formed-requires-2 : tie.Need-atoms-formed-requires-2
 atoms-formed-requires-2 c κs = search needs
 
+-- src/lib.rt:154:1
 returns : tie.Need-returns
 returns c = rw (lt-ltb _ _ (c .before .if1 .taken)) (c .atoms-formed .ensures)
 
+-- src/lib.rt:154:1
 returns-2 : tie.Need-returns-2
 returns-2 c = rw (le-ltb _ _ (c .before .if1 .left)) (c .atoms-formed2 .ensures)
 
 pub invariant-slot-formed-spec : {M : Type 1} → statement M
 invariant-slot-formed-spec =
-    tie.close
-    (tie.spec
-    mul-v
-    element-copy-out-v
-    cast-if1
-    atoms-formed-requires
-    atoms-formed-requires-2
-    returns
-    returns-2)
+    tie.close (tie.spec atoms-formed-requires atoms-formed-requires-2 returns returns-2)
