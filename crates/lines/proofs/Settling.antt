@@ -21,7 +21,6 @@ use Rattle.due.specs.Place.{DueLine, valueIn, NumberLine, ReferenceLine, Counte
 use Rattle.due.proofs.DueLaws.{found-is, value-is, next-is, number-fits, reference-fits, greatest-fits, initial-fits}
 use Rattle.model.specs.declared.Model.{Model}
 use Rattle.model.specs.declared.Counter.{Counter}
-use Rattle.model.specs.Record.{blankModel}
 use Rattle.lines.specs.declared.Reading.{Reading}
 use Rattle.lines.specs.Progress.{Progress, advanced, refused, tried, readLine}
 use Rattle.lines.specs.Place.{Placed, progress, Reads, Told, told, settled}
@@ -65,12 +64,12 @@ module _ (key : List ℕ) (faults : Model → List ℕ → Faults) (store : Mode
   settle-is = ap (progressAt t) e ∙ go (eqb (lineTold (r .fault)) 0)
     where
       one : (b : Bool) → eqb (lineNumber (d .found) f) 0 ≡ b
-          → progressAt t (cond b (record { number = 0; line = r .line + 1; at = d .end + 1; model = m }) (record { number = lineNumber (d .found) f; line = r .line; at = r .at; model = blankModel }))
+          → progressAt t (cond b (record { number = 0; line = r .line + 1; at = d .end + 1; model = m }) (record { number = lineNumber (d .found) f; line = r .line; at = r .at; model = r .model }))
           ≡ cond b (advanced (store (r .model) (valueOf key (drop (r .at) t))) (progress t r)) (refused (lineNumber (d .found) f) (progress t r))
       one true h = read h
       one false h = refl
 
-      go : (b : Bool) → progressAt t (cond b (cond (eqb (lineNumber (d .found) f) 0) (record { number = 0; line = r .line + 1; at = d .end + 1; model = m }) (record { number = lineNumber (d .found) f; line = r .line; at = r .at; model = blankModel })) (told r))
+      go : (b : Bool) → progressAt t (cond b (cond (eqb (lineNumber (d .found) f) 0) (record { number = 0; line = r .line + 1; at = d .end + 1; model = m }) (record { number = lineNumber (d .found) f; line = r .line; at = r .at; model = r .model })) (told r))
           ≡ cond b (tried (lineNumber (isDue key (drop (r .at) t)) (faults (r .model) (valueOf key (drop (r .at) t)))) (store (r .model) (valueOf key (drop (r .at) t))) (progress t r)) (progress t r)
       go true = rw (← number-is) (one (eqb (lineNumber (d .found) f) 0) refl)
       go false = refl
@@ -80,7 +79,7 @@ module _ (key : List ℕ) (faults : Model → List ℕ → Faults) (store : Mode
   settle-placed = go (eqb (lineTold (r .fault)) 0) (eqb (lineNumber (d .found) f) 0) refl
     where
       go : (b k : Bool) → eqb (lineNumber (d .found) f) 0 ≡ k
-          → PlacedAt t (cond b (cond k (record { number = 0; line = r .line + 1; at = d .end + 1; model = m }) (record { number = lineNumber (d .found) f; line = r .line; at = r .at; model = blankModel })) (told r))
+          → PlacedAt t (cond b (cond k (record { number = 0; line = r .line + 1; at = d .end + 1; model = m }) (record { number = lineNumber (d .found) f; line = r .line; at = r .at; model = r .model })) (told r))
       go true true h = (omega (arith, p .counted, due .low), omega (arith, due .ended (found-of (d .found) f h)))
       go true false h = (p .counted, p .within)
       go false k h = (p .counted, p .within)
@@ -129,9 +128,9 @@ module _ (r : Reading) (d : Due) (f : Faults) (m : Model) {b : Bool} (is : b ≡
   unfolding settled
   settle-stays h = rw (no-fault-number (r .fault) ∙ sym is ∙ h)
 
-  pub settle-other : b ≡ true → d .found ≡ false → {x : Model} → x ≡ blankModel → {q : Reading} → q ≡ record { fault = NotDue; line = r .line; at = r .at; model = x } → told q ≡ settled (told r) d f m
+  pub settle-other : b ≡ true → d .found ≡ false → {q : Reading} → q ≡ record { fault = NotDue; line = r .line; at = r .at; model = r .model } → told q ≡ settled (told r) d f m
   unfolding settled lineNumber
-  settle-other h g z e = ap told e ∙ rw (sound h, g, z)
+  settle-other h g e = ap told e ∙ rw (sound h, g)
 
   module _ (h : b ≡ true) (g : d .found ≡ true) (k : LineFault) (first : lineTold k ≡ faultNumber f) {c : Bool} (known : c ≡ isNoFault k) where
     fault : eqb (lineNumber (d .found) f) 0 ≡ c
@@ -142,9 +141,9 @@ module _ (r : Reading) (d : Due) (f : Faults) (m : Model) {b : Bool} (is : b ≡
     unfolding lineNumber
     number = rw g (sym first)
 
-    pub settle-refused : c ≡ false → {x : Model} → x ≡ blankModel → {q : Reading} → q ≡ record { fault = k; line = r .line; at = r .at; model = x } → told q ≡ settled (told r) d f m
+    pub settle-refused : c ≡ false → {q : Reading} → q ≡ record { fault = k; line = r .line; at = r .at; model = r .model } → told q ≡ settled (told r) d f m
     unfolding settled
-    settle-refused n z e = ap told e ∙ rw (sound h, fault ∙ n, number, z)
+    settle-refused n e = ap told e ∙ rw (sound h, fault ∙ n, number)
 
     pub settle-read : c ≡ true → told (record { fault = NoFault; line = r .line + 1; at = d .end + 1; model = m }) ≡ settled (told r) d f m
     unfolding settled

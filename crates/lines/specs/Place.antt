@@ -9,7 +9,6 @@ use Rattle.scan.specs.Faulty.{lineTold, lineNumber}
 use Rattle.scan.specs.declared.Faults.{Faults}
 use Rattle.due.specs.declared.Due.{Due}
 use Rattle.model.specs.declared.Model.{Model}
-use Rattle.model.specs.Record.{blankModel}
 use Rattle.lines.specs.declared.Reading.{Reading}
 use Rattle.lines.specs.Progress.{Progress}
 
@@ -43,7 +42,7 @@ settled p d f m =
     cond (eqb (p .number) 0)
     (cond (eqb (lineNumber (d .found) f) 0)
     (record { number = 0; line = p .line + 1; at = d .end + 1; model = m })
-    (record { number = lineNumber (d .found) f; line = p .line; at = p .at; model = blankModel }))
+    (record { number = lineNumber (d .found) f; line = p .line; at = p .at; model = p .model }))
     p
 
 -- the line d lies after the place of r, and its end can be counted

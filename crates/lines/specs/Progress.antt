@@ -9,7 +9,7 @@ use Rattle.scan.specs.declared.Faults.{Faults}
 use Rattle.model.specs.declared.Model.{Model}
 use Rattle.model.specs.Record.{blankModel}
 
--- A reading in progress: the number of its refusal, or 0; the line that is due next, or the one refused, from 1; the bytes that are not read; what was read so far, or after a refusal the blank model.
+-- A reading in progress: the number of its refusal, or 0; the line that is due next, or the one refused, from 1; the bytes that are not read; what was read so far.
 pub record Progress : Type 0 where
   pub number : ℕ
   pub line : ℕ
@@ -22,7 +22,7 @@ unread t = record { number = 0; line = 1; rest = t; model = blankModel }
 
 -- the due line is refused
 abbrev pub refused : ℕ → Progress → Progress
-refused number p = record { number = number; line = p .line; rest = p .rest; model = blankModel }
+refused number p = record { number = number; line = p .line; rest = p .rest; model = p .model }
 
 -- the due line is read, and gives the model m
 abbrev pub advanced : Model → Progress → Progress

@@ -6,7 +6,7 @@ use scan::LineFault;
 ghost use mathlib.Core.Path.{_≡_};
 ghost use Rattle.lines.specs.Place.{told, settled, Follows};
 
-// A reading in progress: no fault, the line that is due next, its place and what was read so far; or the fault of a line, its number and place, and the blank model.
+// A reading in progress: no fault, the line that is due next and its place; or the fault of a line, its number and place. The model is what the lines before it say.
 pub struct Reading {
     pub fault: LineFault,
     pub line: usize,
@@ -15,9 +15,10 @@ pub struct Reading {
 }
 
 impl Reading {
-    fn refused(self, fault: LineFault, model: Model) -> Reading
-        ensures { λ q. ⌜ q ≡ record { fault = fault; line = self .line; at = self .at; model = model } ⌝ }
+    fn refused(self, fault: LineFault) -> Reading
+        ensures { λ q. ⌜ q ≡ record { fault = fault; line = self .line; at = self .at; model = self .model } ⌝ }
     {
+        let model = self.model;
         Reading {
             fault,
             line: self.line,
@@ -36,13 +37,11 @@ impl Reading {
             return self;
         }
         if !d.found {
-            let blank = Model::blank();
-            return self.refused(LineFault::NotDue, blank);
+            return self.refused(LineFault::NotDue);
         }
         let first = f.first();
         if !first.is_none() {
-            let blank = Model::blank();
-            return self.refused(first, blank);
+            return self.refused(first);
         }
         Reading {
             fault: LineFault::NoFault,

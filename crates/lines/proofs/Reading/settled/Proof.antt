@@ -6,21 +6,16 @@ use Rattle.lines.proofs.Reading.settled.Tie as tie
 use Rattle.lines.proofs.Reading.settled.Reads as reads
 use Rattle.lines.proofs.Reading.settled.Lts as lts
 use Rattle.lines.proofs.Reading.refused.Reads as refused-reads
-use Rattle.model.proofs.Model.blank.Reads as blank-reads
 use Rattle.scan.proofs.Faults.first.Reads as first-reads
 use Rattle.scan.proofs.LineFault.is_none.Reads as is-none-reads
 
--- src/lib.rt:35:13
+-- src/lib.rt:36:13
 is-none-requires : tie.Need-is-none-requires
 is-none-requires c κs = search needs
 
--- src/lib.rt:36:13
+-- src/lib.rt:37:13
 returns : tie.Need-returns
 returns c = settle-stays (c .before .before .args .self) (c .before .before .args .d) (c .before .before .args .f) (c .before .before .args .m) (c .before .is-none .ensures) (not-true _ (c .if1 .taken))
-
--- src/lib.rt:39:17
-blank-requires : tie.Need-blank-requires
-blank-requires c κs = search needs
 
 -- src/lib.rt:40:13
 refused-requires : tie.Need-refused-requires
@@ -28,7 +23,7 @@ refused-requires c κs = search needs
 
 -- src/lib.rt:40:13
 returns-2 : tie.Need-returns-2
-returns-2 c = settle-other (c .before .before .before .before .before .before .args .self) (c .before .before .before .before .before .before .args .d) (c .before .before .before .before .before .before .args .f) (c .before .before .before .before .before .before .args .m) (c .before .before .before .before .before .is-none .ensures) (not-false _ (c .before .before .before .before .if1 .left)) (not-true _ (c .before .before .if2 .taken)) (c .before .blank .ensures) (c .refused .ensures)
+returns-2 c = settle-other (c .before .before .before .before .before .args .self) (c .before .before .before .before .before .args .d) (c .before .before .before .before .before .args .f) (c .before .before .before .before .before .args .m) (c .before .before .before .before .is-none .ensures) (not-false _ (c .before .before .before .if1 .left)) (not-true _ (c .before .if2 .taken)) (c .refused .ensures)
 
 -- src/lib.rt:42:13
 first-requires : tie.Need-first-requires
@@ -38,27 +33,23 @@ first-requires c κs = search needs
 is-none-requires-2 : tie.Need-is-none-requires-2
 is-none-requires-2 c κs = search needs
 
--- src/lib.rt:44:17
-blank-requires-2 : tie.Need-blank-requires-2
-blank-requires-2 c κs = search needs
-
--- src/lib.rt:45:13
+-- src/lib.rt:44:13
 refused-requires-2 : tie.Need-refused-requires-2
 refused-requires-2 c κs = search needs
 
--- src/lib.rt:45:13
+-- src/lib.rt:44:13
 returns-3 : tie.Need-returns-3
-returns-3 c = settle-refused (c .before .before .before .before .before .before .before .before .before .args .self) (c .before .before .before .before .before .before .before .before .before .args .d) (c .before .before .before .before .before .before .before .before .before .args .f) (c .before .before .before .before .before .before .before .before .before .args .m) (c .before .before .before .before .before .before .before .before .is-none .ensures) (not-false _ (c .before .before .before .before .before .before .before .if1 .left)) (not-false _ (c .before .before .before .before .before .if2 .left)) (c .before .before .before .before .first .result) (c .before .before .before .before .first .ensures) (c .before .before .before .is-none2 .ensures) (not-true _ (c .before .before .if3 .taken)) (c .before .blank2 .ensures) (c .refused2 .ensures)
+returns-3 c = settle-refused (c .before .before .before .before .before .before .before .before .args .self) (c .before .before .before .before .before .before .before .before .args .d) (c .before .before .before .before .before .before .before .before .args .f) (c .before .before .before .before .before .before .before .before .args .m) (c .before .before .before .before .before .before .before .is-none .ensures) (not-false _ (c .before .before .before .before .before .before .if1 .left)) (not-false _ (c .before .before .before .before .if2 .left)) (c .before .before .before .first .result) (c .before .before .before .first .ensures) (c .before .before .is-none2 .ensures) (not-true _ (c .before .if3 .taken)) (c .refused2 .ensures)
 
--- src/lib.rt:49:19
-add-t13 : tie.Need-add-t13
-add-t13 c = search needs
+-- src/lib.rt:48:19
+add-t11 : tie.Need-add-t11
+add-t11 c = search needs
 
--- src/lib.rt:50:17
-add-t14 : tie.Need-add-t14
-add-t14 c = search needs
+-- src/lib.rt:49:17
+add-t12 : tie.Need-add-t12
+add-t12 c = search needs
 
--- src/lib.rt:30:5
+-- src/lib.rt:31:5
 returns-4 : tie.Need-returns-4
 returns-4 c = settle-read (c .before .before .before .before .before .before .before .before .before .args .self) (c .before .before .before .before .before .before .before .before .before .args .d) (c .before .before .before .before .before .before .before .before .before .args .f) (c .before .before .before .before .before .before .before .before .before .args .m) (c .before .before .before .before .before .before .before .before .is-none .ensures) (not-false _ (c .before .before .before .before .before .before .before .if1 .left)) (not-false _ (c .before .before .before .before .before .if2 .left)) (c .before .before .before .before .first .result) (c .before .before .before .before .first .ensures) (c .before .before .before .is-none2 .ensures) (not-false _ (c .before .before .if3 .left))
 
@@ -68,14 +59,12 @@ settled-spec =
     (tie.spec
     is-none-requires
     returns
-    blank-requires
     refused-requires
     returns-2
     first-requires
     is-none-requires-2
-    blank-requires-2
     refused-requires-2
     returns-3
-    add-t13
-    add-t14
+    add-t11
+    add-t12
     returns-4)
