@@ -14,7 +14,7 @@ ghost use Rattle.model.specs.Indexed.{each};
 ghost use Rattle.model.specs.Record.{atomAt};
 ghost use Rattle.model.specs.Automaton.{stateSize, initialValue};
 ghost use Rattle.model.specs.Form.{wellFormed};
-ghost use Rattle.list.specs.Items.{invariantItems, stateItems, initialItems, startItems};
+ghost use Rattle.list.specs.Items.{stateItems, initialItems, startItems};
 ghost use Rattle.list.specs.Clauses.{oneHotWidth, clausesOf};
 ghost use Rattle.truth.specs.Scanning.{Checked};
 ghost use Rattle.truth.specs.Parts.{Fits};
@@ -76,13 +76,18 @@ fn check_atoms(b: Blocks, a: &[u8], o: usize, x: usize, atoms: [AtomSlot; 4], at
     }
 }
 
-// The invariant clauses of the state block that begins at `o`. All clauses of a location that is false are true.
-fn check_invariants(m: Model, b: Blocks, table: [usize; 16], a: &[u8], o: usize, at: usize) -> Scan
-    requires { ⌜ Known m b × Table (invariantOf m) (m .locations) 16 1024 table × (o ≤ 1000000) × (o + stateSize m ≤ length (now a)) × (at ≤ 700000000) ⌝ }
-    ensures { λ r. ⌜ Checked (now (a .entry)) (clausesOf (invariantItems oneHotWidth m o)) at 16384 r ⌝ }
+// The state clauses of the state block that begins at `o`: its groups, then the invariants. All clauses of a location that is false
+// are true.
+pub fn check_state(m: Model, b: Blocks, table: [usize; 16], a: &[u8], o: usize, at: usize) -> Scan
+    requires { ⌜ Known m b × Table (invariantOf m) (m .locations) 16 1024 table × (o ≤ 1000000) × (o + stateSize m ≤ length (now a)) × (at ≤ 600000000) ⌝ }
+    ensures { λ r. ⌜ Checked (now (a .entry)) (clausesOf (stateItems oneHotWidth m o)) at 60000 r ⌝ }
 {
+    let s = check_groups(b, a, o, at);
+    if !s.ok {
+        return s;
+    }
     let n = m.locations as usize;
-    let mut count = at;
+    let mut count = s.at;
     let mut l = 0;
     while l < n {
         if !is_true(a, o + l) {
@@ -92,9 +97,9 @@ fn check_invariants(m: Model, b: Blocks, table: [usize; 16], a: &[u8], o: usize,
         }
         let v = m.invariants[l];
         let atoms = v.atoms;
-        let s = check_atoms(b, a, o, o + l, atoms, count);
-        count = s.at;
-        if !s.ok {
+        let z = check_atoms(b, a, o, o + l, atoms, count);
+        count = z.at;
+        if !z.ok {
             return Scan {
                 ok: false,
                 at: count,
@@ -106,18 +111,6 @@ fn check_invariants(m: Model, b: Blocks, table: [usize; 16], a: &[u8], o: usize,
         ok: true,
         at: count,
     }
-}
-
-// The state clauses of the state block that begins at `o`.
-pub fn check_state(m: Model, b: Blocks, table: [usize; 16], a: &[u8], o: usize, at: usize) -> Scan
-    requires { ⌜ Known m b × Table (invariantOf m) (m .locations) 16 1024 table × (o ≤ 1000000) × (o + stateSize m ≤ length (now a)) × (at ≤ 600000000) ⌝ }
-    ensures { λ r. ⌜ Checked (now (a .entry)) (clausesOf (stateItems oneHotWidth m o)) at 60000 r ⌝ }
-{
-    let s = check_groups(b, a, o, at);
-    if !s.ok {
-        return s;
-    }
-    check_invariants(m, b, table, a, o, s.at)
 }
 
 // The initial value of group `g`.
