@@ -119,7 +119,7 @@ impl State {
         ensures { λ r. ⌜ r ≡ listBelow (λ i. orZero (nextCounter counters e self i)) 4 ⌝ }
     {
         let values = self.counters;
-        let mut next = [0u8; 4];
+        let mut next = values;
         for i in 0..Model::COUNTERS {
             next[i] = e.next_counter(counters, values, i).value_or_zero();
         }

@@ -19,7 +19,7 @@ abbrev μ-loop : tie.MeasureT-loop
 μ-loop e counters values next₀ i₀ next i = 4 - i
 
 loop-holds : tie.Need-loop-holds Inv-loop μ-loop
-loop-holds c = (search needs, refl, sym (list-none _))
+loop-holds c = (search needs, search needs, sym (list-none _))
 
 next-counter-requires : tie.Need-next-counter-requires Inv-loop μ-loop
 next-counter-requires c κs = search needs
