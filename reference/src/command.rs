@@ -242,11 +242,10 @@ fn show_step(numbers: &[u8], out: &mut dyn Write) -> Done {
     };
     with_model(out, |model, out| {
         let (refusal, after) = step_call(model, state, byte);
-        let shown = [&[after.location][..], &after.counters, &after.clocks].concat();
         Ok(writeln!(
             out,
             "refusal={refusal}\nstate={}",
-            spaced(&shown)
+            spaced(&after.numbers())
         )?)
     })
 }

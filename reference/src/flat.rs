@@ -54,13 +54,9 @@ fn atom_bytes(atoms: &Atoms) -> Vec<u8> {
 fn one_atom(atom: Atom) -> [u8; 4] {
     match atom {
         Atom::Blank => [0, 0, 0, 0],
-        Atom::Clock(c) => [1, c.index, relation_byte(c.relation), c.constant],
-        Atom::Counter(c) => [2, c.index, relation_byte(c.relation), c.constant],
+        Atom::Clock(c) => [1, c.index, c.relation as u8, c.constant],
+        Atom::Counter(c) => [2, c.index, c.relation as u8, c.constant],
     }
-}
-
-fn relation_byte(relation: Relation) -> u8 {
-    relation as u8
 }
 
 /// The record of some bytes; none if a sort, relation or reset byte stands for

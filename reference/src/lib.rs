@@ -16,6 +16,7 @@
 //! | [`solve`] | all satisfying assignments of a small list, by backtracking |
 //! | [`size`] | the size program |
 //! | [`flat`] | records as plain bytes, to carry malformed ones between programs |
+//! | [`subject`] | models with names and texts, from files too |
 //! | [`gen`] | deterministic generator of test cases |
 //! | [`refusal`] | the refusal numbers |
 
@@ -31,4 +32,5 @@ pub mod size;
 pub mod solve;
 pub mod state;
 pub mod step;
+pub mod subject;
 pub mod text;

@@ -21,12 +21,12 @@ pub enum Shortest {
 }
 
 /// The initial state, if it meets its invariant.
-fn start(model: &Model) -> Option<State> {
+pub fn start(model: &Model) -> Option<State> {
     Some(State::initial(model)).filter(|state| state.meets_invariant(model))
 }
 
 /// The states one step after a state, with the byte that leads there.
-fn successors(model: &Model, state: State) -> impl Iterator<Item = (u8, State)> + '_ {
+pub fn successors(model: &Model, state: State) -> impl Iterator<Item = (u8, State)> + '_ {
     let bytes = 0..choice_length(model) as u8;
     bytes.filter_map(move |byte| step(model, state, byte).ok().map(|after| (byte, after)))
 }
@@ -35,13 +35,14 @@ fn successors(model: &Model, state: State) -> impl Iterator<Item = (u8, State)> 
 /// most `state_limit` states.
 pub fn shortest(model: &Model, state_limit: usize) -> Result<Shortest, Refusal> {
     test_record(model)?;
-    let mut level: Vec<State> = start(model).into_iter().collect();
-    let mut seen: HashSet<State> = level.iter().copied().collect();
+    let mut level: HashSet<State> = start(model).into_iter().collect();
+    let mut seen = level.clone();
     for steps in 0..=MAX_BOUND {
         if level.iter().any(|state| state.location == model.target) {
             return Ok(Shortest::Steps(steps));
         }
-        level = next_level(model, &level, &mut seen);
+        level = next_level(model, &level);
+        level.retain(|state| seen.insert(*state));
         if seen.len() > state_limit {
             return Ok(Shortest::Unknown);
         }
@@ -49,17 +50,10 @@ pub fn shortest(model: &Model, state_limit: usize) -> Result<Shortest, Refusal> 
     Ok(Shortest::None)
 }
 
-/// The states reached for the first time one step after a level.
-fn next_level(model: &Model, level: &[State], seen: &mut HashSet<State>) -> Vec<State> {
-    let mut next = Vec::new();
-    for state in level {
-        for (_, after) in successors(model, *state) {
-            if seen.insert(after) {
-                next.push(after);
-            }
-        }
-    }
-    next
+/// The states one step after some states.
+pub fn next_level(model: &Model, level: &HashSet<State>) -> HashSet<State> {
+    let after = level.iter().flat_map(|state| successors(model, *state));
+    after.map(|(_, state)| state).collect()
 }
 
 /// The number of runs of exactly `bound` steps. None if it does not fit the

@@ -25,6 +25,11 @@ impl State {
         }
     }
 
+    /// The nine numbers: location, counters, clocks.
+    pub fn numbers(&self) -> Vec<u8> {
+        [&[self.location][..], &self.counters, &self.clocks].concat()
+    }
+
     /// Whether refusal 10 stays away: every number lies in its group, and the
     /// unused slots are 0. The invariant is not looked at.
     pub fn in_groups(&self, model: &Model) -> bool {

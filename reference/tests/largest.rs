@@ -1,8 +1,11 @@
 //! The greatest totals, attained by one record, and the greatest text.
 
+mod common;
+
+use common::fnv;
 use reference::gen::models::{largest, model, Size};
 use reference::gen::rng::Rng;
-use reference::list::{emit, totals, visit_clauses, Flow, Totals};
+use reference::list::{digest, emit, totals, visit_clauses, Flow, Totals};
 use reference::model::{
     ceiling, choice_length, state_length, well_formed, Atom, Counter, Edge, Model, Relation, Update,
 };
@@ -51,6 +54,7 @@ fn the_largest_list_is_emitted_into_just_enough_words() {
         buffer.iter().map(|word| word.unsigned_abs()).max(),
         Some(21_776)
     );
+    assert_eq!(digest(&largest(), 64), Ok(fnv(&buffer)));
 }
 
 /// Bytes of a DIMACS file and of its longest line, both with line ends.
@@ -82,27 +86,33 @@ fn fewest_digits() -> Model {
     model
 }
 
-/// The largest model naming the last clock, counter and location throughout.
-fn most_digits() -> Model {
+/// The largest model with the last location throughout, and one atom, one update
+/// and one sort of reset.
+fn at_the_last_location(atom: Atom, update: Update, reset: bool) -> Model {
     let mut model = largest();
     (model.init, model.target) = (15, 15);
     model.counter = [Counter {
         greatest: 31,
         initial: 31,
     }; 4];
-    let never = Atom::clock(3, Relation::Less, 0);
-    model.invariant = [[never; 4]; 16];
+    model.invariant = [[atom; 4]; 16];
+    model.edge = [Edge {
+        source: 15,
+        target: 15,
+        guard: [atom; 4],
+        updates: [update; 4],
+        resets: [reset; 4],
+    }; 32];
+    model
+}
+
+/// The largest model naming the last clock, counter and location throughout.
+fn most_digits() -> Model {
     let sum = Update::Sum {
         source: 3,
         offset: 0,
     };
-    model.edge = [Edge {
-        source: 15,
-        target: 15,
-        guard: [never; 4],
-        updates: [sum; 4],
-        resets: [false; 4],
-    }; 32];
+    let mut model = at_the_last_location(Atom::clock(3, Relation::Less, 0), sum, false);
     model.edge[0].guard[0] = Atom::clock(3, Relation::Greater, 30);
     model
 }
@@ -139,27 +149,11 @@ fn no_model_is_larger() {
 
 /// A record whose every item is as long as it can be written.
 fn longest_text() -> Model {
-    let mut model = largest();
-    model.init = 15;
-    model.target = 15;
-    model.counter = [Counter {
-        greatest: 31,
-        initial: 31,
-    }; 4];
-    let atom = Atom::clock(0, Relation::LessEqual, 30);
-    model.invariant = [[atom; 4]; 16];
     let sum = Update::Sum {
         source: 0,
         offset: 31,
     };
-    model.edge = [Edge {
-        source: 15,
-        target: 15,
-        guard: [atom; 4],
-        updates: [sum; 4],
-        resets: [true; 4],
-    }; 32];
-    model
+    at_the_last_location(Atom::clock(0, Relation::LessEqual, 30), sum, true)
 }
 
 #[test]

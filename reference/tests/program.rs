@@ -5,7 +5,7 @@ mod common;
 use std::io::Write;
 use std::process::{Command, Output, Stdio};
 
-use common::{LIGHT, MODEL_A, MODEL_B};
+use common::{fnv, LIGHT, MODEL_A, MODEL_B};
 
 fn start(arguments: &str, input: &str) -> Output {
     let mut child = Command::new(env!("CARGO_BIN_EXE_reference"))
@@ -26,14 +26,6 @@ fn output(arguments: &str, input: &str) -> String {
     let output = start(arguments, input);
     assert!(output.status.success(), "{arguments}");
     String::from_utf8(output.stdout).expect("plain text")
-}
-
-/// 64-bit FNV-1a of some words, four bytes each.
-fn fnv(words: &[i32]) -> u64 {
-    let bytes = words.iter().flat_map(|word| word.to_le_bytes());
-    bytes.fold(14695981039346656037, |digest: u64, byte| {
-        (digest ^ u64::from(byte)).wrapping_mul(1099511628211)
-    })
 }
 
 #[test]

@@ -8,10 +8,9 @@ use super::{models, records, rng::Rng, runs, texts};
 use crate::assign::{assignment_of, run_of};
 use crate::flat::{bytes, hex};
 use crate::list::{digest, totals};
-use crate::model::{choice_length, well_formed, Model, MAX_BOUND};
+use crate::model::{well_formed, MAX_BOUND};
 use crate::refusal::number_and_place;
 use crate::size::sizes;
-use crate::state::State;
 use crate::step::{step_call, walk};
 use crate::text::{read, write};
 
@@ -111,47 +110,21 @@ fn list_case(rng: &mut Rng) -> String {
 }
 
 fn step_case(rng: &mut Rng) -> String {
-    let sound = models::any_model(rng);
-    let model = if rng.one_in(8) {
-        records::record(rng)
-    } else {
-        sound.clone()
-    };
+    let (sound, model) = records::sound_and_asked(rng);
     let state = records::state(rng, &sound);
-    let byte = step_byte(rng, &sound);
+    let byte = runs::step_byte(rng, &sound);
     let (refusal, after) = step_call(&model, state, byte);
     format!(
         "record={} state={} byte={byte} refusal={refusal} after={}",
         hex(&bytes(&model)),
-        hex(&state_bytes(&state)),
-        hex(&state_bytes(&after))
+        hex(&state.numbers()),
+        hex(&after.numbers())
     )
-}
-
-/// A step byte: most often below H, else anything.
-fn step_byte(rng: &mut Rng, model: &Model) -> u8 {
-    match rng.below(8) {
-        0 => rng.byte(),
-        1 => choice_length(model) as u8,
-        _ => rng.below(choice_length(model) as usize) as u8,
-    }
-}
-
-/// A state as nine bytes: location, counters, clocks.
-fn state_bytes(state: &State) -> Vec<u8> {
-    [&[state.location][..], &state.counters, &state.clocks].concat()
-}
-
-/// Once in sixteen overwrites a field of the record.
-fn sometimes_damage(rng: &mut Rng, model: &mut Model) {
-    if rng.one_in(16) {
-        records::damage(rng, model);
-    }
 }
 
 fn run_case(rng: &mut Rng) -> String {
     let (mut model, run) = runs::model_and_run(rng);
-    sometimes_damage(rng, &mut model);
+    records::sometimes_damage(rng, &mut model);
     let (refusal, place) = walk(&model, &run);
     let assignment = assignment_of(&model, &run).unwrap_or_default();
     format!(
@@ -164,7 +137,7 @@ fn run_case(rng: &mut Rng) -> String {
 
 fn assignment_case(rng: &mut Rng) -> String {
     let (mut model, bound, assignment) = runs::model_and_assignment(rng, 8);
-    sometimes_damage(rng, &mut model);
+    records::sometimes_damage(rng, &mut model);
     let outcome = run_of(&model, bound, &assignment);
     let (refusal, place) = number_and_place(&outcome);
     format!(

@@ -60,14 +60,6 @@ impl Size {
     }
 }
 
-const CLOCK_RELATIONS: [Relation; 5] = [
-    Relation::Less,
-    Relation::LessEqual,
-    Relation::Equal,
-    Relation::GreaterEqual,
-    Relation::Greater,
-];
-
 /// A well-formed model within the limits of a size.
 pub fn model(rng: &mut Rng, size: Size) -> Model {
     let limits = size.limits();
@@ -95,15 +87,20 @@ pub fn model(rng: &mut Rng, size: Size) -> Model {
     model
 }
 
-/// A model of a random size, most of them small.
-pub fn any_model(rng: &mut Rng) -> Model {
-    let size = rng.pick(&[
+/// A size, most often a small one.
+pub fn any_size(rng: &mut Rng) -> Size {
+    rng.pick(&[
         Size::Tiny,
         Size::Tiny,
         Size::Medium,
         Size::Medium,
         Size::Full,
-    ]);
+    ])
+}
+
+/// A model of a random size.
+pub fn any_model(rng: &mut Rng) -> Model {
+    let size = any_size(rng);
     model(rng, size)
 }
 
@@ -128,7 +125,8 @@ fn clock_atom(rng: &mut Rng, model: &Model, limits: &Limits, upper_bound: bool) 
     let relation = if upper_bound {
         Relation::LessEqual
     } else {
-        rng.pick(&CLOCK_RELATIONS)
+        // All but the last, which is `!=`.
+        rng.pick(&Relation::ALL[..5])
     };
     Atom::clock(index, relation, rng.between(0, limits.clock_constant))
 }
@@ -222,6 +220,30 @@ pub fn largest() -> Model {
         ..Edge::BLANK
     }; MAX_EDGES];
     model.edge[0].guard[0] = Atom::clock(0, Relation::Greater, MAX_CLOCK_CONSTANT);
+    model
+}
+
+/// A model at every limit that has runs: four atoms in every invariant and
+/// guard, every kind of update, all edges from the initial location to itself.
+pub fn full() -> Model {
+    let mut model = largest();
+    let at_most = |clock, constant| Atom::clock(clock, Relation::LessEqual, constant);
+    model.invariant = [[0, 1, 2, 3].map(|clock| at_most(clock, 30)); MAX_LOCATIONS];
+    for (index, edge) in model.edge.iter_mut().enumerate() {
+        let (number, clock) = (index as u8, index % MAX_CLOCKS);
+        edge.guard = [
+            at_most(clock as u8, 15),
+            at_most(3 - clock as u8, 29),
+            Atom::counter(0, Relation::LessEqual, 30),
+            Atom::counter(1, Relation::NotEqual, number),
+        ];
+        edge.updates[0] = Update::Constant(number);
+        edge.updates[1] = Update::Sum {
+            source: 0,
+            offset: number as i8 - 16,
+        };
+        edge.resets[clock] = true;
+    }
     model
 }
 

@@ -18,6 +18,18 @@ pub fn record(rng: &mut Rng) -> Model {
     model
 }
 
+/// A well-formed model, and the record that is asked about: the same one, once
+/// in eight another.
+pub fn sound_and_asked(rng: &mut Rng) -> (Model, Model) {
+    let sound = any_model(rng);
+    let asked = if rng.one_in(8) {
+        record(rng)
+    } else {
+        sound.clone()
+    };
+    (sound, asked)
+}
+
 /// A byte for a number field: near the limits more often than not.
 fn number(rng: &mut Rng) -> u8 {
     if rng.one_in(4) {
@@ -47,6 +59,13 @@ pub fn damage(rng: &mut Rng, model: &mut Model) {
             let edge = slot(rng, model.edge.len(), model.edges);
             damage_edge(rng, &mut model.edge[edge]);
         }
+    }
+}
+
+/// Once in sixteen overwrites a field.
+pub fn sometimes_damage(rng: &mut Rng, model: &mut Model) {
+    if rng.one_in(16) {
+        damage(rng, model);
     }
 }
 

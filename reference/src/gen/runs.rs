@@ -4,8 +4,8 @@ use super::models::any_model;
 use super::rng::Rng;
 use crate::assign::assignment_of;
 use crate::model::{choice_length, variables, Model, MAX_BOUND};
+use crate::search::successors;
 use crate::state::State;
-use crate::step::step;
 
 /// The bytes of a random walk of up to `steps` steps from the initial state of
 /// a well-formed model, and the state at its end. It stops early in a state
@@ -26,10 +26,7 @@ pub fn walk(rng: &mut Rng, model: &Model, steps: usize) -> (Vec<u8>, State) {
 
 /// A random allowed step, edges preferred to delays.
 fn allowed_step(rng: &mut Rng, model: &Model, state: State) -> Option<(u8, State)> {
-    let bytes = 0..choice_length(model) as u8;
-    let allowed: Vec<(u8, State)> = bytes
-        .filter_map(|byte| step(model, state, byte).ok().map(|after| (byte, after)))
-        .collect();
+    let allowed: Vec<(u8, State)> = successors(model, state).collect();
     let delays = (choice_length(model) - u32::from(model.edges)) as u8;
     let edges: Vec<(u8, State)> = allowed
         .iter()
@@ -52,6 +49,16 @@ pub fn steps(rng: &mut Rng) -> usize {
         1 => MAX_BOUND,
         2 => rng.below(MAX_BOUND + 1),
         _ => rng.below(7),
+    }
+}
+
+/// A step byte: most often below H, else anything.
+pub fn step_byte(rng: &mut Rng, model: &Model) -> u8 {
+    let choices = choice_length(model);
+    match rng.below(8) {
+        0 => rng.byte(),
+        1 => choices as u8,
+        _ => rng.below(choices as usize) as u8,
     }
 }
 
@@ -94,8 +101,8 @@ fn damage_run(rng: &mut Rng, model: &Model, run: &mut Vec<u8>) {
 pub fn model_and_assignment(rng: &mut Rng, longest: usize) -> (Model, usize, Vec<u8>) {
     let (model, run) = model_and_walk(rng, longest);
     let mut bound = run.len();
-    let mut assignment =
-        assignment_of(&model, &run).unwrap_or_else(|_| random_bytes(rng, &model, bound));
+    let length = variables(&model, bound) as usize;
+    let mut assignment = assignment_of(&model, &run).unwrap_or_else(|_| truth_values(rng, length));
     if !rng.one_in(3) {
         damage_assignment(rng, &mut assignment);
     }
@@ -107,11 +114,9 @@ pub fn model_and_assignment(rng: &mut Rng, longest: usize) -> (Model, usize, Vec
     (model, bound, assignment)
 }
 
-/// An assignment of the right length with random values.
-fn random_bytes(rng: &mut Rng, model: &Model, bound: usize) -> Vec<u8> {
-    (0..variables(model, bound))
-        .map(|_| rng.below(2) as u8)
-        .collect()
+/// Random truth values.
+pub fn truth_values(rng: &mut Rng, length: usize) -> Vec<u8> {
+    (0..length).map(|_| rng.below(2) as u8).collect()
 }
 
 fn damage_assignment(rng: &mut Rng, assignment: &mut Vec<u8>) {

@@ -21,10 +21,9 @@ use crate::assign::{decode, encode};
 use crate::list::{emit, totals};
 use crate::model::{
     ceiling, choice_length, state_length, test_record, test_record_and_bound, variables, Atom,
-    Counter, Edge, Model, Relation, Update, MAX_BOUND,
+    Counter, Edge, Model, Update, MAX_BOUND,
 };
 use crate::refusal::number_and_place;
-use crate::state::State;
 use crate::step::{step_call, walk};
 
 /// Words that the program lends, and what they hold before.
@@ -46,6 +45,10 @@ impl Script {
         push_line(&mut self.input, numbers);
     }
 
+    fn tell_bytes(&mut self, first: &[u32], bytes: &[u8]) {
+        self.tell(&with_bytes(first, bytes));
+    }
+
     fn answer(&mut self, numbers: &[u32]) {
         push_line(&mut self.answers, numbers);
     }
@@ -58,6 +61,12 @@ impl Script {
         }
         self.answers.push('\n');
     }
+}
+
+/// Some numbers, then the bytes as numbers.
+fn with_bytes(first: &[u32], bytes: &[u8]) -> Vec<u32> {
+    let bytes = bytes.iter().map(|byte| u32::from(*byte));
+    first.iter().copied().chain(bytes).collect()
 }
 
 fn push_line(text: &mut String, numbers: &[u32]) {
@@ -112,12 +121,7 @@ fn ask_record(rng: &mut Rng, script: &mut Script) {
 }
 
 fn ask_step(rng: &mut Rng, script: &mut Script) {
-    let sound = models::any_model(rng);
-    let model = if rng.one_in(8) {
-        records::record(rng)
-    } else {
-        sound.clone()
-    };
+    let (sound, model) = records::sound_and_asked(rng);
     if !build(&model, script) {
         return;
     }
@@ -128,30 +132,30 @@ fn ask_step(rng: &mut Rng, script: &mut Script) {
         } else {
             rng.below(choice_length(&sound) as usize + 1) as u8
         };
-        let mut question = vec![14];
-        question.extend(numbers_of(&state));
-        question.push(u32::from(byte));
-        script.tell(&question);
+        let mut question = state.numbers();
+        question.push(byte);
+        script.tell_bytes(&[14], &question);
         let (number, after) = step_call(&model, state, byte);
-        let mut answer = vec![number];
-        answer.extend(numbers_of(&after));
-        script.answer(&answer);
+        script.answer(&with_bytes(&[number], &after.numbers()));
     }
 }
 
 fn ask_run(rng: &mut Rng, script: &mut Script) {
+    if let Some((model, run)) = model_and_run(rng, 13, script) {
+        let (number, place) = walk(&model, &run);
+        script.answer(&[number, place]);
+    }
+}
+
+/// A record and a run, told with a question; none if they cannot be written.
+fn model_and_run(rng: &mut Rng, question: u32, script: &mut Script) -> Option<(Model, Vec<u8>)> {
     let (mut model, run) = runs::model_and_run(rng);
-    if rng.one_in(16) {
-        records::damage(rng, &mut model);
-    }
+    records::sometimes_damage(rng, &mut model);
     if run.len() > MAX_BOUND + 8 || !build(&model, script) {
-        return;
+        return None;
     }
-    let mut question = vec![13];
-    question.extend(run.iter().map(|&byte| u32::from(byte)));
-    script.tell(&question);
-    let (number, place) = walk(&model, &run);
-    script.answer(&[number, place]);
+    script.tell_bytes(&[question], &run);
+    Some((model, run))
 }
 
 fn ask_list(rng: &mut Rng, script: &mut Script) {
@@ -185,20 +189,12 @@ fn ask_list(rng: &mut Rng, script: &mut Script) {
 }
 
 fn ask_encoding(rng: &mut Rng, script: &mut Script) {
-    let (mut model, run) = runs::model_and_run(rng);
-    if rng.one_in(16) {
-        records::damage(rng, &mut model);
+    if let Some((model, run)) = model_and_run(rng, 17, script) {
+        let mut buffer = vec![LENT_BYTE; ASSIGNMENT_BYTES];
+        let (number, place) = encode(&model, &run, &mut buffer);
+        script.answer(&[number, place]);
+        script.answer_values(buffer.iter().take_while(|&&byte| byte != LENT_BYTE));
     }
-    if run.len() > MAX_BOUND + 8 || !build(&model, script) {
-        return;
-    }
-    let mut question = vec![17];
-    question.extend(run.iter().map(|&byte| u32::from(byte)));
-    script.tell(&question);
-    let mut buffer = vec![LENT_BYTE; ASSIGNMENT_BYTES];
-    let (number, place) = encode(&model, &run, &mut buffer);
-    script.answer(&[number, place]);
-    script.answer_values(buffer.iter().take_while(|&&byte| byte != LENT_BYTE));
 }
 
 fn ask_decoding(rng: &mut Rng, script: &mut Script) {
@@ -206,22 +202,11 @@ fn ask_decoding(rng: &mut Rng, script: &mut Script) {
     if assignment.len() > 70 || !build(&model, script) {
         return;
     }
-    let mut question = vec![18, bound as u32];
-    question.extend(assignment.iter().map(|&byte| u32::from(byte)));
-    script.tell(&question);
+    script.tell_bytes(&[18, bound as u32], &assignment);
     let mut buffer = vec![LENT_BYTE; MAX_BOUND];
     let (number, place) = decode(&model, bound, &assignment, &mut buffer);
     script.answer(&[number, place]);
     script.answer_values(buffer.iter().take_while(|&&byte| byte != LENT_BYTE));
-}
-
-/// Location, counters, clocks.
-fn numbers_of(state: &State) -> Vec<u32> {
-    [&[state.location][..], &state.counters, &state.clocks]
-        .concat()
-        .into_iter()
-        .map(u32::from)
-        .collect()
 }
 
 /// The lines that make the record from the blank model; tells whether all of it
@@ -275,20 +260,9 @@ fn build_atoms(line: u32, index: usize, atoms: &[Atom], script: &mut Script) {
             k as u32,
             sort,
             u32::from(comparison.index),
-            place_of(comparison.relation),
+            comparison.relation as u32,
             u32::from(comparison.constant),
         ]);
-    }
-}
-
-fn place_of(relation: Relation) -> u32 {
-    match relation {
-        Relation::Less => 0,
-        Relation::LessEqual => 1,
-        Relation::Equal => 2,
-        Relation::GreaterEqual => 3,
-        Relation::Greater => 4,
-        Relation::NotEqual => 5,
     }
 }
 

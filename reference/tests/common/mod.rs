@@ -117,3 +117,11 @@ pub fn with_line(text: &str, line: usize, replacement: &str) -> String {
     lines[line - 1] = replacement;
     lines.iter().map(|line| format!("{line}\n")).collect()
 }
+
+/// 64-bit FNV-1a of some words, four bytes each, the lowest first.
+pub fn fnv(words: &[i32]) -> u64 {
+    let bytes = words.iter().flat_map(|word| word.to_le_bytes());
+    bytes.fold(14695981039346656037, |digest: u64, byte| {
+        (digest ^ u64::from(byte)).wrapping_mul(1099511628211)
+    })
+}
