@@ -4,27 +4,11 @@
 use reference::assign::{decode, encode};
 use reference::list::{totals, words, Totals};
 use reference::model::{ceiling, choice_length, state_length, Model};
-use reference::refusal::{Refusal, WORDS_SHORT};
+use reference::refusal::{number_and_place, Refusal, WORDS_SHORT};
 use reference::state::State as ReferenceState;
 use reference::step::{self, step_call};
 use reference::text::{read_bound_line, read_whole};
 use wirdoku::library::{Answer, Shape, Sizes, State, StateAnswer};
-
-const NO_TOTALS: Totals = Totals { variables: 0, clauses: 0, words: 0 };
-
-const NO_SHAPE: Shape = Shape {
-    number: 0,
-    line: 0,
-    locations: 0,
-    initial: 0,
-    target: 0,
-    clocks: 0,
-    counters: 0,
-    edges: 0,
-    ceiling: 0,
-    state: 0,
-    choices: 0,
-};
 
 fn answer((number, place): (u32, u32)) -> Answer {
     Answer { number: number as u8, place: place as usize }
@@ -32,6 +16,10 @@ fn answer((number, place): (u32, u32)) -> Answer {
 
 fn refused(refusal: Refusal) -> Answer {
     answer((refusal.number, refusal.place))
+}
+
+fn unread(refusal: Refusal, state: State) -> StateAnswer {
+    StateAnswer { number: refusal.number as u8, line: refusal.place as usize, state }
 }
 
 fn sizes(number: u32, line: u32, totals: Totals) -> Sizes {
@@ -53,15 +41,12 @@ fn reference_state(state: State) -> ReferenceState {
 }
 
 pub fn read(text: &[u8]) -> Answer {
-    match read_whole(text) {
-        Ok(_) => answer((0, 0)),
-        Err(refusal) => refused(refusal),
-    }
+    answer(number_and_place(&read_whole(text)))
 }
 
 pub fn shape(text: &[u8]) -> Shape {
     match read_whole(text) {
-        Err(refusal) => Shape { number: refusal.number as u8, line: refusal.place as usize, ..NO_SHAPE },
+        Err(refusal) => Shape { number: refusal.number as u8, line: refusal.place as usize, ..Shape::default() },
         Ok(model) => Shape {
             number: 0,
             line: 0,
@@ -86,7 +71,7 @@ pub struct List {
 
 impl List {
     fn refused(refusal: Refusal) -> List {
-        List { counts: sizes(refusal.number, refusal.place, NO_TOTALS), asked: None }
+        List { counts: sizes(refusal.number, refusal.place, Totals::default()), asked: None }
     }
 
     /// The list of a text and a bound: 1 to 8, 21.
@@ -112,8 +97,7 @@ impl List {
     /// The answer of an emission into `room` words.
     pub fn emitted(&self, room: usize) -> Sizes {
         if self.asked.is_some() && room < self.counts.words {
-            let needed = Totals { words: self.counts.words as u32, ..NO_TOTALS };
-            return sizes(WORDS_SHORT, 0, needed);
+            return Sizes { number: WORDS_SHORT as u8, words: self.counts.words, ..Sizes::default() };
         }
         self.counts
     }
@@ -139,17 +123,13 @@ impl List {
 pub fn initial(text: &[u8]) -> StateAnswer {
     match read_whole(text) {
         Ok(model) => StateAnswer { number: 0, line: 0, state: library_state(ReferenceState::initial(&model)) },
-        Err(refusal) => StateAnswer {
-            number: refusal.number as u8,
-            line: refusal.place as usize,
-            state: State { location: 0, counters: [0; 4], clocks: [0; 4] },
-        },
+        Err(refusal) => unread(refusal, State::default()),
     }
 }
 
 pub fn step(text: &[u8], state: State, byte: u8) -> StateAnswer {
     match read_whole(text) {
-        Err(refusal) => StateAnswer { number: refusal.number as u8, line: refusal.place as usize, state },
+        Err(refusal) => unread(refusal, state),
         Ok(model) => {
             let (number, after) = step_call(&model, reference_state(state), byte);
             StateAnswer { number: number as u8, line: 0, state: library_state(after) }

@@ -3,39 +3,12 @@
 use std::ptr::{null, null_mut};
 
 use reference::gen::models::model_a;
-use wirdoku::library::{Answer, Shape, Sizes, State, StateAnswer};
+use wirdoku::library::foreign::*;
+use wirdoku::library::State;
 
 use crate::expected::{self, List};
 use crate::tally::Tally;
 use crate::texts::written;
-
-extern "C" {
-    fn wirdoku_read(text: *const u8, text_len: usize) -> Answer;
-    fn wirdoku_shape(text: *const u8, text_len: usize) -> Shape;
-    fn wirdoku_counts(text: *const u8, text_len: usize, bound: usize) -> Sizes;
-    fn wirdoku_emit(text: *const u8, text_len: usize, bound: usize, out: *mut i32, out_len: usize) -> Sizes;
-    fn wirdoku_size(input: *const u8, input_len: usize, out: *mut i32, out_len: usize) -> Sizes;
-    fn wirdoku_initial(text: *const u8, text_len: usize) -> StateAnswer;
-    fn wirdoku_step(text: *const u8, text_len: usize, state: State, byte: u8) -> StateAnswer;
-    fn wirdoku_walk(text: *const u8, text_len: usize, run: *const u8, run_len: usize) -> Answer;
-    fn wirdoku_assignment_to_run(
-        text: *const u8,
-        text_len: usize,
-        bound: usize,
-        assignment: *const u8,
-        assignment_len: usize,
-        run: *mut u8,
-        run_len: usize,
-    ) -> Answer;
-    fn wirdoku_run_to_assignment(
-        text: *const u8,
-        text_len: usize,
-        run: *const u8,
-        run_len: usize,
-        assignment: *mut u8,
-        assignment_len: usize,
-    ) -> Answer;
-}
 
 pub fn nulls(tally: &mut Tally) {
     null_text(tally);

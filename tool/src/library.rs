@@ -6,7 +6,7 @@
 
 /// `place`: the line for 2 to 8, the byte's index for 24, the clause's index for 26, the step for 27 and 28, else 0.
 #[repr(C)]
-#[derive(Clone, Copy, Debug, PartialEq, Eq)]
+#[derive(Clone, Copy, Debug, Default, PartialEq, Eq)]
 pub struct Answer {
     pub number: u8,
     pub place: usize,
@@ -14,7 +14,7 @@ pub struct Answer {
 
 /// The totals of a clause list. After 22 `words` is the number needed.
 #[repr(C)]
-#[derive(Clone, Copy, Debug, PartialEq, Eq)]
+#[derive(Clone, Copy, Debug, Default, PartialEq, Eq)]
 pub struct Sizes {
     pub number: u8,
     pub line: usize,
@@ -25,7 +25,7 @@ pub struct Sizes {
 
 /// What a model declares, its ceiling M, and the lengths S and H of a state block and of a choice block.
 #[repr(C)]
-#[derive(Clone, Copy, Debug, PartialEq, Eq)]
+#[derive(Clone, Copy, Debug, Default, PartialEq, Eq)]
 pub struct Shape {
     pub number: u8,
     pub line: usize,
@@ -42,7 +42,7 @@ pub struct Shape {
 
 /// The location, and what each counter and each clock shows. A slot that is not declared shows 0.
 #[repr(C)]
-#[derive(Clone, Copy, Debug, PartialEq, Eq)]
+#[derive(Clone, Copy, Debug, Default, PartialEq, Eq)]
 pub struct State {
     pub location: u8,
     pub counters: [u8; 4],
@@ -50,14 +50,15 @@ pub struct State {
 }
 
 #[repr(C)]
-#[derive(Clone, Copy, Debug, PartialEq, Eq)]
+#[derive(Clone, Copy, Debug, Default, PartialEq, Eq)]
 pub struct StateAnswer {
     pub number: u8,
     pub line: usize,
     pub state: State,
 }
 
-mod foreign {
+/// The functions as C declares them. The header says what a caller must see to.
+pub mod foreign {
     use super::{Answer, Shape, Sizes, State, StateAnswer};
 
     extern "C" {

@@ -88,19 +88,7 @@ mod tests {
     use crate::library::{Shape, State};
 
     fn shape(counters: u8, clocks: u8, ceiling: usize) -> Shape {
-        Shape {
-            number: 0,
-            line: 0,
-            locations: 16,
-            initial: 0,
-            target: 1,
-            clocks,
-            counters,
-            edges: 32,
-            ceiling,
-            state: 0,
-            choices: ceiling + 33,
-        }
+        Shape { clocks, counters, ceiling, ..Shape::default() }
     }
 
     fn row(choice: Option<u8>, location: u8, counters: [u8; 4], clocks: [u8; 4], elapsed: usize) -> Row {

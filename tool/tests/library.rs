@@ -63,19 +63,7 @@ fn a_model_shows_what_it_declares() {
         choices: 8,
     };
     assert_eq!(library::shape(&b()), expected);
-    let refused = Shape {
-        number: 5,
-        line: 2,
-        locations: 0,
-        initial: 0,
-        target: 0,
-        clocks: 0,
-        counters: 0,
-        edges: 0,
-        ceiling: 0,
-        state: 0,
-        choices: 0,
-    };
+    let refused = Shape { number: 5, line: 2, ..Shape::default() };
     assert_eq!(library::shape(b"locations=2\ninit=2\n"), refused);
 }
 
@@ -93,6 +81,9 @@ fn totals_by_formula() {
 
 #[test]
 fn lists_are_written_from_the_start_and_nothing_beyond() {
+    let mut out = [i32::MIN; 11];
+    assert_eq!(library::emit(&a(), 0, &mut out), sizes(0, 0, 2, 4, 10));
+    assert_eq!(out, [1, 2, 0, -1, -2, 0, 1, 0, 2, 0, i32::MIN]);
     let list = [
         1, 2, 0, -1, -2, 0, 1, 0, 3, 4, 5, 0, -3, -4, 0, -3, -5, 0, -4, -5, 0, -3, -1, 6, 0, -3, -2, 7, 0, -4, -1, 6, 0, -4, -2,
         7, 0, -5, 1, 0, -5, 7, 0, 6, 7, 0, -6, -7, 0, 7, 0,

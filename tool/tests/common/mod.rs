@@ -5,7 +5,7 @@ use std::env;
 use std::fs;
 use std::io::Write;
 use std::path::{Path, PathBuf};
-use std::process::{Command, Stdio};
+use std::process::{Command, Output, Stdio};
 use wirdoku::scratch::Scratch;
 
 pub const SOLVERS: [&str; 3] = ["cadical", "minisat", "picosat"];
@@ -19,6 +19,14 @@ pub struct Outcome {
 }
 
 impl Outcome {
+    fn of(output: Output) -> Outcome {
+        Outcome {
+            status: output.status.code().unwrap(),
+            out: String::from_utf8(output.stdout).unwrap(),
+            err: String::from_utf8(output.stderr).unwrap(),
+        }
+    }
+
     /// Asserts an ending before the answer: nothing on standard output, and a message that begins like this.
     pub fn assert_stopped(&self, status: i32, message: &str) {
         assert_eq!(self.status, status, "{:?}", self);
@@ -43,12 +51,7 @@ pub fn command(arguments: &[&str]) -> Command {
 }
 
 pub fn outcome(command: &mut Command) -> Outcome {
-    let output = command.stdin(Stdio::null()).output().unwrap();
-    Outcome {
-        status: output.status.code().unwrap(),
-        out: String::from_utf8(output.stdout).unwrap(),
-        err: String::from_utf8(output.stderr).unwrap(),
-    }
+    Outcome::of(command.stdin(Stdio::null()).output().unwrap())
 }
 
 pub fn wirdoku(arguments: &[&str]) -> Outcome {
@@ -60,12 +63,7 @@ pub fn wirdoku_with_input(arguments: &[&str], input: &[u8]) -> Outcome {
     let mut child = command(arguments).stdin(Stdio::piped()).stdout(Stdio::piped()).stderr(Stdio::piped()).spawn().unwrap();
     // A text that is too long is not read to its end, so the write may fail.
     let _ = child.stdin.take().unwrap().write_all(input);
-    let output = child.wait_with_output().unwrap();
-    Outcome {
-        status: output.status.code().unwrap(),
-        out: String::from_utf8(output.stdout).unwrap(),
-        err: String::from_utf8(output.stderr).unwrap(),
-    }
+    Outcome::of(child.wait_with_output().unwrap())
 }
 
 /// A folder of the test's own, with files in it.
