@@ -5,16 +5,17 @@
 use reference::assign;
 use reference::list;
 use reference::step;
+use reference::subject::Subject;
 use reference::text::read;
 use wirdoku::library;
 
-use crate::input::Input;
+use crate::input;
 use crate::measure::{keep, Rounds};
 use crate::plain;
 use crate::table::{Row, Work};
 
 /// All calls on a model for a bound; those that need a run only if it has one.
-pub fn rows(input: &Input, bound: usize) -> Result<Vec<Row>, String> {
+pub fn rows(input: &Subject, bound: usize) -> Result<Vec<Row>, String> {
     let mut rows = vec![
         reading(input),
         totals(input, bound)?,
@@ -25,7 +26,13 @@ pub fn rows(input: &Input, bound: usize) -> Result<Vec<Row>, String> {
     Ok(rows)
 }
 
-fn row(input: &Input, call: &'static str, bound: Option<usize>, work: Work, rounds: Rounds) -> Row {
+fn row(
+    input: &Subject,
+    call: &'static str,
+    bound: Option<usize>,
+    work: Work,
+    rounds: Rounds,
+) -> Row {
     Row {
         call,
         model: input.name.clone(),
@@ -35,7 +42,12 @@ fn row(input: &Input, call: &'static str, bound: Option<usize>, work: Work, roun
     }
 }
 
-fn agree(input: &Input, call: &str, agreed: bool) -> Result<(), String> {
+/// A buffer for each side that writes.
+fn lent<T: Copy>(value: T, length: usize) -> [Vec<T>; 4] {
+    [(); 4].map(|()| vec![value; length])
+}
+
+fn agree(input: &Subject, call: &str, agreed: bool) -> Result<(), String> {
     if agreed {
         Ok(())
     } else {
@@ -43,13 +55,13 @@ fn agree(input: &Input, call: &str, agreed: bool) -> Result<(), String> {
     }
 }
 
-fn reading(input: &Input) -> Row {
+fn reading(input: &Subject) -> Row {
     let text = input.text.as_slice();
     let rounds = Rounds::of(&mut [&mut || keep(library::read(text)), &mut || keep(read(text))]);
     row(input, "read", None, vec![(text.len(), "bytes")], rounds)
 }
 
-fn totals(input: &Input, bound: usize) -> Result<Row, String> {
+fn totals(input: &Subject, bound: usize) -> Result<Row, String> {
     let (text, model) = (input.text.as_slice(), &input.model);
     let told = library::counts(text, bound);
     let counted = list::totals(model, bound).map_err(|refusal| format!("{refusal:?}"))?;
@@ -77,15 +89,10 @@ fn totals(input: &Input, bound: usize) -> Result<Row, String> {
     ))
 }
 
-pub fn emission(input: &Input, bound: usize) -> Result<Row, String> {
+pub fn emission(input: &Subject, bound: usize) -> Result<Row, String> {
     let (text, model) = (input.text.as_slice(), &input.model);
     let words = library::counts(text, bound).words;
-    let mut buffers = [
-        vec![7; words],
-        vec![7; words],
-        vec![7; words],
-        vec![7; words],
-    ];
+    let mut buffers = lent(7, words);
     let [a, b, c, d] = &mut buffers;
     let rounds = Rounds::of(&mut [
         &mut || keep(library::emit(text, bound, a)),
@@ -109,18 +116,13 @@ pub fn emission(input: &Input, bound: usize) -> Result<Row, String> {
 }
 
 /// The search for a false clause in a list that has none, and the run.
-pub fn search(input: &Input, bound: usize) -> Result<Option<Row>, String> {
+pub fn search(input: &Subject, bound: usize) -> Result<Option<Row>, String> {
     let (text, model) = (input.text.as_slice(), &input.model);
-    let (run, assignment) = match input.run(bound) {
+    let (run, assignment) = match input::run(input, bound) {
         Some(found) => found,
         None => return Ok(None),
     };
-    let mut buffers = [
-        vec![255; bound],
-        vec![255; bound],
-        vec![255; bound],
-        vec![255; bound],
-    ];
+    let mut buffers = lent(255, bound);
     let [a, b, c, d] = &mut buffers;
     let rounds = Rounds::of(&mut [
         &mut || keep(library::assignment_to_run(text, bound, &assignment, a)),
@@ -145,8 +147,8 @@ pub fn search(input: &Input, bound: usize) -> Result<Option<Row>, String> {
 }
 
 /// The walker and the conversion of a run.
-fn runs(input: &Input, bound: usize) -> Result<Vec<Row>, String> {
-    match input.run(bound) {
+fn runs(input: &Subject, bound: usize) -> Result<Vec<Row>, String> {
+    match input::run(input, bound) {
         Some((run, assignment)) => Ok(vec![
             walking(input, &run)?,
             encoding(input, &run, &assignment)?,
@@ -155,7 +157,7 @@ fn runs(input: &Input, bound: usize) -> Result<Vec<Row>, String> {
     }
 }
 
-fn walking(input: &Input, run: &[u8]) -> Result<Row, String> {
+fn walking(input: &Subject, run: &[u8]) -> Result<Row, String> {
     let (text, model) = (input.text.as_slice(), &input.model);
     let accepted = library::walk(text, run).number == 0
         && step::walk(model, run) == (0, 0)
@@ -178,11 +180,10 @@ fn walking(input: &Input, run: &[u8]) -> Result<Row, String> {
     ))
 }
 
-fn encoding(input: &Input, run: &[u8], assignment: &[u8]) -> Result<Row, String> {
+fn encoding(input: &Subject, run: &[u8], assignment: &[u8]) -> Result<Row, String> {
     let (text, model) = (input.text.as_slice(), &input.model);
     let length = assignment.len();
-    let buffer = || vec![7; length];
-    let mut buffers = [buffer(), buffer(), buffer(), buffer()];
+    let mut buffers = lent(7, length);
     let [a, b, c, d] = &mut buffers;
     let rounds = Rounds::of(&mut [
         &mut || keep(library::run_to_assignment(text, run, a)),

@@ -16,6 +16,7 @@ use std::path::PathBuf;
 use std::process::ExitCode;
 
 use reference::model::MAX_BOUND;
+use reference::subject;
 
 fn main() -> ExitCode {
     match run() {
@@ -30,8 +31,8 @@ fn main() -> ExitCode {
 fn run() -> Result<(), String> {
     let folder = std::env::args_os().nth(1).map(PathBuf::from);
     let folder = folder.ok_or("the folder with the models is missing: bench FOLDER")?;
-    let shipped = input::shipped(&folder)?;
-    let (greatest, full) = (input::greatest()?, input::full()?);
+    let shipped = subject::shipped(&folder)?;
+    let [greatest, full] = input::at_the_limits()?;
     table::head("At bound 64", &table::COLUMNS);
     for input in [&greatest, &full].into_iter().chain(&shipped) {
         for row in calls::rows(input, MAX_BOUND)? {

@@ -4,17 +4,18 @@
 use std::thread;
 
 use reference::model::MAX_BOUND;
+use reference::subject::Subject;
 use wirdoku::library;
 
-use crate::input::Input;
+use crate::input;
 
 /// Bytes of the thread's stack, the thread's own needs included.
 pub const STACK: usize = 64 * 1024;
 
 /// Makes all calls on a model at the greatest bound.
-pub fn on_a_small_stack(input: &Input) -> Result<(), String> {
+pub fn on_a_small_stack(input: &Subject) -> Result<(), String> {
     let text = input.text.clone();
-    let (run, assignment) = input.run(MAX_BOUND).unwrap_or_default();
+    let (run, assignment) = input::run(input, MAX_BOUND).unwrap_or_default();
     let mut lent = vec![0; library::counts(&text, MAX_BOUND).words];
     let mut numbered = b"bound=64\n".to_vec();
     numbered.extend(&text);

@@ -2,7 +2,7 @@
 
 use reference::assign::assignment_of;
 use reference::gen::rng::Rng;
-use reference::gen::runs::model_and_walk;
+use reference::gen::runs::{model_and_walk, truth_values};
 use reference::model::{variables, Model, MAX_BOUND};
 use wirdoku::library;
 
@@ -56,10 +56,6 @@ fn asked(rng: &mut Rng, seed: u64) -> (Model, usize, Box<[u8]>) {
         _ => assignment.swap(place, other),
     }
     (model, bound, assignment.into_boxed_slice())
-}
-
-fn truth_values(rng: &mut Rng, length: usize) -> Vec<u8> {
-    (0..length).map(|_| rng.below(2) as u8).collect()
 }
 
 /// A bound that is not the assignment's own; half of the time the assignment gets its length.

@@ -3,7 +3,6 @@
 use reference::gen::models;
 use reference::gen::rng::Rng;
 use reference::gen::runs::walk;
-use reference::list::digest;
 use reference::model::{Atom, Edge, Model, Relation, Update, MAX_BOUND};
 use wirdoku::library::{self, Sizes};
 
@@ -27,14 +26,12 @@ pub fn largest(tally: &mut Tally, _: Seeds) {
     }
 }
 
-/// The longest list: totals, words, their digest; 22 with one word less.
+/// The longest list: totals, words; 22 with one word less.
 fn longest_list(tally: &mut Tally) {
-    let model = models::largest();
-    let text = written(&model);
+    let text = written(&models::largest());
     tally.answer("counts", MOST, library::counts(&text, MAX_BOUND));
     let mut lent = Lent::new(1, MOST.words + 100);
     tally.answer("emit", MOST, library::emit(&text, MAX_BOUND, lent.slice()));
-    tally.same("digest", digest(&model, MAX_BOUND).ok(), Some(fnv(&lent.slice()[..MOST.words])));
     tally.buffer("emit", &lent, &List::of_text(&text, MAX_BOUND).words());
     calls::list(tally, 2, &text, MAX_BOUND, &[MOST.words, MOST.words - 1]);
     let input = [b"bound=64\n", &text[..]].concat();
@@ -43,12 +40,6 @@ fn longest_list(tally: &mut Tally) {
     calls::size(tally, 5, &input, &list, 16_384);
     calls::walk(tally, &text, &[]);
     tally.case(|| "the longest list".to_string());
-}
-
-/// 64-bit FNV-1a over each word's four bytes, the lowest first.
-fn fnv(words: &[i32]) -> u64 {
-    let bytes = words.iter().flat_map(|word| word.to_le_bytes());
-    bytes.fold(0xcbf2_9ce4_8422_2325, |digest, byte| (digest ^ u64::from(byte)).wrapping_mul(0x0000_0100_0000_01b3))
 }
 
 /// A model at every limit and a run of 64 steps of it.

@@ -1,6 +1,6 @@
 //! Lists word for word: the totals by formula and the emission, with buffers of every sort.
 
-use reference::gen::models::{model, Size};
+use reference::gen::models::{any_size, model, Size};
 use reference::gen::rng::Rng;
 use reference::gen::runs::steps;
 use reference::model::MAX_BOUND;
@@ -20,7 +20,7 @@ const TOO_LARGE: [usize; 10] = [65, 66, 127, 128, 256, 257, 1 << 16, 1 << 32, us
 pub fn lists(tally: &mut Tally, seeds: Seeds) {
     for seed in seeds.each() {
         let mut rng = Rng::new(seed);
-        let size = rng.pick(&[Size::Tiny, Size::Tiny, Size::Medium, Size::Medium, Size::Full]);
+        let size = any_size(&mut rng);
         let text = written(&model(&mut rng, size)).into_boxed_slice();
         let bound = if rng.one_in(10) {
             rng.pick(&TOO_LARGE)

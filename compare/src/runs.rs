@@ -93,14 +93,9 @@ fn along(tally: &mut Tally, model: &Model, text: &[u8], run: &[u8]) {
 
 /// Four steps from states of the model, of which some have a number out of order.
 fn single_steps(tally: &mut Tally, rng: &mut Rng, model: &Model, text: &[u8]) {
-    let choices = choice_length(model) as usize;
     for _ in 0..4 {
         let state = library_state(records::state(rng, model));
-        let byte = match rng.below(8) {
-            0 => rng.byte(),
-            1 => choices as u8,
-            _ => rng.below(choices) as u8,
-        };
+        let byte = generator::step_byte(rng, model);
         calls::step(tally, text, state, byte);
     }
 }

@@ -1,14 +1,13 @@
 //! The models in the repository: the list at every bound, and every shortest run both ways.
 
 use std::collections::HashSet;
-use std::path::PathBuf;
+use std::path::Path;
 
 use reference::assign::assignment_of;
-use reference::model::{choice_length, Model, MAX_BOUND};
-use reference::search::{shortest, Shortest};
+use reference::model::{Model, MAX_BOUND};
+use reference::search::{next_level, shortest, successors, Shortest};
 use reference::state::State;
-use reference::step::step;
-use reference::text::read_whole;
+use reference::subject;
 use wirdoku::library;
 
 use crate::expected::List;
@@ -20,35 +19,22 @@ use crate::{calls, show};
 const MOST_STATES: usize = 1_000_000;
 
 pub fn shipped(tally: &mut Tally, _: Seeds) {
-    let files = files();
-    tally.same("models, six at least", true, files.len() >= 6);
+    let folder = concat!(env!("CARGO_MANIFEST_DIR"), "/../models");
+    let shipped = subject::shipped(Path::new(folder));
+    tally.same("models", None, shipped.as_ref().err());
+    let shipped = shipped.unwrap_or_default();
+    tally.same("models, six at least", true, shipped.len() >= 6);
     tally.case(|| "folder models".to_string());
-    for file in files {
-        let text = std::fs::read(&file).unwrap_or_default();
-        let name = file.display();
+    for subject::Subject { name, model, text } in shipped {
         for bound in 0..=MAX_BOUND + 1 {
             let needed = List::of_text(&text, bound).counts.words;
             calls::list(tally, bound as u64, &text, bound, &[needed, needed + 7]);
         }
         calls::reading(tally, 1, &text);
         tally.case(|| format!("lists of {name}"));
-        let model = read_whole(&text).ok();
-        tally.same("read", true, model.is_some());
-        if let Some(model) = model {
-            shortest_runs(tally, &text, &model);
-        }
+        shortest_runs(tally, &text, &model);
         tally.case(|| format!("shortest runs of {name}"));
     }
-}
-
-/// The model texts, in the order of their names.
-fn files() -> Vec<PathBuf> {
-    let folder = concat!(env!("CARGO_MANIFEST_DIR"), "/../models");
-    let entries = std::fs::read_dir(folder).into_iter().flatten().flatten();
-    let mut files: Vec<PathBuf> = entries.map(|entry| entry.path()).collect();
-    files.retain(|file| file.extension().map_or(false, |extension| extension == "txt"));
-    files.sort();
-    files
 }
 
 /// Walks every shortest run, and takes it to its assignment and back.
@@ -74,7 +60,7 @@ fn runs(model: &Model, steps: usize) -> Vec<Vec<u8>> {
     let mut walks = vec![(Vec::new(), State::initial(model))];
     for states in &in_time[1..] {
         let longer = |(run, state): &(Vec<u8>, State)| {
-            let kept = successors(model, *state).into_iter().filter(|(_, after)| states.contains(after));
+            let kept = successors(model, *state).filter(|(_, after)| states.contains(after));
             kept.map(|(byte, after)| ([&run[..], &[byte]].concat(), after)).collect::<Vec<_>>()
         };
         walks = walks.iter().flat_map(longer).collect();
@@ -86,19 +72,12 @@ fn runs(model: &Model, steps: usize) -> Vec<Vec<u8>> {
 fn in_time(model: &Model, steps: usize) -> Vec<HashSet<State>> {
     let mut levels: Vec<HashSet<State>> = vec![HashSet::from([State::initial(model)])];
     for step in 0..steps {
-        let next = levels[step].iter().flat_map(|state| successors(model, *state)).map(|(_, after)| after).collect();
-        levels.push(next);
+        levels.push(next_level(model, &levels[step]));
     }
     levels[steps].retain(|state| state.location == model.target);
     for step in (0..steps).rev() {
         let later = levels[step + 1].clone();
-        levels[step].retain(|state| successors(model, *state).iter().any(|(_, after)| later.contains(after)));
+        levels[step].retain(|state| successors(model, *state).any(|(_, after)| later.contains(&after)));
     }
     levels
-}
-
-/// The states one step after a state, with the byte that leads there.
-fn successors(model: &Model, state: State) -> Vec<(u8, State)> {
-    let bytes = 0..choice_length(model) as u8;
-    bytes.filter_map(|byte| step(model, state, byte).ok().map(|after| (byte, after))).collect()
 }

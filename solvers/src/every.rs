@@ -4,12 +4,13 @@
 use std::ops::RangeInclusive;
 
 use reference::search::{all_runs, count_runs};
+use reference::subject::Subject;
 use wirdoku::solver::{Solver, Verdict};
 
 use crate::desk::Desk;
 use crate::judge::decoded;
 use crate::list::{blocking, emitted};
-use crate::subject::{tiny, Subject};
+use crate::made::tiny;
 use crate::tally::Tally;
 
 const SEEDS: RangeInclusive<u64> = 2_001..=2_120;

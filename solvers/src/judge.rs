@@ -3,17 +3,17 @@
 
 use std::collections::HashSet;
 
-use reference::model::{choice_length, Model};
+use reference::model::Model;
+use reference::search::{next_level, start};
 use reference::state::State;
-use reference::step::{self, step};
+use reference::step;
+use reference::subject::Subject;
 use wirdoku::library;
-
-use crate::subject::Subject;
 
 /// The locations in which walks of exactly `bound` steps end; none if more than
 /// `limit` states are reached.
 pub fn ends(model: &Model, bound: usize, limit: usize) -> Option<HashSet<u8>> {
-    let mut level = start(model);
+    let mut level: HashSet<State> = start(model).into_iter().collect();
     for _ in 0..bound {
         let next = next_level(model, &level);
         if next.len() > limit {
@@ -31,7 +31,7 @@ pub fn ends(model: &Model, bound: usize, limit: usize) -> Option<HashSet<u8>> {
 /// search stops where it has more than `limit` states.
 pub fn first_reached(model: &Model, limit: usize) -> Vec<Option<usize>> {
     let mut first = vec![None; usize::from(model.locations)];
-    let mut level = start(model);
+    let mut level: HashSet<State> = start(model).into_iter().collect();
     let mut seen = level.clone();
     let mut steps = 0;
     while !level.is_empty() && seen.len() <= limit {
@@ -43,25 +43,6 @@ pub fn first_reached(model: &Model, limit: usize) -> Vec<Option<usize>> {
         steps += 1;
     }
     first
-}
-
-/// The initial state, if it is allowed.
-fn start(model: &Model) -> HashSet<State> {
-    let initial = Some(State::initial(model));
-    initial
-        .filter(|state| state.meets_invariant(model))
-        .into_iter()
-        .collect()
-}
-
-fn next_level(model: &Model, level: &HashSet<State>) -> HashSet<State> {
-    let bytes = 0..choice_length(model) as u8;
-    let pairs = level
-        .iter()
-        .flat_map(|state| bytes.clone().map(move |byte| (*state, byte)));
-    pairs
-        .filter_map(|(state, byte)| step(model, state, byte).ok())
-        .collect()
 }
 
 /// The run of a solver's assignment. The proved conversion must take the

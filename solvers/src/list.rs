@@ -1,8 +1,7 @@
 //! A clause list as the proved library emits it.
 
+use reference::subject::Subject;
 use wirdoku::library;
-
-use crate::subject::Subject;
 
 pub struct List {
     pub variables: usize,

@@ -4,6 +4,7 @@
 
 use reference::model::{variables, MAX_BOUND};
 use reference::step::states_of_prefix;
+use reference::subject::Subject;
 use wirdoku::library;
 use wirdoku::solver::{Solver, Verdict};
 
@@ -11,7 +12,6 @@ use crate::desk::Desk;
 use crate::judge::decoded;
 use crate::list::{emitted, fixing, List};
 use crate::pairs::Pair;
-use crate::subject::Subject;
 use crate::tally::Tally;
 
 const PAIRS: usize = 60;

@@ -10,9 +10,9 @@ mod every;
 mod judge;
 mod list;
 mod longer;
+mod made;
 mod pairs;
 mod smallest;
-mod subject;
 mod tally;
 
 use std::path::PathBuf;
@@ -20,6 +20,7 @@ use std::process::ExitCode;
 use std::time::Instant;
 
 use desk::Desk;
+use reference::subject;
 use tally::Tally;
 
 fn main() -> ExitCode {

@@ -7,12 +7,13 @@ use reference::gen::rng::Rng;
 use reference::gen::runs::walk as random_walk;
 use reference::model::{Atom, Model, Update, NO_ATOMS};
 use reference::step::walk;
+use reference::subject::Subject;
 use wirdoku::solver::{Solver, Verdict};
 
 use crate::desk::Desk;
 use crate::judge::{decoded, ends};
 use crate::list::emitted;
-use crate::subject::{at_the_limits, generated, Subject};
+use crate::made::{at_the_limits, generated};
 use crate::tally::Tally;
 
 const SEEDS: RangeInclusive<u64> = 1..=480;

@@ -4,12 +4,13 @@ use std::ops::RangeInclusive;
 
 use reference::model::MAX_BOUND;
 use reference::search::{shortest, Shortest};
+use reference::subject::Subject;
 use wirdoku::solver::{Solver, Verdict};
 
 use crate::desk::Desk;
 use crate::judge::decoded;
 use crate::list::emitted;
-use crate::subject::{generated, there_and_back, Subject};
+use crate::made::{generated, there_and_back};
 use crate::tally::Tally;
 
 const SEEDS: RangeInclusive<u64> = 1_001..=1_240;

@@ -1,6 +1,6 @@
 //! Counts of tests, and failing ones written out.
 
-use crate::subject::Subject;
+use reference::subject::Subject;
 
 #[derive(Default)]
 pub struct Tally {

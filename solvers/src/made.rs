@@ -1,66 +1,15 @@
-//! What is tested: models with their texts, from files, from seeds, and a few made by hand.
-
-use std::fs;
-use std::path::Path;
+//! What is tested beside the shipped models: models from seeds, and a few made by hand.
 
 use reference::gen::models::{self, Size};
 use reference::gen::rng::Rng;
 use reference::gen::runs::walk;
 use reference::model::{Atom, Counter, Edge, Model, Relation, Update};
-use reference::text::{read, write};
+use reference::subject::Subject;
 
 use crate::judge::first_reached;
 
 /// Most states kept while a target is chosen.
 const STATES: usize = 1_000;
-
-#[derive(Clone)]
-pub struct Subject {
-    /// Where the model comes from.
-    pub name: String,
-    pub model: Model,
-    pub text: Vec<u8>,
-}
-
-impl Subject {
-    fn new(name: String, model: Model) -> Result<Subject, String> {
-        let text = write(&model).map_err(|refusal| format!("{name}: {refusal:?}"))?;
-        Ok(Subject {
-            name,
-            model,
-            text: text.into_bytes(),
-        })
-    }
-}
-
-/// The models of a folder, in the order of their file names.
-pub fn shipped(folder: &Path) -> Result<Vec<Subject>, String> {
-    let cause = |error| format!("{}: {error}", folder.display());
-    let mut paths = Vec::new();
-    for entry in fs::read_dir(folder).map_err(cause)? {
-        paths.push(entry.map_err(cause)?.path());
-    }
-    paths.retain(|path| path.extension().map_or(false, |end| end == "txt"));
-    paths.sort();
-    paths.iter().map(|path| from_file(path)).collect()
-}
-
-fn from_file(path: &Path) -> Result<Subject, String> {
-    let name = path.display().to_string();
-    let text = fs::read(path).map_err(|error| format!("{name}: {error}"))?;
-    let reading = read(&text);
-    if reading.refusal != 0 {
-        return Err(format!(
-            "{name}: refusal {} in line {}",
-            reading.refusal, reading.line
-        ));
-    }
-    Ok(Subject {
-        name,
-        model: reading.model,
-        text,
-    })
-}
 
 /// A generated model and a bound. The target is a location that walks reach
 /// late, or not at all; the bound is at or near the step that first reaches it.
@@ -131,33 +80,17 @@ pub fn tiny(seed: u64) -> Result<Subject, String> {
 }
 
 /// Two models at every limit: the one with the greatest list, which has no run,
-/// and one whose atoms leave runs, with every kind of update.
+/// and one with runs through a chain of locations.
 pub fn at_the_limits() -> Result<[Subject; 2], String> {
-    let greatest = models::largest();
-    let mut model = greatest.clone();
-    let clock =
-        |number: usize, constant| Atom::clock(number as u8 % 4, Relation::LessEqual, constant);
-    model.invariant = [[clock(0, 30), clock(1, 30), clock(2, 30), clock(3, 30)]; 16];
+    let mut model = models::full();
     model.target = 1;
     for (number, edge) in model.edge.iter_mut().enumerate() {
         edge.target = number as u8 % 16;
         edge.source = edge.target.saturating_sub(1);
-        edge.guard = [
-            clock(number, 15),
-            clock(number + 1, 29),
-            Atom::counter(0, Relation::LessEqual, 30),
-            Atom::counter(1, Relation::NotEqual, number as u8),
-        ];
-        edge.updates[0] = Update::Constant(number as u8);
-        edge.updates[1] = Update::Sum {
-            source: 0,
-            offset: number as i8 - 16,
-        };
-        edge.resets[number % 4] = true;
     }
     Ok([
-        Subject::new("the greatest list".to_string(), greatest)?,
-        Subject::new("every limit, with runs".to_string(), model)?,
+        Subject::new("the greatest list", models::largest())?,
+        Subject::new("every limit, with runs", model)?,
     ])
 }
 
