@@ -39,8 +39,8 @@ pub fn put_negated_unit(a: usize, out: &mut [i32], at: usize) -> usize
     requires { ⌜ (a ≤ 90000) × Room (one (negated a ∷ [])) (now out) at ⌝ }
     ensures { λ r. ⌜ Wrote (one (negated a ∷ [])) (now (out .entry)) (now (out .exit)) at r ⌝ }
 {
-    let x = negative(a);
-    out[at] = x;
+    let only = negative(a);
+    out[at] = only;
     out[at + 1] = 0;
     at + 2
 }
@@ -63,10 +63,10 @@ pub fn put_exclusion(a: usize, b: usize, out: &mut [i32], at: usize) -> usize
     requires { ⌜ (a ≤ 90000) × (b ≤ 90000) × Room (one (negated a ∷ negated b ∷ [])) (now out) at ⌝ }
     ensures { λ r. ⌜ Wrote (one (negated a ∷ negated b ∷ [])) (now (out .entry)) (now (out .exit)) at r ⌝ }
 {
-    let x = negative(a);
-    let y = negative(b);
-    out[at] = x;
-    out[at + 1] = y;
+    let first = negative(a);
+    let second = negative(b);
+    out[at] = first;
+    out[at + 1] = second;
     out[at + 2] = 0;
     at + 3
 }

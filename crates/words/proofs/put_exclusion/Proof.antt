@@ -18,20 +18,20 @@ negative-requires c κs = search needs
 negative-requires-2 : tie.Need-negative-requires-2
 negative-requires-2 c κs = search needs
 
-mul-x : tie.Need-mul-x
-mul-x c = search needs
+mul-first : tie.Need-mul-first
+mul-first c = search needs
 
-slice-set-from-x : tie.Need-slice-set-from-x
-slice-set-from-x c = omega (arith, room (c .before .before))
+slice-set-from-first : tie.Need-slice-set-from-first
+slice-set-from-first c = omega (arith, room (c .before .before))
 
-add-y : tie.Need-add-y
-add-y c = search needs
+add-second : tie.Need-add-second
+add-second c = search needs
 
-mul-y : tie.Need-mul-y
-mul-y c = search needs
+mul-second : tie.Need-mul-second
+mul-second c = search needs
 
-slice-set-from-y : tie.Need-slice-set-from-y
-slice-set-from-y c = simp length-set (omega (arith, room (c .before .before)))
+slice-set-from-second : tie.Need-slice-set-from-second
+slice-set-from-second c = simp length-set (omega (arith, room (c .before .before)))
 
 add-out : tie.Need-add-out
 add-out c = search needs
@@ -57,11 +57,11 @@ put-exclusion-spec =
     (tie.spec
     negative-requires
     negative-requires-2
-    mul-x
-    slice-set-from-x
-    add-y
-    mul-y
-    slice-set-from-y
+    mul-first
+    slice-set-from-first
+    add-second
+    mul-second
+    slice-set-from-second
     add-out
     mul-out
     slice-set-of-out

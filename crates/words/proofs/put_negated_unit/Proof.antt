@@ -15,11 +15,11 @@ room c = omega (arith, c .pre .1, size-1 (negated (c .args .a)))
 negative-requires : tie.Need-negative-requires
 negative-requires c κs = search needs
 
-mul-x : tie.Need-mul-x
-mul-x c = search needs
+mul-only : tie.Need-mul-only
+mul-only c = search needs
 
-slice-set-from-x : tie.Need-slice-set-from-x
-slice-set-from-x c = omega (arith, room (c .before))
+slice-set-from-only : tie.Need-slice-set-from-only
+slice-set-from-only c = omega (arith, room (c .before))
 
 add-out : tie.Need-add-out
 add-out c = search needs
@@ -44,8 +44,8 @@ put-negated-unit-spec =
     tie.close
     (tie.spec
     negative-requires
-    mul-x
-    slice-set-from-x
+    mul-only
+    slice-set-from-only
     add-out
     mul-out
     slice-set-of-out
