@@ -1,36 +1,9 @@
--- The steps of the code: a refused text, and a text that is read.
-use Prim.Native.Nat.{ℕ}
+-- The steps of the code: the totals' answer, case by case.
 use mathlib.Core.Path.{_≡_, sym, ap, _∙_}
-use mathlib.Core.List.{List}
-use mathlib.Core.Bool.{true, false}
-use lib.Dec.{eqb}
-use borrow.Author.Tests.{eq-eqb, ne-eqb}
-use Rattle.model.specs.declared.Model.{Model}
-use Rattle.text.specs.Text.{ReadReport, readReport, readTold, outcomeNumber, outcomeLine}
-use Rattle.text.specs.declared.ReadAnswer.{ReadAnswer}
 use Rattle.counts.specs.declared.CountsAnswer.{CountsAnswer}
 use Rattle.counts.specs.CountsCall.{listTold}
 use Rattle.sizing.specs.SizeCall.{SizeReport}
-use Rattle.capi.specs.TextCall.{ifRead, countedSizes}
+use Rattle.capi.specs.TextCall.{countedSizes}
 
-module _ {A : Type 0} (call : Model → A) (refused : ℕ → ℕ → A) (t : List ℕ) (a : ReadAnswer) (is : readTold a ≡ readReport t) (n : ℕ) (number : n ≡ outcomeNumber (a .outcome)) where
-  as-read : ifRead (readTold a) call refused ≡ ifRead (readReport t) call refused
-  as-read = ap (λ (x : ReadReport). ifRead x call refused) is
-
-  if-refused : eqb (outcomeNumber (a .outcome)) 0 ≡ false → refused (outcomeNumber (a .outcome)) (outcomeLine (a .outcome)) ≡ ifRead (readTold a) call refused
-  unfolding ifRead
-  if-refused f = rw f
-
-  if-read : eqb (outcomeNumber (a .outcome)) 0 ≡ true → call (a .model) ≡ ifRead (readTold a) call refused
-  unfolding ifRead
-  if-read f = rw f
-
-  pub refused-text : (n ≡ 0 → ⊥) → (l : ℕ) → l ≡ outcomeLine (a .outcome) → refused n l ≡ ifRead (readReport t) call refused
-  refused-text ne l line = (λ i. refused (number i) (line i)) ∙ if-refused (ap (λ (x : ℕ). eqb x 0) (sym number) ∙ ne-eqb n 0 ne) ∙ as-read
-
-  pub read-text : n ≡ 0 → call (a .model) ≡ ifRead (readReport t) call refused
-  read-text z = if-read (ap (λ (x : ℕ). eqb x 0) (sym number) ∙ eq-eqb n 0 z) ∙ as-read
-
--- the totals' answer, case by case
 pub counted-is : {c d : CountsAnswer} → c ≡ d → {r : SizeReport} → r ≡ countedSizes (listTold d) → r ≡ countedSizes (listTold c)
 counted-is q p = p ∙ ap (λ (x : CountsAnswer). countedSizes (listTold x)) (sym q)

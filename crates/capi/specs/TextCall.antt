@@ -1,7 +1,5 @@
 -- What the calls on a model text answer: the text is read first, then the call is made on the model read.
 use Prim.Native.Nat.{ℕ}
-use mathlib.Core.Bool.{cond}
-use lib.Dec.{eqb}
 use mathlib.Core.List.{[], _∷_}
 use Rattle.model.specs.declared.Model.{Model}
 use Rattle.model.specs.declared.State.{State}
@@ -14,10 +12,6 @@ use Rattle.sizing.specs.SizeCall.{SizeReport}
 use Rattle.capi.specs.declared.Answer.{Answer}
 use Rattle.capi.specs.declared.Shape.{Shape}
 use Rattle.capi.specs.declared.StateAnswer.{StateAnswer}
-
--- A text that is read: what the call says of the model. A refused text: what is said of its number and line.
-unfoldable pub ifRead : {A : Type 0} → ReadReport → (Model → A) → (ℕ → ℕ → A) → A
-ifRead t call refused = cond (eqb (t .number) 0) (call (t .model)) (refused (t .number) (t .line))
 
 -- the number and the place of an answer
 abbrev pub answerTold : Answer → Refusal

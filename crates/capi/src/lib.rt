@@ -15,14 +15,14 @@ ghost use mathlib.Core.Path.{_≡_};
 ghost use lib.ListN.{length};
 ghost use Rattle.model.specs.Automaton.{initialState};
 ghost use Rattle.model.specs.Refusal.{refusal};
-ghost use Rattle.text.specs.Text.{readReport};
+ghost use Rattle.text.specs.Text.{readReport, ifRead};
 ghost use Rattle.walk.specs.StepCall.{stepReport};
 ghost use Rattle.walk.specs.Walker.{walkReport};
 ghost use Rattle.encode.specs.EncodeCall.{encodeReport, encodeLeft};
 ghost use Rattle.decode.specs.DecodeCall.{decodeReport, decodeLeft};
 ghost use Rattle.counts.specs.CountsCall.{listReport, listTold};
 ghost use Rattle.sizing.specs.SizeCall.{refusedSizes, textSizes, textLeft, sizeReport, sizeLeft, sizeTold};
-ghost use Rattle.capi.specs.TextCall.{ifRead, answerTold, textReport, countedSizes, shapeOf, refusedShape, stateAnswer, zeroState, stepAnswer};
+ghost use Rattle.capi.specs.TextCall.{answerTold, textReport, countedSizes, shapeOf, refusedShape, stateAnswer, zeroState, stepAnswer};
 
 // The number of the refusal, or 0, and its place.
 #[repr(C)]

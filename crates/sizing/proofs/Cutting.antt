@@ -14,7 +14,7 @@ use Rattle.scan.specs.declared.NumberRead.{NumberRead}
 use Rattle.scan.specs.declared.NumberRead.the-variants.{Malformed, Number}
 use Rattle.scan.proofs.Bytewise.{numberOf-none}
 use Rattle.scan.proofs.Pieces.{firstAt-le}
-use Rattle.text.specs.Bound.{BoundReport, boundRefused, boundIn, boundReport}
+use Rattle.text.specs.Bound.{BoundReport, boundRefused, boundIn, boundReport, ifBound}
 use Rattle.text.specs.Text.{ReadReport, readReport, readRefused}
 use Rattle.sizing.specs.SizeCall.{refusedSizes, textSizes, boundSizes, sizeReport}
 
@@ -118,7 +118,7 @@ module _ (n : ℕ) (t : List ℕ) (room : ℕ) (enough : 8202 < n) (long : n < l
     unfolding sizeReport
     short-line =
         ap (λ (b : BoundReport). boundSizes b cut room) same-bound
-        ∙ ap (λ (r : ReadReport). cond (eqb (boundReport t .number) 0) (textSizes r (boundReport t .bound) room) (refusedSizes (boundReport t .number) 0)) same-text
+        ∙ ap (λ (r : ReadReport). ifBound (boundReport t) (λ bound next. textSizes r bound room) (λ number. refusedSizes number 0)) same-text
 
   late-refused : (l : List ℕ) → 9 < firstAt 10 l → boundReport l ≡ boundRefused
   late-refused l h =

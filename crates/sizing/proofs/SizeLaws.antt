@@ -4,17 +4,19 @@ use mathlib.Core.Path.{_≡_, refl, sym, ap, _∙_}
 use mathlib.Core.List.{List}
 use mathlib.Core.Bool.{Bool, true, false, cond, _&&_}
 use native.Mathlib.Omega.{arith}
-use lib.Dec.{eqb, ltb}
+use lib.Dec.{ltb}
 use lib.IntN.{ℤ}
 use lib.ListN.{length, drop}
-use borrow.Author.Tests.{eq-eqb, ne-eqb, ltb-true}
+use borrow.Author.Tests.{ltb-true}
 use Rattle.scan.specs.Ascii.{ascii}
 use Rattle.scan.specs.Bytes.{firstAt, isDue, valueOf, numberOf}
 use Rattle.scan.specs.declared.NumberRead.{NumberRead}
 use Rattle.scan.specs.declared.NumberRead.the-variants.{Malformed, Number}
+use Rattle.model.specs.declared.Model.{Model}
 use Rattle.text.specs.Bound.{BoundReport, boundRefused, boundAccepted, boundIn, boundReport, boundTold}
 use Rattle.text.specs.Text.{ReadReport, readReport, readTold, outcomeNumber, outcomeLine}
 use Rattle.text.specs.declared.ReadAnswer.{ReadAnswer}
+use Rattle.text.proofs.Calls.{refused-text, read-text}
 use Rattle.text.specs.declared.BoundRead.{BoundRead}
 use Rattle.text.specs.declared.BoundRead.the-variants.{NotABound, Bound}
 use Rattle.emission.specs.EmitCall.{emitReport, emitLeft, emitTold}
@@ -27,39 +29,20 @@ told-is q p = p ∙ ap (λ (x : Emission). emittedSizes (emitTold x)) (sym q)
 
 -- ---- the text
 module _ (t : List ℕ) (a : ReadAnswer) (is : readTold a ≡ readReport t) (k : ℕ) (out : List ℤ) (n : ℕ) (number : n ≡ outcomeNumber (a .outcome)) where
-  sizes-as : (r : SizeReport) → r ≡ textSizes (readTold a) k (length out) → r ≡ textSizes (readReport t) k (length out)
-  sizes-as r h = h ∙ ap (λ (x : ReadReport). textSizes x k (length out)) is
+  abbrev sizes-call : Model → SizeReport
+  sizes-call m = emittedSizes (emitReport m k (length out))
 
-  left-as : (o : List ℤ) → o ≡ textLeft (readTold a) k out → o ≡ textLeft (readReport t) k out
-  left-as o h = h ∙ ap (λ (x : ReadReport). textLeft x k out) is
+  abbrev left-call : Model → List ℤ
+  left-call m = emitLeft m k (length out) out
 
-  module _ (f : eqb (outcomeNumber (a .outcome)) 0 ≡ false) where
-    refused-sizes : refusedSizes (outcomeNumber (a .outcome)) (outcomeLine (a .outcome)) ≡ textSizes (readTold a) k (length out)
-    unfolding textSizes
-    refused-sizes = rw f
-
-    refused-left : out ≡ textLeft (readTold a) k out
-    unfolding textLeft
-    refused-left = rw f
-
-  module _ (f : eqb (outcomeNumber (a .outcome)) 0 ≡ true) where
-    emitted-sizes : emittedSizes (emitReport (a .model) k (length out)) ≡ textSizes (readTold a) k (length out)
-    unfolding textSizes
-    emitted-sizes = rw f
-
-    emitted-left : emitLeft (a .model) k (length out) out ≡ textLeft (readTold a) k out
-    unfolding textLeft
-    emitted-left = rw f
+  abbrev unchanged : ℕ → ℕ → List ℤ
+  unchanged number line = out
 
   pub text-refused : (n ≡ 0 → ⊥) → (l : ℕ) → l ≡ outcomeLine (a .outcome) → (r : SizeReport) → r ≡ refusedSizes n l → (r ≡ textSizes (readReport t) k (length out)) × (out ≡ textLeft (readReport t) k out)
-  text-refused ne l line r e =
-      let f : eqb (outcomeNumber (a .outcome)) 0 ≡ false = ap (λ (x : ℕ). eqb x 0) (sym number) ∙ ne-eqb n 0 ne in
-      (sizes-as r (e ∙ (λ i. refusedSizes (number i) (line i)) ∙ refused-sizes f), left-as out (refused-left f))
+  text-refused ne l line r e = (e ∙ refused-text sizes-call refusedSizes t a is n number ne l line, refused-text left-call unchanged t a is n number ne l line)
 
   pub text-emitted : n ≡ 0 → (e : Emission) → emitTold e ≡ emitReport (a .model) k (length out) → (o : List ℤ) → o ≡ emitLeft (a .model) k (length out) out → (r : SizeReport) → r ≡ emittedSizes (emitTold e) → (r ≡ textSizes (readReport t) k (length out)) × (o ≡ textLeft (readReport t) k out)
-  text-emitted z e told o left r p =
-      let f : eqb (outcomeNumber (a .outcome)) 0 ≡ true = ap (λ (x : ℕ). eqb x 0) (sym number) ∙ eq-eqb n 0 z in
-      (sizes-as r (p ∙ ap emittedSizes told ∙ emitted-sizes f), left-as o (left ∙ emitted-left f))
+  text-emitted z e told o left r p = (p ∙ ap emittedSizes told ∙ read-text sizes-call refusedSizes t a is n number z, left ∙ read-text left-call unchanged t a is n number z)
 
 -- ---- the bound line
 sizes-at : (t : List ℕ) (room : ℕ) (b : BoundReport) → boundReport t ≡ b → boundSizes b t room ≡ sizeReport t room

@@ -1,12 +1,10 @@
 -- What the size program prints for its input, and what it leaves in the lent words.
 use Prim.Native.Nat.{ℕ}
-use mathlib.Core.Bool.{cond}
 use mathlib.Core.List.{List}
-use lib.Dec.{eqb}
 use lib.IntN.{ℤ}
 use lib.ListN.{length, drop}
-use Rattle.text.specs.Bound.{BoundReport, boundReport}
-use Rattle.text.specs.Text.{ReadReport, readReport}
+use Rattle.text.specs.Bound.{BoundReport, boundReport, ifBound}
+use Rattle.text.specs.Text.{ReadReport, readReport, ifRead}
 use Rattle.emission.specs.EmitCall.{EmitReport, emitReport, emitLeft}
 use Rattle.sizing.specs.declared.SizeAnswer.{SizeAnswer}
 
@@ -27,22 +25,22 @@ abbrev pub emittedSizes : EmitReport → SizeReport
 emittedSizes e = record { number = e .number; line = 0; variables = e .variables; clauses = e .clauses; words = e .words }
 
 -- the text, then 21, then 22
-unfoldable pub textSizes : ReadReport → ℕ → ℕ → SizeReport
-textSizes t bound room = cond (eqb (t .number) 0) (emittedSizes (emitReport (t .model) bound room)) (refusedSizes (t .number) (t .line))
+abbrev pub textSizes : ReadReport → ℕ → ℕ → SizeReport
+textSizes t bound room = ifRead t (λ m. emittedSizes (emitReport m bound room)) refusedSizes
 
 abbrev pub boundSizes : BoundReport → List ℕ → ℕ → SizeReport
-boundSizes b input room = cond (eqb (b .number) 0) (textSizes (readReport (drop (b .next) input)) (b .bound) room) (refusedSizes (b .number) 0)
+boundSizes b input room = ifBound b (λ bound next. textSizes (readReport (drop next input)) bound room) (λ number. refusedSizes number 0)
 
 -- 9, then the model text that follows the bound line; `room` is the number of words lent
 unfoldable pub sizeReport : List ℕ → ℕ → SizeReport
 sizeReport input room = boundSizes (boundReport input) input room
 
 -- the lent words: the list where it is written, else unchanged
-unfoldable pub textLeft : ReadReport → ℕ → List ℤ → List ℤ
-textLeft t bound out = cond (eqb (t .number) 0) (emitLeft (t .model) bound (length out) out) out
+abbrev pub textLeft : ReadReport → ℕ → List ℤ → List ℤ
+textLeft t bound out = ifRead t (λ m. emitLeft m bound (length out) out) (λ number line. out)
 
 abbrev pub boundLeft : BoundReport → List ℕ → List ℤ → List ℤ
-boundLeft b input out = cond (eqb (b .number) 0) (textLeft (readReport (drop (b .next) input)) (b .bound) out) out
+boundLeft b input out = ifBound b (λ bound next. textLeft (readReport (drop next input)) bound out) (λ number. out)
 
 unfoldable pub sizeLeft : List ℕ → List ℤ → List ℤ
 sizeLeft input out = boundLeft (boundReport input) input out

@@ -2,6 +2,7 @@
 use Prim.Native.Nat.{ℕ, _+_}
 use mathlib.Core.List.{List}
 use mathlib.Core.Bool.{cond}
+use lib.Dec.{eqb}
 use Rattle.scan.specs.Ascii.{ascii}
 use Rattle.scan.specs.Bytes.{firstAt, isDue, valueOf, numberOf}
 use Rattle.scan.specs.declared.NumberRead.{NumberRead}
@@ -28,6 +29,10 @@ boundIn (Number n) next = boundAccepted n next
 -- 9 not bound= and a number (also for no LF)
 unfoldable pub boundReport : List ℕ → BoundReport
 boundReport t = cond (isDue (ascii "bound=") t) (boundIn (numberOf (valueOf (ascii "bound=") t)) (firstAt 10 t + 1)) boundRefused
+
+-- A call on what follows the line. A bound line: what the call says of the bound and the place. No bound line: what is said of the number.
+abbrev pub ifBound : {A : Type 0} → BoundReport → (ℕ → ℕ → A) → (ℕ → A) → A
+ifBound b call refused = cond (eqb (b .number) 0) (call (b .bound) (b .next)) (refused (b .number))
 
 -- the number and the values of each case of the answer
 abbrev pub boundTold : BoundRead → BoundReport

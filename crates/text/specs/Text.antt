@@ -36,6 +36,10 @@ readEnded p = cond (eqb (p .number) 0) (cond (ltb 0 (length (p .rest))) (readRef
 unfoldable pub readReport : List ℕ → ReadReport
 readReport t = cond (ltb 8192 (length t)) (readRefused 1 0) (readEnded (readLines t))
 
+-- A call on a text. A text that is read: what the call says of the model. A refused text: what is said of its number and line.
+unfoldable pub ifRead : {A : Type 0} → ReadReport → (Model → A) → (ℕ → ℕ → A) → A
+ifRead t call refused = cond (eqb (t .number) 0) (call (t .model)) (refused (t .number) (t .line))
+
 -- the number and the line of each case of the answer
 abbrev pub outcomeNumber : ReadOutcome → ℕ
 outcomeNumber Read = 0

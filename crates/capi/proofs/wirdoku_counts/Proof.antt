@@ -4,7 +4,7 @@ use Rattle.sizing.specs.SizeCall.{refusedSizes, sizeTold}
 use Rattle.model.specs.declared.Model.{Model}
 use mathlib.Core.Path.{ap, _∙_}
 use denote.Ref.{now}
-use Rattle.capi.proofs.CallLaws.{refused-text, read-text}
+use Rattle.text.proofs.Calls.{refused-text, read-text}
 use borrow.Author.Needs.{needs}
 use Rattle.capi.proofs.wirdoku_counts.Statement.{statement}
 use Rattle.capi.proofs.wirdoku_counts.Tie as tie

@@ -1,7 +1,7 @@
 use Rattle.capi.specs.TextCall.{shapeOf, refusedShape}
 use mathlib.Core.Path.{_∙_}
 use denote.Ref.{now}
-use Rattle.capi.proofs.CallLaws.{refused-text, read-text}
+use Rattle.text.proofs.Calls.{refused-text, read-text}
 use borrow.Author.Needs.{needs}
 use Rattle.capi.proofs.wirdoku_shape.Statement.{statement}
 use Rattle.capi.proofs.wirdoku_shape.Tie as tie

@@ -4,7 +4,7 @@ use Rattle.model.specs.declared.Model.{Model}
 use Prim.Native.Nat.{ℕ}
 use mathlib.Core.Path.{ap, _∙_}
 use denote.Ref.{now}
-use Rattle.capi.proofs.CallLaws.{refused-text, read-text}
+use Rattle.text.proofs.Calls.{refused-text, read-text}
 use borrow.Author.Needs.{needs}
 use Rattle.capi.proofs.wirdoku_step.Statement.{statement}
 use Rattle.capi.proofs.wirdoku_step.Tie as tie
