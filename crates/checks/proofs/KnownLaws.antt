@@ -13,7 +13,7 @@ use Rattle.model.specs.Record.{atomAt, invariantAt, edgeAt, counterAt}
 use Rattle.model.specs.Automaton.{ceiling, Component, loc, groupSize, initialValue, stateSize, choices, variables}
 use Rattle.model.proofs.IndexedLaws.{length-each}
 use Rattle.model.proofs.FormLaws.{WellFormed, formed, choices-is, variables-is}
-use Rattle.list.specs.Items.{blockAt, stateWidth, stateMember, groupItems, initialItems, invariantItems, excludeFailing, excludeAllFailing, choiceItems, delayItems, delaysItems, edgeItems}
+use Rattle.list.specs.Items.{blockAt, stateWidth, stateMember, groupItems, initialItems, invariantOf, invariantItems, excludeFailing, choiceItems, delayItems, delaysItems, edgeOf}
 use Rattle.list.specs.Clauses.{Clause, oneHotWidth, groupClauses, clausesOf}
 use Rattle.list.specs.Assignments.{bit}
 use Rattle.list.proofs.ListLaws.{each-cong}
@@ -22,7 +22,7 @@ use Rattle.list.proofs.Pieces.{invariants-piece, atoms-piece, choice-piece, del
 use Rattle.truth.specs.declared.Rule.the-variants.{Keep, Rise}
 use Rattle.truth.specs.Parts.{partClauses, Fits}
 use Rattle.truth.proofs.Skips.{AllTrue, all-each, part-true, keep-length, rise-length}
-use Rattle.piece_tables.specs.Tables.{Table, invariantOf, edgeOf}
+use Rattle.piece_tables.specs.Tables.{Table}
 use Rattle.parts.specs.declared.Blocks.{Blocks}
 use Rattle.parts.specs.StateBlock.{componentAt, blocksOf, firstAt, sizeAt, Bounded}
 use Rattle.parts.specs.PartsOf.{atomPart, leadsPart, delayPart, edgePart}
@@ -129,7 +129,7 @@ module _ {m : Model} {b : Blocks} (k : Known m b) where
       subst (λ (x : Blocks). each (x .groups) (initialPiece m x) ≡ clausesOf (initialItems oneHotWidth m)) (sym (k .is)) (initial-law m (wf .vars-le) (wf .clocks-le))
 
   -- ---- invariants
-  pub location-piece-of : (o l : ℕ) → l < m .locations → locationPiece m b o l ≡ clausesOf (invariantOf m o l)
+  pub location-piece-of : (o l : ℕ) → l < m .locations → locationPiece m b o l ≡ clausesOf (invariantOf oneHotWidth m o l)
   location-piece-of o l p =
       let z : o + l ≡ o + 0 + l = omega arith in
       each-cong 4 (atomPiece b o (o + l) (invariantAt m l)) (λ j. clausesOf (excludeFailing oneHotWidth m o (stateMember oneHotWidth m o loc l ∷ []) (atomAt (invariantAt m l) j)))
@@ -139,14 +139,14 @@ module _ {m : Model} {b : Blocks} (k : Known m b) where
 
   pub invariants-piece-of : (o : ℕ) → each (m .locations) (locationPiece m b o) ≡ clausesOf (invariantItems oneHotWidth m o)
   invariants-piece-of o =
-      each-cong (m .locations) (locationPiece m b o) (λ l. clausesOf (invariantOf m o l)) (location-piece-of o) ∙ sym (invariants-piece m o)
+      each-cong (m .locations) (locationPiece m b o) (λ l. clausesOf (invariantOf oneHotWidth m o l)) (location-piece-of o) ∙ sym (invariants-piece m o)
 
   -- a location that is false
   pub location-true : (a : List ℕ) (o l : ℕ) → bit a (o + l) ≡ false → AllTrue a (locationPiece m b o l)
   location-true a o l h =
       all-each a (atomPiece b o (o + l) (invariantAt m l)) 4 (λ j. part-true a (o + l) h (atomPart b o (atomAt (invariantAt m l) j)))
 
-  pub location-clauses : {table : List ℕ} (o l : ℕ) → l < m .locations → Table (invariantOf m) (m .locations) 16 1024 table → getD table l 0 ≡ length (locationPiece m b o l)
+  pub location-clauses : {table : List ℕ} (o l : ℕ) → l < m .locations → Table (invariantOf oneHotWidth m) (m .locations) 16 1024 table → getD table l 0 ≡ length (locationPiece m b o l)
   location-clauses o l p t = t .clauses-are l p o ∙ ap length (sym (location-piece-of o l p))
 
   pub invariant-fits : (o n l : ℕ) → o + stateSize m ≤ n → l < m .locations → (j : ℕ) → j < 4 → Fits (atomPart b o (atomAt (invariantAt m l) j)) n
@@ -202,9 +202,9 @@ module _ {m : Model} {b : Blocks} (k : Known m b) where
   unfolding edgeClauses
   edge-piece-of o x e l z =
       let w : x ≡ o + stateWidth oneHotWidth m + (ceiling m + 1 + e) = z ∙ ap (λ (s : ℕ). o + s + (ceiling m + 1 + e)) (sym (state-width-is m)) in
-      subst (λ (y : ℕ). each (b .groups + 5) (edgePiece y b (edgeAt m e) o) ≡ clausesOf (edgeItems oneHotWidth m o (ceiling m + 1 + e) (edgeAt m e))) (sym w)
+      subst (λ (y : ℕ). each (b .groups + 5) (edgePiece y b (edgeAt m e) o) ≡ clausesOf (edgeOf oneHotWidth m o e)) (sym w)
       (subst (λ (y : Blocks). each (y .groups + 5) (edgePiece (o + stateWidth oneHotWidth m + (ceiling m + 1 + e)) y (edgeAt m e) o)
-      ≡ clausesOf (edgeItems oneHotWidth m o (ceiling m + 1 + e) (edgeAt m e))) (sym (k .is)) (edge-law m wf o (ceiling m + 1 + e) (edgeAt m e) (wf .edge-ok e l)))
+      ≡ clausesOf (edgeOf oneHotWidth m o e)) (sym (k .is)) (edge-law m wf o (ceiling m + 1 + e) (edgeAt m e) (wf .edge-ok e l)))
 
   pub edge-fits-of : (o n : ℕ) → o + stateSize m + choices m + stateSize m ≤ n → (e : ℕ) → e < m .used → (j : ℕ) → j < b .groups + 5 → Fits (edgePart b (edgeAt m e) o j) n
   edge-fits-of o n h e p j l =
@@ -216,6 +216,6 @@ module _ {m : Model} {b : Blocks} (k : Known m b) where
   edge-true a o x e l z h =
       subst (AllTrue a) (edge-piece-of o x e l z) (all-each a (edgePiece x b (edgeAt m e) o) (b .groups + 5) (λ j. part-true a x h (edgePart b (edgeAt m e) o j)))
 
-  pub edge-clauses : {table : List ℕ} (o e : ℕ) → e < m .used → Table (edgeOf m) (m .used) 32 3074 table → getD table e 0 ≡ length (edgeClauses m o e)
+  pub edge-clauses : {table : List ℕ} (o e : ℕ) → e < m .used → Table (edgeOf oneHotWidth m) (m .used) 32 3074 table → getD table e 0 ≡ length (edgeClauses m o e)
   unfolding edgeClauses
   edge-clauses o e l t = t .clauses-are e l o

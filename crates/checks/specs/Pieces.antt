@@ -8,10 +8,10 @@ use Rattle.model.specs.declared.AtomSlot.{AtomSlot}
 use Rattle.model.specs.declared.Edge.{Edge}
 use Rattle.model.specs.declared.Model.{Model}
 use Rattle.model.specs.Indexed.{each}
-use Rattle.model.specs.Record.{atomAt, invariantAt, edgeAt}
-use Rattle.model.specs.Automaton.{ceiling, initialValue}
+use Rattle.model.specs.Record.{atomAt, invariantAt}
+use Rattle.model.specs.Automaton.{initialValue}
 use Rattle.model.specs.Form.{wellFormed}
-use Rattle.list.specs.Items.{blockAt, edgeItems, stepItems}
+use Rattle.list.specs.Items.{blockAt, stepItems, edgeOf}
 use Rattle.list.specs.Clauses.{bare, Clause, one, oneHotWidth, groupClauses, clausesOf}
 use Rattle.truth.specs.Parts.{partClauses, Fits}
 use Rattle.parts.specs.declared.Blocks.{Blocks}
@@ -70,7 +70,7 @@ frontPiece b o = groupClauses (o + b .state) (b .choices) ++ each (b .top + 1) (
 
 -- Edge e, all its parts.
 unfoldable pub edgeClauses : Model → ℕ → ℕ → List Clause
-edgeClauses m o e = clausesOf (edgeItems oneHotWidth m o (ceiling m + 1 + e) (edgeAt m e))
+edgeClauses m o e = clausesOf (edgeOf oneHotWidth m o e)
 
 -- Step t + 1, from state t.
 unfoldable pub stepClauses : Model → ℕ → List Clause

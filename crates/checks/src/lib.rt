@@ -14,11 +14,11 @@ ghost use Rattle.model.specs.Indexed.{each};
 ghost use Rattle.model.specs.Record.{atomAt};
 ghost use Rattle.model.specs.Automaton.{stateSize, initialValue};
 ghost use Rattle.model.specs.Form.{wellFormed};
-ghost use Rattle.list.specs.Items.{stateItems, initialItems, startItems};
+ghost use Rattle.list.specs.Items.{stateItems, initialItems, startItems, invariantOf};
 ghost use Rattle.list.specs.Clauses.{oneHotWidth, clausesOf};
 ghost use Rattle.truth.specs.Scanning.{Checked};
 ghost use Rattle.truth.specs.Parts.{Fits};
-ghost use Rattle.piece_tables.specs.Tables.{Table, invariantOf};
+ghost use Rattle.piece_tables.specs.Tables.{Table};
 ghost use Rattle.parts.specs.StateBlock.{componentAt, Bounded};
 ghost use Rattle.parts.specs.PartsOf.{atomPart};
 ghost use Rattle.checks.specs.Pieces.{Known, BlockIn, StepIn, groupPiece, atomPiece, delayPiece, delayPieces, frontPiece};
@@ -79,7 +79,7 @@ fn check_atoms(b: Blocks, a: &[u8], o: usize, x: usize, atoms: [AtomSlot; 4], at
 // The state clauses of the state block that begins at `o`: its groups, then the invariants. All clauses of a location that is false
 // are true.
 pub fn check_state(m: Model, b: Blocks, table: [usize; 16], a: &[u8], o: usize, at: usize) -> Scan
-    requires { ⌜ Known m b × Table (invariantOf m) (m .locations) 16 1024 table × (o ≤ 1000000) × (o + stateSize m ≤ length (now a)) × (at ≤ 600000000) ⌝ }
+    requires { ⌜ Known m b × Table (invariantOf oneHotWidth m) (m .locations) 16 1024 table × (o ≤ 1000000) × (o + stateSize m ≤ length (now a)) × (at ≤ 600000000) ⌝ }
     ensures { λ r. ⌜ Checked (now (a .entry)) (clausesOf (stateItems oneHotWidth m o)) at 60000 r ⌝ }
 {
     let s = check_groups(b, a, o, at);
@@ -157,7 +157,7 @@ fn check_initial(m: Model, b: Blocks, a: &[u8], at: usize) -> Scan
 
 // The clauses of the start.
 pub fn check_start(m: Model, b: Blocks, table: [usize; 16], a: &[u8]) -> Scan
-    requires { ⌜ Known m b × Table (invariantOf m) (m .locations) 16 1024 table × (stateSize m ≤ length (now a)) ⌝ }
+    requires { ⌜ Known m b × Table (invariantOf oneHotWidth m) (m .locations) 16 1024 table × (stateSize m ≤ length (now a)) ⌝ }
     ensures { λ r. ⌜ Checked (now (a .entry)) (clausesOf (startItems oneHotWidth m)) 0 70000 r ⌝ }
 {
     let s = check_state(m, b, table, a, 0, 0);

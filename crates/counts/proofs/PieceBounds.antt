@@ -25,7 +25,7 @@ use Rattle.model.specs.Form.{wellFormed}
 use Rattle.model.proofs.IndexedLaws.{each-zero, each-suc}
 use Rattle.model.proofs.FormLaws.{DeclaredAtom, DeclaredUpdate, WellFormed, WellFormedEdge, formed, choices-le, stateSize-le}
 use Rattle.list.specs.Lists.{All, toList}
-use Rattle.list.specs.Items.{Member, Item, group, rule, overComponents, offset, stateWidth, blockAt, nextBlock, stateMember, choiceMember, excludeValue, excludeFailing, excludeAllFailing, groupItems, invariantItems, stateItems, initialItems, startItems, choiceItems, puts, delayItems, delaysItems, sourceItems, targetItems, guardItems, updateItems, updatesItems, resetItems, resetsItems, edgeItems, edgesItems, stepItems, endItems, bodyItems, items}
+use Rattle.list.specs.Items.{Member, Item, group, rule, overComponents, offset, stateWidth, blockAt, nextBlock, stateMember, choiceMember, excludeValue, excludeFailing, excludeAllFailing, groupItems, invariantOf, invariantItems, stateItems, initialItems, startItems, choiceItems, puts, delayItems, delaysItems, sourceItems, targetItems, guardItems, updateItems, updatesItems, resetItems, resetsItems, edgeItems, edgeOf, edgesItems, stepItems, endItems, bodyItems, items}
 use Rattle.list.specs.Clauses.{oneHotWidth, clausesOf, clauses, words}
 use Rattle.list.proofs.ListLaws.{all-app, all-app₃, all-app₄, all-each, flat-app, flat-one, flat-each, each-cong}
 use Rattle.piece_counts.specs.Sized.{Sized, lead}
@@ -133,7 +133,7 @@ module _ (m : Model) (ok : WellFormed m) (o c : ℕ) where
 
 -- ---- the other pieces, and the whole list
 module _ (m : Model) (ok : WellFormed m) where
-  invariant-most : (o l : ℕ) → l < m .locations → Most (excludeAllFailing oneHotWidth m o (stateMember oneHotWidth m o loc l ∷ []) (invariantAt m l)) 128 384
+  invariant-most : (o l : ℕ) → l < m .locations → Most (invariantOf oneHotWidth m o l) 128 384
   invariant-most o l p = atoms-most m ok o (stateMember oneHotWidth m o loc l) (invariantAt m l) (ok .invariant-ok l p)
 
   counter-most : (b i : ℕ) → i < m .vars → Most (group b (groupSize m (counter i)) ∷ []) 497 1521
@@ -201,7 +201,7 @@ module _ (m : Model) (ok : WellFormed m) where
   unfolding statePieces
   state-short o =
       let g : Component → List Item = λ x. group (o + offset oneHotWidth m x) (groupSize m x) ∷ [] in
-      let v : ℕ → List Item = λ l. excludeAllFailing oneHotWidth m o (stateMember oneHotWidth m o loc l ∷ []) (invariantAt m l) in
+      let v : ℕ → List Item = invariantOf oneHotWidth m o in
       all-app Short (overComponents m (λ x. g x ∷ [])) (each (m .locations) (λ l. v l ∷ [])) .1 (
         all-app₃ Short (g loc ∷ []) (each (m .vars) (λ i. g (counter i) ∷ [])) (each (m .clocks) (λ i. g (clock i) ∷ [])) .1 (
           (short (group-16 _ (m .locations) (ok .locations-le)) (omega arith), tt),
@@ -215,10 +215,10 @@ module _ (m : Model) (ok : WellFormed m) where
   unfolding stepPieces choiceItems
   step-short o =
       all-app₄ Short (choiceItems oneHotWidth m o ∷ []) (each (ceiling m + 1) (λ d. delayItems oneHotWidth m o d ∷ []))
-      (each (m .used) (λ e. edgeItems oneHotWidth m o (ceiling m + 1 + e) (edgeAt m e) ∷ [])) (statePieces m (nextBlock oneHotWidth m o)) .1 (
+      (each (m .used) (λ e. edgeOf oneHotWidth m o e ∷ [])) (statePieces m (nextBlock oneHotWidth m o)) .1 (
         (short (group-64 _ (choices m) (choices-le m ok)) (omega arith), tt),
         shorts (ceiling m + 1) (delayItems oneHotWidth m o) (λ d l. short (delay-most m ok o d) (omega arith)),
-        shorts (m .used) (λ e. edgeItems oneHotWidth m o (ceiling m + 1 + e) (edgeAt m e))
+        shorts (m .used) (edgeOf oneHotWidth m o)
             (λ e l. short (edge-most m ok o (ceiling m + 1 + e) (edgeAt m e) (ok .edge-ok e l)) (omega arith)),
         state-short (nextBlock oneHotWidth m o),
       )
@@ -260,14 +260,14 @@ module _ (m : Model) where
       let g : Component → List Item = λ x. group (o + offset oneHotWidth m x) (groupSize m x) ∷ [] in
       join-app _ _
       (join-app _ _ (join-app _ _ (flat-one (λ p. p) (g loc)) (one-by-one (m .vars) (λ i. g (counter i)))) (one-by-one (m .clocks) (λ i. g (clock i))))
-      (one-by-one (m .locations) (λ l. excludeAllFailing oneHotWidth m o (stateMember oneHotWidth m o loc l ∷ []) (invariantAt m l)))
+      (one-by-one (m .locations) (invariantOf oneHotWidth m o))
 
   step-joined : (o : ℕ) → joined (stepPieces m o) ≡ stepItems oneHotWidth m o
   unfolding stepPieces stepItems delaysItems edgesItems
   step-joined o =
       join-app _ _
       (join-app _ _ (join-app _ _ (flat-one (λ p. p) (choiceItems oneHotWidth m o)) (one-by-one (ceiling m + 1) (delayItems oneHotWidth m o)))
-      (one-by-one (m .used) (λ e. edgeItems oneHotWidth m o (ceiling m + 1 + e) (edgeAt m e))))
+      (one-by-one (m .used) (edgeOf oneHotWidth m o)))
       (state-joined (nextBlock oneHotWidth m o))
 
 -- Of any model, the pieces make up the list.

@@ -4,9 +4,8 @@ use Prim.Native.Nat.{ℕ, _+_}
 use lib.ListN.{length}
 use Rattle.model.specs.declared.Model.{Model}
 use Rattle.model.specs.Indexed.{each}
-use Rattle.model.specs.Record.{invariantAt, edgeAt}
-use Rattle.model.specs.Automaton.{ceiling, loc, groupSize}
-use Rattle.list.specs.Items.{Item, group, overComponents, offset, blockAt, nextBlock, stateMember, excludeAllFailing, initialItems, choiceItems, delayItems, edgeItems, endItems}
+use Rattle.model.specs.Automaton.{ceiling, groupSize}
+use Rattle.list.specs.Items.{Item, group, overComponents, offset, blockAt, nextBlock, initialItems, choiceItems, delayItems, endItems, invariantOf, edgeOf}
 use Rattle.list.specs.Clauses.{oneHotWidth, clausesOf, wordsOf}
 
 -- How many words a piece has.
@@ -18,7 +17,7 @@ module _ (m : Model) where
   unfoldable pub statePieces : ℕ → List (List Item)
   statePieces o =
       overComponents m (λ x. (group (o + offset oneHotWidth m x) (groupSize m x) ∷ []) ∷ [])
-      ++ each (m .locations) (λ l. excludeAllFailing oneHotWidth m o (stateMember oneHotWidth m o loc l ∷ []) (invariantAt m l) ∷ [])
+      ++ each (m .locations) (λ l. invariantOf oneHotWidth m o l ∷ [])
 
   -- Start: state clauses of state 0; the initial values.
   unfoldable pub startPieces : List (List Item)
@@ -29,7 +28,7 @@ module _ (m : Model) where
   stepPieces o =
       (choiceItems oneHotWidth m o ∷ [])
       ++ each (ceiling m + 1) (λ d. delayItems oneHotWidth m o d ∷ [])
-      ++ each (m .used) (λ e. edgeItems oneHotWidth m o (ceiling m + 1 + e) (edgeAt m e) ∷ [])
+      ++ each (m .used) (λ e. edgeOf oneHotWidth m o e ∷ [])
       ++ statePieces (nextBlock oneHotWidth m o)
 
   -- The list for k: start, each step, end.

@@ -17,7 +17,7 @@ use Rattle.model.specs.Indexed.{each}
 use Rattle.model.specs.Record.{counterAt, updateAt, resetAt, edgeAt}
 use Rattle.model.specs.Automaton.{counter, clock, ceiling, inRange, shifted}
 use Rattle.model.proofs.FormLaws.{ceiling-of-sizes}
-use Rattle.list.specs.Items.{offset, stateWidth, nextBlock, choiceMember, sourceItems, targetItems, guardItems, updateItems, updatesItems, resetItems, resetsItems, edgeItems}
+use Rattle.list.specs.Items.{offset, stateWidth, nextBlock, choiceMember, sourceItems, targetItems, guardItems, updateItems, updatesItems, resetItems, resetsItems, edgeItems, edgeOf}
 use Rattle.list.specs.Clauses.{Clause, bare, negated, one, oneHotWidth, clausesOf}
 use Rattle.list.proofs.ListLaws.{each-cong}
 use Rattle.list.proofs.Pieces.{edge-piece, source-piece, target-piece, updates-piece, resets-piece, leads-piece, puts-piece}
@@ -38,7 +38,7 @@ edgeClauses m x o next e =
 
 -- the clauses of edge e
 abbrev pub edgePiece : Model → ℕ → ℕ → List Clause
-edgePiece m o e = clausesOf (edgeItems oneHotWidth m o (ceiling m + 1 + e) (edgeAt m e))
+edgePiece m o e = clausesOf (edgeOf oneHotWidth m o e)
 
 -- edge e under the number of its choice that the code computes
 pub choice-is : (m : Model) (o e : ℕ) (z : Sizes) → KnownSizes m z → edgePiece m o e ≡ clausesOf (edgeItems oneHotWidth m o (z .ceiling + 1 + e) (edgeAt m e))

@@ -21,7 +21,7 @@ use Rattle.model.specs.Automaton.{Component, loc, counter, clock, value, Declar
 use Rattle.model.proofs.FormLaws.{DeclaredAtom, WellFormed}
 use Rattle.model.proofs.StepLaws.{Shaped, state-ext, state-from, invariant-iff}
 use Rattle.list.specs.Lists.{All}
-use Rattle.list.specs.Items.{Member, Item, group, rule, overComponents, offset, stateMember, excludeValues, excludeFailing, excludeAllFailing, groupItems, invariantItems, stateItems}
+use Rattle.list.specs.Items.{Member, Item, group, rule, overComponents, offset, stateMember, excludeValues, excludeFailing, excludeAllFailing, groupItems, invariantOf, invariantItems, stateItems}
 use Rattle.list.proofs.ListLaws.{all-app, all-app₃, all-each}
 use Rattle.list.proofs.Meaning.{Shows, Holds, shows-unique}
 
@@ -114,11 +114,11 @@ module _ (width : ℕ → ℕ) (m : Model) (truth : Member → Bool) where
     state-parts : All (Holds truth) (stateItems width m o)
         ↔ (((x : Component) → Declared m x → All (Holds truth) (group (o + offset width m x)
         (groupSize m x) ∷ [])) × ((l : ℕ) → l < m .locations → All (Holds truth)
-        (excludeAllFailing width m o (stateMember width m o loc l ∷ []) (invariantAt m l))))
+        (invariantOf width m o l)))
     unfolding stateItems groupItems invariantItems
     state-parts =
         let G : Component → List Item = λ x. group (o + offset width m x) (groupSize m x) ∷ [] in
-        let I : ℕ → List Item = λ l. excludeAllFailing width m o (stateMember width m o loc l ∷ []) (invariantAt m l) in
+        let I : ℕ → List Item = invariantOf width m o in
         let a = all-app (Holds truth) (overComponents m G) (each (m .locations) I) in
         let e = all-each (Holds truth) (m .locations) I in
         (λ h. (over-components m (Holds truth) G .0 (a .0 h .0), e .0 (a .0 h .1)), λ h. a .1 (over-components m (Holds truth) G .1 (h .0), e .1 (h .1)))

@@ -10,10 +10,10 @@ use Rattle.model.specs.declared.AtomSlot.{AtomSlot}
 use Rattle.model.specs.declared.Edge.{Edge}
 use Rattle.model.specs.declared.Model.{Model}
 use Rattle.model.specs.Indexed.{each}
-use Rattle.model.specs.Record.{atomAt, updateAt, resetAt, invariantAt, edgeAt}
+use Rattle.model.specs.Record.{atomAt, updateAt, resetAt}
 use Rattle.model.specs.Automaton.{ceiling, choices, Component, loc, counter, clock, groupSize, initialValue, meets, delayedValue}
 use Rattle.list.specs.Lists.{toList}
-use Rattle.list.specs.Items.{Member, Item, group, rule, overComponents, offset, stateWidth, blockAt, nextBlock, stateMember, choiceMember, excludeValues, excludeFailing, excludeAllFailing, groupItems, invariantItems, stateItems, initialItems, startItems, choiceItems, leads, puts, delayItems, delaysItems, sourceItems, targetItems, guardItems, updateItems, updatesItems, resetItems, resetsItems, edgeItems, edgesItems, stepItems, endItems, bodyItems, items}
+use Rattle.list.specs.Items.{Member, Item, group, rule, overComponents, offset, stateWidth, blockAt, nextBlock, stateMember, choiceMember, excludeValues, excludeFailing, excludeAllFailing, groupItems, invariantOf, invariantItems, stateItems, initialItems, startItems, choiceItems, leads, puts, delayItems, delaysItems, sourceItems, targetItems, guardItems, updateItems, updatesItems, resetItems, resetsItems, edgeItems, edgeOf, edgesItems, stepItems, endItems, bodyItems, items}
 use Rattle.list.specs.Clauses.{bare, negated, Clause, one, oneHotWidth, variableOf, groupClauses, expand, clausesOf, clauses}
 use Rattle.list.proofs.ListLaws.{flat-app, flat-none, flat-one, flat-each, each-cong}
 
@@ -100,9 +100,9 @@ module _ (m : Model) where
   groups-piece o = over-one m (λ x. group (o + at x) (groupSize m x))
 
   pub invariants-piece : (o : ℕ) → clausesOf (invariantItems oneHotWidth m o)
-      ≡ each (m .locations) (λ l. clausesOf (excludeAllFailing oneHotWidth m o (stateMember oneHotWidth m o loc l ∷ []) (invariantAt m l)))
+      ≡ each (m .locations) (λ l. clausesOf (invariantOf oneHotWidth m o l))
   unfolding invariantItems
-  invariants-piece o = flat-each expand (m .locations) (λ l. excludeAllFailing oneHotWidth m o (stateMember oneHotWidth m o loc l ∷ []) (invariantAt m l))
+  invariants-piece o = flat-each expand (m .locations) (invariantOf oneHotWidth m o)
 
   pub atoms-piece : (o : ℕ) (ms : List Member) (atoms : List AtomSlot)
       → clausesOf (excludeAllFailing oneHotWidth m o ms atoms) ≡ each 4 (λ k. clausesOf (excludeFailing oneHotWidth m o ms (atomAt atoms k)))
@@ -175,9 +175,9 @@ module _ (m : Model) where
       D x = leads oneHotWidth m o o d x x (λ v. some (delayedValue m d x v))
 
   pub edges-piece : (o : ℕ) → clausesOf (edgesItems oneHotWidth m o)
-      ≡ each (m .used) (λ e. clausesOf (edgeItems oneHotWidth m o (ceiling m + 1 + e) (edgeAt m e)))
+      ≡ each (m .used) (λ e. clausesOf (edgeOf oneHotWidth m o e))
   unfolding edgesItems
-  edges-piece o = flat-each expand (m .used) (λ e. edgeItems oneHotWidth m o (ceiling m + 1 + e) (edgeAt m e))
+  edges-piece o = flat-each expand (m .used) (edgeOf oneHotWidth m o)
 
   -- ---- an edge e, which is choice c
   module _ (o c : ℕ) (e : Edge) where

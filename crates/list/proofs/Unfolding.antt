@@ -19,7 +19,7 @@ use Rattle.model.proofs.FormLaws.{WellFormed}
 use Rattle.model.proofs.StepLaws.{state-ext, shaped-initial, initial-is, initial-lt, step-delay, step-edge, step-invariant, delay-or-edge}
 use Rattle.model.proofs.RunLaws.{walk-nil, walk-cons}
 use Rattle.list.specs.Lists.{All}
-use Rattle.list.specs.Items.{Member, Item, group, rule, overComponents, stateMember, nextBlock, stateWidth, choiceWidth, blockAt, stateItems, initialItems, startItems, choiceItems, delayItems, delaysItems, edgeItems, edgesItems, stepItems, endItems, bodyItems, items}
+use Rattle.list.specs.Items.{Member, Item, group, rule, overComponents, stateMember, nextBlock, stateWidth, choiceWidth, blockAt, stateItems, initialItems, startItems, choiceItems, delayItems, delaysItems, edgeOf, edgesItems, stepItems, endItems, bodyItems, items}
 use Rattle.list.proofs.ListLaws.{all-app, all-app₄, all-each}
 use Rattle.list.proofs.Meaning.{Shows, Holds, shows-true}
 use Rattle.list.proofs.Blocks.{ShowsState, over-components, state-of, state-to}
@@ -36,7 +36,7 @@ module _ (width : ℕ → ℕ) (m : Model) (truth : Member → Bool) (ok : WellF
   record StepAsks (o : ℕ) : Type 0 where
     choice : Holds truth (group (o + stateWidth width m) (choices m))
     delays : (d : ℕ) → d < ceiling m + 1 → All (Holds truth) (delayItems width m o d)
-    edges : (e : ℕ) → e < m .used → All (Holds truth) (edgeItems width m o (ceiling m + 1 + e) (edgeAt m e))
+    edges : (e : ℕ) → e < m .used → All (Holds truth) (edgeOf width m o e)
     after : All (Holds truth) (stateItems width m (nextBlock width m o))
 
   step-parts : (o : ℕ) → All (Holds truth) (stepItems width m o) ↔ StepAsks o
@@ -44,7 +44,7 @@ module _ (width : ℕ → ℕ) (m : Model) (truth : Member → Bool) (ok : WellF
   step-parts o =
       let a = all-app₄ (Holds truth) (choiceItems width m o) (delaysItems width m o) (edgesItems width m o) (stateItems width m (nextBlock width m o)) in
       let d = all-each (Holds truth) (ceiling m + 1) (delayItems width m o) in
-      let e = all-each (Holds truth) (m .used) (λ e. edgeItems width m o (ceiling m + 1 + e) (edgeAt m e)) in (
+      let e = all-each (Holds truth) (m .used) (edgeOf width m o) in (
         (λ h. let g = a .0 h in record { choice = g .0 .0; delays = d .0 (g .1); edges = e .0 (g .2); after = g .3 }),
         λ h. a .1 ((h .choice, tt), d .1 (h .delays), e .1 (h .edges), h .after),
       )

@@ -94,9 +94,13 @@ module _ (width : ℕ → ℕ) (m : Model) where
   unfoldable pub groupItems : ℕ → List Item
   groupItems o = overComponents m (λ x. group (o + offset x) (groupSize m x) ∷ [])
 
-  -- State clauses, second part: for each location, each invariant atom in order, each clock value failing it: not location, not that value.
+  -- Location l: each invariant atom in order, each clock value failing it: not location, not that value.
+  abbrev pub invariantOf : ℕ → ℕ → List Item
+  invariantOf o l = excludeAllFailing o (stateMember o loc l ∷ []) (invariantAt m l)
+
+  -- State clauses, second part: the invariant of each location.
   unfoldable pub invariantItems : ℕ → List Item
-  invariantItems o = each (m .locations) (λ l. excludeAllFailing o (stateMember o loc l ∷ []) (invariantAt m l))
+  invariantItems o = each (m .locations) (invariantOf o)
 
   -- State clauses of the state block at `o`.
   unfoldable pub stateItems : ℕ → List Item
@@ -170,9 +174,13 @@ module _ (width : ℕ → ℕ) (m : Model) where
   unfoldable pub edgeItems : ℕ → ℕ → Edge → List Item
   edgeItems o c e = sourceItems o c e ++ targetItems o c e ++ guardItems o c e ++ updatesItems o c e ++ resetsItems o c e
 
-  -- Each edge; edge e is choice M + 1 + e.
+  -- Edge e, which is choice M + 1 + e.
+  abbrev pub edgeOf : ℕ → ℕ → List Item
+  edgeOf o e = edgeItems o (ceiling m + 1 + e) (edgeAt m e)
+
+  -- Each edge.
   unfoldable pub edgesItems : ℕ → List Item
-  edgesItems o = each (m .used) (λ e. edgeItems o (ceiling m + 1 + e) (edgeAt m e))
+  edgesItems o = each (m .used) (edgeOf o)
 
   -- Step t: group clauses of the choice; each delay; each edge; last, state clauses of state t.
   unfoldable pub stepItems : ℕ → List Item

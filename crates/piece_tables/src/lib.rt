@@ -6,12 +6,14 @@ ghost use mathlib.Core.Path.{_≡_};
 ghost use lib.Dec.{T};
 ghost use Rattle.model.specs.Automaton.{ceiling};
 ghost use Rattle.model.specs.Form.{wellFormed};
-ghost use Rattle.piece_tables.specs.Tables.{Table, invariantOf, edgeOf};
+ghost use Rattle.list.specs.Items.{invariantOf, edgeOf};
+ghost use Rattle.list.specs.Clauses.{oneHotWidth};
+ghost use Rattle.piece_tables.specs.Tables.{Table};
 
 // The clauses of each location's invariant in one state.
 pub fn invariant_table(m: Model, top: usize) -> [usize; 16]
     requires { ⌜ T (wellFormed m) × (ceiling m ≡ top) ⌝ }
-    ensures { λ r. ⌜ Table (invariantOf m) (m .locations) 16 1024 r ⌝ }
+    ensures { λ r. ⌜ Table (invariantOf oneHotWidth m) (m .locations) 16 1024 r ⌝ }
 {
     let counters = m.counters;
     let mut table = [0usize; 16];
@@ -27,7 +29,7 @@ pub fn invariant_table(m: Model, top: usize) -> [usize; 16]
 // The clauses of each edge in one step.
 pub fn edge_table(m: Model, top: usize) -> [usize; 32]
     requires { ⌜ T (wellFormed m) × (ceiling m ≡ top) ⌝ }
-    ensures { λ r. ⌜ Table (edgeOf m) (m .used) 32 3074 r ⌝ }
+    ensures { λ r. ⌜ Table (edgeOf oneHotWidth m) (m .used) 32 3074 r ⌝ }
 {
     let counters = m.counters;
     let vars = m.vars;

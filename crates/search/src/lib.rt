@@ -17,9 +17,10 @@ ghost use lib.ListN.{length};
 ghost use Rattle.model.specs.Indexed.{each};
 ghost use Rattle.model.specs.Automaton.{variables};
 ghost use Rattle.model.specs.Form.{wellFormed};
-ghost use Rattle.list.specs.Clauses.{clauses};
+ghost use Rattle.list.specs.Items.{invariantOf, edgeOf};
+ghost use Rattle.list.specs.Clauses.{oneHotWidth, clauses};
 ghost use Rattle.list.specs.Assignments.{firstFalse};
-ghost use Rattle.piece_tables.specs.Tables.{Table, invariantOf, edgeOf};
+ghost use Rattle.piece_tables.specs.Tables.{Table};
 ghost use Rattle.truth.specs.Scanning.{Checked};
 ghost use Rattle.checks.specs.Pieces.{Known, stepClauses};
 ghost use Rattle.search.specs.Answer.{found};
@@ -41,7 +42,7 @@ fn check_steps(
     a: &[u8],
     at: usize,
 ) -> Scan
-    requires { ⌜ Known m b × Table (invariantOf m) (m .locations) 16 1024 invariants × Table (edgeOf m) (m .used) 32 3074 table × (bound ≤ 64) × (length (now a) ≡ variables m bound) × (at ≤ 100000) ⌝ }
+    requires { ⌜ Known m b × Table (invariantOf oneHotWidth m) (m .locations) 16 1024 invariants × Table (edgeOf oneHotWidth m) (m .used) 32 3074 table × (bound ≤ 64) × (length (now a) ≡ variables m bound) × (at ≤ 100000) ⌝ }
     ensures { λ r. ⌜ Checked (now (a .entry)) (each bound (stepClauses m)) at 12800000 r ⌝ }
 {
     let used = m.used as usize;

@@ -18,7 +18,7 @@ use Rattle.list.proofs.Pieces.{groups-piece, atoms-piece, values-piece}
 use Rattle.numbering.specs.declared.Group.{Group}
 use Rattle.numbering.specs.Groups.{GroupOf}
 use Rattle.rules.specs.Rules.{excluded}
-use Rattle.state_pieces.specs.StateClauses.{componentGroup, counterGroup, clockGroup, atomClauses, slotClauses, invariantOf}
+use Rattle.state_pieces.specs.StateClauses.{componentGroup, counterGroup, clockGroup, atomClauses, slotClauses, invariantClauses}
 
 module _ (m : Model) (o : ℕ) where
   -- a group that the code answers
@@ -43,7 +43,7 @@ module _ (m : Model) (o : ℕ) where
       each-cong 4 (λ k. clausesOf (excludeFailing oneHotWidth m o (y ∷ []) (atomAt atoms k))) (slotClauses m o (variableOf y) atoms)
       (λ k p. atom-is y (atomAt atoms k))
 
-  pub invariant-is : (l : ℕ) → invariantOf m o l ≡ each 4 (slotClauses m o (o + l) (invariantAt m l))
+  pub invariant-is : (l : ℕ) → invariantClauses m o l ≡ each 4 (slotClauses m o (o + l) (invariantAt m l))
   invariant-is l =
       let e : o + 0 + l ≡ o + l = omega arith in
       atoms-are (stateMember oneHotWidth m o loc l) (invariantAt m l) ∙ ap (λ (x : ℕ). each 4 (slotClauses m o x (invariantAt m l))) e

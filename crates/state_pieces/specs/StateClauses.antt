@@ -6,9 +6,9 @@ use Rattle.model.specs.declared.Atom.the-variants.{Blank, OnClock, OnCounter}
 use Rattle.model.specs.declared.AtomSlot.{AtomSlot}
 use Rattle.model.specs.declared.Model.{Model}
 use Rattle.model.specs.Indexed.{each}
-use Rattle.model.specs.Record.{atomAt, invariantAt}
-use Rattle.model.specs.Automaton.{Component, loc, counter, clock, groupSize}
-use Rattle.list.specs.Items.{offset, stateMember, excludeAllFailing}
+use Rattle.model.specs.Record.{atomAt}
+use Rattle.model.specs.Automaton.{Component, counter, clock, groupSize}
+use Rattle.list.specs.Items.{offset, invariantOf}
 use Rattle.list.specs.Clauses.{Clause, oneHotWidth, groupClauses, clausesOf}
 use Rattle.rules.specs.Rules.{excluded}
 
@@ -33,5 +33,5 @@ abbrev pub slotClauses : Model → ℕ → ℕ → List AtomSlot → ℕ → Lis
 slotClauses m o x atoms k = atomClauses m o x (atomAt atoms k)
 
 -- The invariant of location l.
-abbrev pub invariantOf : Model → ℕ → ℕ → List Clause
-invariantOf m o l = clausesOf (excludeAllFailing oneHotWidth m o (stateMember oneHotWidth m o loc l ∷ []) (invariantAt m l))
+abbrev pub invariantClauses : Model → ℕ → ℕ → List Clause
+invariantClauses m o l = clausesOf (invariantOf oneHotWidth m o l)

@@ -2,16 +2,18 @@ use Prim.Native.Nat.{_≤_, _-_, _*_, _+_, ℕ}
 use mathlib.Core.Path.{_≡_, refl}
 use Rattle.model.specs.Automaton.{ceiling}
 use Rattle.model.proofs.FormLaws.{formed}
+use Rattle.list.specs.Items.{edgeOf}
+use Rattle.list.specs.Clauses.{oneHotWidth}
 use Rattle.piece_counts.specs.Sized.{Sized}
 use Rattle.piece_tables.proofs.TableLaws.{table-none, table-more}
-use Rattle.piece_tables.specs.Tables.{Table, edgeOf}
+use Rattle.piece_tables.specs.Tables.{Table}
 use borrow.Author.Needs.{needs}
 use native.Mathlib.Omega.{arith}
 use Rattle.piece_tables.proofs.edge_table.Statement.{statement}
 use Rattle.piece_tables.proofs.edge_table.Tie as tie
 
 abbrev Inv-loop : tie.InvT-loop
-Inv-loop top m counters vars clocks table₀ i₀ i-end table i = (i ≤ i-end) × (i-end ≡ m .used) × Table (edgeOf m) i 32 3074 table
+Inv-loop top m counters vars clocks table₀ i₀ i-end table i = (i ≤ i-end) × (i-end ≡ m .used) × Table (edgeOf oneHotWidth m) i 32 3074 table
 
 abbrev μ-loop : tie.MeasureT-loop
 μ-loop top m counters vars clocks table₀ i₀ i-end table i = i-end - i

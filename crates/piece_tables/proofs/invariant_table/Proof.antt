@@ -3,16 +3,16 @@ use mathlib.Core.Path.{_≡_, refl}
 use Rattle.model.specs.Automaton.{loc}
 use Rattle.model.proofs.FormLaws.{formed}
 use Rattle.list.specs.Clauses.{oneHotWidth}
-use Rattle.list.specs.Items.{stateMember}
+use Rattle.list.specs.Items.{stateMember, invariantOf}
 use Rattle.piece_tables.proofs.TableLaws.{table-none, table-more}
-use Rattle.piece_tables.specs.Tables.{Table, invariantOf}
+use Rattle.piece_tables.specs.Tables.{Table}
 use borrow.Author.Needs.{needs}
 use native.Mathlib.Omega.{arith}
 use Rattle.piece_tables.proofs.invariant_table.Statement.{statement}
 use Rattle.piece_tables.proofs.invariant_table.Tie as tie
 
 abbrev Inv-loop : tie.InvT-loop
-Inv-loop top m counters table₀ l₀ l-end table l = (l ≤ l-end) × (l-end ≡ m .locations) × Table (invariantOf m) l 16 1024 table
+Inv-loop top m counters table₀ l₀ l-end table l = (l ≤ l-end) × (l-end ≡ m .locations) × Table (invariantOf oneHotWidth m) l 16 1024 table
 
 abbrev μ-loop : tie.MeasureT-loop
 μ-loop top m counters table₀ l₀ l-end table l = l-end - l

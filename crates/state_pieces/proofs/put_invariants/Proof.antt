@@ -1,7 +1,7 @@
 use native.Mathlib.Omega.{arith}
 use borrow.Author.Needs.{needs}
 use Rattle.state_pieces.proofs.StateLaws.{invariant-is}
-use Rattle.state_pieces.specs.StateClauses.{invariantOf}
+use Rattle.state_pieces.specs.StateClauses.{invariantClauses}
 use Rattle.words.proofs.Kit.{wrote-each, wrote-each-none, room-each, wrote-as, room-as}
 use Rattle.words.specs.Written.{Wrote}
 use Rattle.list.proofs.Pieces.{invariants-piece}
@@ -13,7 +13,7 @@ use Rattle.state_pieces.proofs.put_invariants.Statement.{statement}
 use Rattle.state_pieces.proofs.put_invariants.Tie as tie
 
 abbrev Inv-loop : tie.InvT-loop
-Inv-loop z o out₀ at m end₀ l₀ l-end out end l = (l ≤ l-end) × Wrote (each l (invariantOf m o)) out₀ out end₀ end
+Inv-loop z o out₀ at m end₀ l₀ l-end out end l = (l ≤ l-end) × Wrote (each l (invariantClauses m o)) out₀ out end₀ end
 
 abbrev μ-loop : tie.MeasureT-loop
 μ-loop z o out₀ at m end₀ l₀ l-end out end l = l-end - l
