@@ -23,6 +23,7 @@ use Rattle.truth.specs.declared.Rule.the-variants.{Keep, Rise}
 use Rattle.truth.specs.Parts.{partClauses, Fits}
 use Rattle.truth.proofs.Skips.{AllTrue, all-each, part-true, keep-length, rise-length}
 use Rattle.piece_tables.specs.Tables.{Table}
+use Rattle.piece_tables.proofs.TableLaws.{clauses-are}
 use Rattle.parts.specs.declared.Blocks.{Blocks}
 use Rattle.parts.specs.StateBlock.{componentAt, blocksOf, firstAt, sizeAt, Bounded}
 use Rattle.parts.specs.PartsOf.{atomPart, leadsPart, delayPart, edgePart}
@@ -147,7 +148,7 @@ module _ {m : Model} {b : Blocks} (k : Known m b) where
       all-each a (atomPiece b o (o + l) (invariantAt m l)) 4 (λ j. part-true a (o + l) h (atomPart b o (atomAt (invariantAt m l) j)))
 
   pub location-clauses : {table : List ℕ} (o l : ℕ) → l < m .locations → Table (invariantOf oneHotWidth m) (m .locations) 16 1024 table → getD table l 0 ≡ length (locationPiece m b o l)
-  location-clauses o l p t = t .clauses-are l p o ∙ ap length (sym (location-piece-of o l p))
+  location-clauses o l p t = clauses-are t (wf .locations-le) l p o ∙ ap length (sym (location-piece-of o l p))
 
   pub invariant-fits : (o n l : ℕ) → o + stateSize m ≤ n → l < m .locations → (j : ℕ) → j < 4 → Fits (atomPart b o (atomAt (invariantAt m l) j)) n
   invariant-fits o n l h p j q =
@@ -218,4 +219,4 @@ module _ {m : Model} {b : Blocks} (k : Known m b) where
 
   pub edge-clauses : {table : List ℕ} (o e : ℕ) → e < m .used → Table (edgeOf oneHotWidth m) (m .used) 32 3074 table → getD table e 0 ≡ length (edgeClauses m o e)
   unfolding edgeClauses
-  edge-clauses o e l t = t .clauses-are e l o
+  edge-clauses o e l t = clauses-are t (wf .used-le) e l o

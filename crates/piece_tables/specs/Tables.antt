@@ -1,13 +1,19 @@
 -- A table of how many clauses pieces of the list have, whichever state block they stand at.
 use mathlib.Core.Path.{_≡_}
+use mathlib.Core.Bool.{cond}
 use mathlib.Core.List.{List}
 use Prim.Native.Nat.{ℕ, _≤_, _<_}
+use lib.Dec.{ltb}
 use lib.ListN.{length, getD}
+use Rattle.model.specs.Indexed.{listBelow}
 use Rattle.list.specs.Items.{Item}
 use Rattle.list.specs.Clauses.{clausesOf}
 
--- Of `slots` numbers the first n are the clauses of pieces 0, 1, .., each `most` at most.
+-- Slot i of a table of n pieces: the number of piece i's clauses; from n on 0.
+abbrev pub slotOf : (ℕ → List Item) → ℕ → ℕ → ℕ
+slotOf piece n i = cond (ltb i n) (length (clausesOf (piece i))) 0
+
+-- All slots, whichever state block `o` the pieces stand at; each piece has `most` clauses at most.
 pub record Table (piece : ℕ → ℕ → List Item) (n slots most : ℕ) (table : List ℕ) : Type 0 where
-  pub slots-are : length table ≡ slots
-  pub clauses-are : (i : ℕ) → i < n → (o : ℕ) → getD table i 0 ≡ length (clausesOf (piece o i))
+  pub table-is : (o : ℕ) → table ≡ listBelow (slotOf (piece o) n) slots
   pub few : (i : ℕ) → i < n → getD table i 0 ≤ most

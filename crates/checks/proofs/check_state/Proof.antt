@@ -8,6 +8,7 @@ use Rattle.model.specs.Indexed.{each}
 use Rattle.truth.proofs.Scans.{Passed, passed-then, passed-each, passed-each-none, failed-then, failed-each, passed-scan, failed-scan, checked-passed, checked-failed, checked-as, passed-as, failed-as}
 use Rattle.truth.proofs.Skips.{passed-over}
 use Rattle.list.proofs.Pieces.{state-piece}
+use Rattle.piece_tables.proofs.TableLaws.{slots-are}
 use Rattle.checks.specs.Pieces.{locationPiece}
 use Rattle.checks.proofs.KnownLaws.{wf, block-in, groups-piece-of, known-bounded, known-locations, invariant-fits, invariants-piece-of, location-true, location-clauses}
 use Rattle.checks.proofs.Sequel.{checked-stop}
@@ -51,7 +52,7 @@ mul-count c = omega (arith, wf (c .before .before .before .before .before .befor
 
 -- src/lib.rt:94:22
 array-read-count : tie.Need-array-read-count Inv-loop μ-loop
-array-read-count c = omega (arith, wf (c .before .before .before .before .before .before .before .before .pre .0) .locations-le, c .before .before .before .before .before .before .before .before .pre .1 .slots-are)
+array-read-count c = omega (arith, wf (c .before .before .before .before .before .before .before .before .pre .0) .locations-le, slots-are (c .before .before .before .before .before .before .before .before .pre .1))
 
 -- src/lib.rt:94:13
 add-count : tie.Need-add-count Inv-loop μ-loop

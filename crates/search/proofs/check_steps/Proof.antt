@@ -11,6 +11,7 @@ use Rattle.list.specs.Clauses.{oneHotWidth}
 use Rattle.truth.specs.declared.Part.{Part}
 use Rattle.truth.specs.Parts.{valueClauses, Fits}
 use Rattle.truth.proofs.Scans.{Passed, passed-each, passed-each-none, passed-scan, failed-scan, checked-passed, checked-failed}
+use Rattle.piece_tables.proofs.TableLaws.{slots-are}
 use Rattle.checks.specs.Pieces.{edgePiece, edgeClauses, stepClauses}
 use Rattle.checks.proofs.KnownLaws.{wf, known-bounded, known-state, known-choices, known-top, step-in, edge-fits-of}
 use Rattle.search.proofs.StepPieces.{block-next, step-lies, step-small, front-failed, value-failed, state-failed, step-passed, edge-passed, part-passed, edge-skipped}
@@ -152,7 +153,7 @@ array-read-count :
     μ-edges
     Inv-steps
     μ-steps
-array-read-count c = omega (arith, wf (c .before .before .before .before .before .before .before .before .before .before .before .before .before .before .pre .0) .used-le, c .before .before .before .before .before .before .before .before .before .before .before .before .before .before .pre .2 .slots-are)
+array-read-count c = omega (arith, wf (c .before .before .before .before .before .before .before .before .before .before .before .before .before .before .pre .0) .used-le, slots-are (c .before .before .before .before .before .before .before .before .before .before .before .before .before .before .pre .2))
 
 -- src/lib.rt:64:17
 add-count :
