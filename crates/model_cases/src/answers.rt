@@ -1,21 +1,13 @@
 // The questions: each writes one line, the numbers of the answer.
+use crate::print::end;
+use crate::print::first;
+use crate::print::four_numbers;
+use crate::print::more;
+use crate::print::two_numbers;
 use model::Model;
 use model::State;
 use totals::CeilingAnswer;
 use totals::TotalsAnswer;
-
-fn first(n: u64) {
-    io::print_decimal(1, n);
-}
-
-fn more(n: u64) {
-    io::write_all(1, b" ");
-    io::print_decimal(1, n);
-}
-
-fn end() {
-    io::write_all(1, b"\n");
-}
 
 pub(crate) fn unknown() {
     io::write_all(1, b"no such question\n");
@@ -30,26 +22,12 @@ pub(crate) fn formed(m: Model) {
     end();
 }
 
-fn two_numbers(n: u64, c: usize) {
-    first(n);
-    more(c as u64);
-    end();
-}
-
 // 11: number, M.
 pub(crate) fn ceiling(m: Model) {
     match totals::ceiling_of(m) {
         CeilingAnswer::NotWellFormed => two_numbers(20, 0),
         CeilingAnswer::Ceiling(c) => two_numbers(0, c),
     }
-}
-
-fn four_numbers(n: u64, s: usize, h: usize, v: usize) {
-    first(n);
-    more(s as u64);
-    more(h as u64);
-    more(v as u64);
-    end();
 }
 
 // 12 bound: number, S, H, N.
@@ -69,9 +47,7 @@ pub(crate) fn totals_for(m: Model, bound: u8) {
 pub(crate) fn walked(m: Model, values: [u8; 80], last_index: usize) {
     if last_index < 80 {
         let v = walk::walk(m, &values[1..last_index + 1]);
-        first(v.number() as u64);
-        more(v.place() as u64);
-        end();
+        two_numbers(v.number() as u64, v.place() as usize);
     }
 }
 

@@ -1,28 +1,11 @@
 // Questions about the clause list: totals, emission, and both conversions.
+use crate::print::end;
+use crate::print::four_numbers;
+use crate::print::more;
+use crate::print::two_numbers;
 use counts::CountsAnswer;
 use emission::Emission;
 use model::Model;
-
-fn first(n: u64) {
-    io::print_decimal(1, n);
-}
-
-fn more(n: u64) {
-    io::write_all(1, b" ");
-    io::print_decimal(1, n);
-}
-
-fn end() {
-    io::write_all(1, b"\n");
-}
-
-fn four_numbers(n: u64, v: usize, c: usize, w: usize) {
-    first(n);
-    more(v as u64);
-    more(c as u64);
-    more(w as u64);
-    end();
-}
 
 // 15 bound: number, variables, clauses, words.
 pub(crate) fn counted(m: Model, bound: u8) {
@@ -113,9 +96,7 @@ pub(crate) fn encoded(m: Model, values: [u8; 80], last_index: usize) {
     let mut buf = [255u8; 4096];
     if last_index < 80 {
         let e = encode::run_to_assignment(m, &values[1..last_index + 1], &mut buf);
-        first(e.number() as u64);
-        more(e.place() as u64);
-        end();
+        two_numbers(e.number() as u64, e.place() as usize);
         show_bytes(&buf);
     }
 }
@@ -132,9 +113,7 @@ pub(crate) fn decoded(m: Model, values: [u8; 80], last_index: usize) {
                 &values[2..last_index + 1],
                 &mut buf,
             );
-            first(d.number() as u64);
-            more(d.place() as u64);
-            end();
+            two_numbers(d.number() as u64, d.place());
             show_bytes(&buf);
         }
     }

@@ -6,6 +6,7 @@ use numbers::Numbers;
 mod answers;
 mod calls;
 mod numbers;
+mod print;
 mod records;
 
 fn command(m: Model, n: Numbers) -> Model {

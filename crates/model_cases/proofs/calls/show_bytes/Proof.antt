@@ -5,10 +5,6 @@ use native.Mathlib.Omega.{arith}
 use Prim.Native.Nat.{_≤_, _-_}
 use Rattle.model_cases.proofs.calls.show_bytes.Statement.{statement}
 use Rattle.model_cases.proofs.calls.show_bytes.Tie as tie
-use Rattle.model_cases.proofs.calls.show_bytes.Reads as reads
-use Rattle.model_cases.proofs.calls.show_bytes.Lts as lts
-use Rattle.model_cases.proofs.calls.end.Reads as end-reads
-use Rattle.model_cases.proofs.calls.show_byte.Reads as show-byte-reads
 
 abbrev Inv-loop : tie.InvT-loop
 Inv-loop buf i₀ i-end i = (i ≤ i-end) × (i-end ≡ length buf)
@@ -16,43 +12,33 @@ Inv-loop buf i₀ i-end i = (i ≤ i-end) × (i-end ≡ length buf)
 abbrev μ-loop : tie.MeasureT-loop
 μ-loop buf i₀ i-end i = i-end - i
 
--- src/calls.rt:100:5
 loop-holds : tie.Need-loop-holds Inv-loop μ-loop
 loop-holds c = search needs
 
--- src/calls.rt:101:17
 shared-slice-read-b : tie.Need-shared-slice-read-b Inv-loop μ-loop
 shared-slice-read-b c = search needs
 
--- src/calls.rt:103:13
 end-requires : tie.Need-end-requires Inv-loop μ-loop
 end-requires c κs = search needs
 
--- src/calls.rt:104:13
 returns : tie.Need-returns Inv-loop μ-loop
 returns c = search needs
 
--- src/calls.rt:106:9
 show-byte-requires : tie.Need-show-byte-requires Inv-loop μ-loop
 show-byte-requires c κs = search needs
 
--- src/calls.rt:100:9
 add-i : tie.Need-add-i Inv-loop μ-loop
 add-i c = search needs
 
--- src/calls.rt:100:5
 loop-less : tie.Need-loop-less Inv-loop μ-loop
 loop-less c = search needs
 
--- src/calls.rt:100:5
 loop-again : tie.Need-loop-again Inv-loop μ-loop
 loop-again c = search needs
 
--- src/calls.rt:108:5
 end-requires-2 : tie.Need-end-requires-2 Inv-loop μ-loop
 end-requires-2 c κs = search needs
 
--- src/calls.rt:99:1
 returns-2 : tie.Need-returns-2 Inv-loop μ-loop
 returns-2 c = search needs
 

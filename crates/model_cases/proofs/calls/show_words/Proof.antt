@@ -5,10 +5,6 @@ use native.Mathlib.Omega.{arith}
 use Prim.Native.Nat.{_≤_, _-_}
 use Rattle.model_cases.proofs.calls.show_words.Statement.{statement}
 use Rattle.model_cases.proofs.calls.show_words.Tie as tie
-use Rattle.model_cases.proofs.calls.show_words.Reads as reads
-use Rattle.model_cases.proofs.calls.show_words.Lts as lts
-use Rattle.model_cases.proofs.calls.end.Reads as end-reads
-use Rattle.model_cases.proofs.calls.show_word.Reads as show-word-reads
 
 abbrev Inv-loop : tie.InvT-loop
 Inv-loop buf i₀ i-end i = (i ≤ i-end) × (i-end ≡ length buf)
@@ -16,47 +12,36 @@ Inv-loop buf i₀ i-end i = (i ≤ i-end) × (i-end ≡ length buf)
 abbrev μ-loop : tie.MeasureT-loop
 μ-loop buf i₀ i-end i = i-end - i
 
--- src/calls.rt:61:5
 loop-holds : tie.Need-loop-holds Inv-loop μ-loop
 loop-holds c = search needs
 
--- src/calls.rt:62:17
 mul-w : tie.Need-mul-w Inv-loop μ-loop
 mul-w c = search needs
 
--- src/calls.rt:62:17
 shared-slice-copy-out-w : tie.Need-shared-slice-copy-out-w Inv-loop μ-loop
 shared-slice-copy-out-w c = search needs
 
--- src/calls.rt:64:13
 end-requires : tie.Need-end-requires Inv-loop μ-loop
 end-requires c κs = search needs
 
--- src/calls.rt:65:13
 returns : tie.Need-returns Inv-loop μ-loop
 returns c = search needs
 
--- src/calls.rt:67:9
 show-word-requires : tie.Need-show-word-requires Inv-loop μ-loop
 show-word-requires c κs = search needs
 
--- src/calls.rt:61:9
 add-i : tie.Need-add-i Inv-loop μ-loop
 add-i c = search needs
 
--- src/calls.rt:61:5
 loop-less : tie.Need-loop-less Inv-loop μ-loop
 loop-less c = search needs
 
--- src/calls.rt:61:5
 loop-again : tie.Need-loop-again Inv-loop μ-loop
 loop-again c = search needs
 
--- src/calls.rt:69:5
 end-requires-2 : tie.Need-end-requires-2 Inv-loop μ-loop
 end-requires-2 c κs = search needs
 
--- src/calls.rt:60:1
 returns-2 : tie.Need-returns-2 Inv-loop μ-loop
 returns-2 c = search needs
 
