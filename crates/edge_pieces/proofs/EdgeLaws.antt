@@ -23,6 +23,7 @@ use Rattle.list.proofs.ListLaws.{each-cong}
 use Rattle.list.proofs.Pieces.{edge-piece, source-piece, target-piece, updates-piece, resets-piece, leads-piece, puts-piece}
 use Rattle.numbering.specs.declared.Group.{Group}
 use Rattle.numbering.specs.Groups.{GroupOf}
+use Rattle.numbering.specs.Layouts.{layoutOf}
 use Rattle.numbering.specs.declared.Blocks.{Blocks}
 use Rattle.numbering.specs.StepBlocks.{BlocksOf}
 use Rattle.rules.specs.Rules.{led, putting}
@@ -33,7 +34,7 @@ use Rattle.edge_pieces.specs.EdgeClauses.{updateClauses, updateSlot, res
 -- ---- an edge, part by part
 abbrev pub edgeClauses : Model → ℕ → ℕ → ℕ → Edge → List Clause
 edgeClauses m x o next e =
-    one (negated x ∷ bare (o + e .source) ∷ []) ++ one (negated x ∷ bare (next + e .target) ∷ []) ++ each 4 (slotClauses m o x (e .guard)) ++ each
+    one (negated x ∷ bare (o + e .source) ∷ []) ++ one (negated x ∷ bare (next + e .target) ∷ []) ++ each 4 (slotClauses (layoutOf m) o x (e .guard)) ++ each
     (m .vars) (updateSlot m x o next e) ++ each (m .clocks) (resetSlot m x o next e)
 
 -- the clauses of edge e
@@ -70,7 +71,7 @@ module _ (m : Model) (o c : ℕ) where
     target-is : clausesOf (targetItems oneHotWidth m o c e) ≡ one (negated X ∷ bare (N + e .target) ∷ [])
     target-is = target-piece m o c e ∙ implication-is X (N + 0 + e .target) (N + e .target) (omega arith)
 
-    guard-is : clausesOf (guardItems oneHotWidth m o c e) ≡ each 4 (slotClauses m o X (e .guard))
+    guard-is : clausesOf (guardItems oneHotWidth m o c e) ≡ each 4 (slotClauses (layoutOf m) o X (e .guard))
     unfolding guardItems
     guard-is = atoms-are m o (choiceMember oneHotWidth m o c) (e .guard)
 

@@ -11,6 +11,7 @@ use new_values::in_range;
 use numbering::Blocks;
 use numbering::clock_group;
 use numbering::counter_group;
+use numbering::layout_of;
 use rules::put_new_value;
 use rules::put_shifted;
 use state_pieces::put_atoms;
@@ -184,7 +185,8 @@ fn put_edge(m: Model, z: Sizes, b: Blocks, c: usize, e: Edge, out: &mut [i32], a
     let target = put_implication(x, o + e.source as usize, out, at);
     let guarded = put_implication(x, next + e.target as usize, out, target);
     let guard = e.guard;
-    let counters = put_atoms(m, z, o, x, guard, out, guarded);
+    let w = layout_of(m, z);
+    let counters = put_atoms(w, o, x, guard, out, guarded);
     let clocks = put_updates(m, x, o, next, e, out, counters);
     put_resets(m, z, x, o, next, e, out, clocks)
 }
@@ -195,9 +197,10 @@ pub fn put_edges(m: Model, z: Sizes, b: Blocks, out: &mut [i32], at: usize) -> u
     ensures { λ r. ⌜ Wrote (clausesOf (edgesItems oneHotWidth m (b .state))) (now (out .entry)) (now (out .exit)) at r ⌝ }
 {
     let first = z.ceiling + 1;
+    let edges = m.edges;
     let mut end = at;
     for e in 0..m.used as usize {
-        let edge = m.edges[e];
+        let edge = edges[e];
         end = put_edge(m, z, b, first + e, edge, out, end);
     }
     end

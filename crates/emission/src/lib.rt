@@ -6,6 +6,7 @@ use edge_pieces::put_edges;
 use form::well_formed;
 use model::Model;
 use model::Sizes;
+use numbering::layout_of;
 use numbering::step_blocks;
 use numbering::variable_number;
 use start_pieces::put_initial;
@@ -42,7 +43,9 @@ fn put_start(m: Model, z: Sizes, out: &mut [i32]) -> usize
     requires { ⌜ T (wellFormed m) × KnownSizes m z × Room (clausesOf (startItems oneHotWidth m)) (now out) 0 ⌝ }
     ensures { λ r. ⌜ Wrote (clausesOf (startItems oneHotWidth m)) (now (out .entry)) (now (out .exit)) 0 r ⌝ }
 {
-    let mid = put_state(m, z, 0, out, 0);
+    let w = layout_of(m, z);
+    let invariants = m.invariants;
+    let mid = put_state(w, invariants, 0, out, 0);
     put_initial(m, z, out, mid)
 }
 
@@ -55,7 +58,9 @@ fn put_step(m: Model, z: Sizes, t: usize, out: &mut [i32]) -> usize
     let delays = put_choice(m, z, b, out, 0);
     let edges = put_delays(m, z, b, out, delays);
     let state = put_edges(m, z, b, out, edges);
-    put_state(m, z, b.next, out, state)
+    let w = layout_of(m, z);
+    let invariants = m.invariants;
+    put_state(w, invariants, b.next, out, state)
 }
 
 // End: the target location in state `k`.

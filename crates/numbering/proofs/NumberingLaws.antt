@@ -14,6 +14,7 @@ use Rattle.model.proofs.FormLaws.{WellFormed, formed, stateSize-is, stateSize-l
 use Rattle.list.specs.Items.{offset, stateWidth, blockAt, nextBlock, stateMember, choiceMember}
 use Rattle.list.specs.Clauses.{oneHotWidth, variableOf}
 use Rattle.numbering.specs.Numbering.{variableNumber}
+use Rattle.numbering.specs.Layouts.{layoutOf, DeclaredIn, membersIn, placeIn, Laid}
 
 module _ (m : Model) where
   -- S as the list's definitions have it
@@ -70,3 +71,24 @@ choices-most m z ok k = omega (arith, choices-of-sizes m z k, choices-le m (form
 module _ (m : Model) (z : Sizes) (k : KnownSizes m z) where
   pub width-is : z .state ≡ stateWidth oneHotWidth m
   width-is = state-of-sizes m z k ∙ sym (state-width m)
+
+-- ---- the layout of a well-formed record is within the limits
+pub laid : (m : Model) → WellFormed m → Laid (layoutOf m)
+laid m ok = record {
+  locations-le = ok .locations-le;
+  vars-le = ok .vars-le;
+  clocks-le = ok .clocks-le;
+  ceiling-le = ok .ceiling-le;
+  few = few;
+  within = within;
+}
+  where
+    few : (x : Component) → DeclaredIn (layoutOf m) x → membersIn (layoutOf m) x ≤ 32
+    few loc d = omega (arith, ok .locations-le)
+    few (counter i) d = omega (arith, ok .greatest-le i d)
+    few (clock i) d = omega (arith, ok .ceiling-le)
+
+    within : (x : Component) → DeclaredIn (layoutOf m) x → placeIn (layoutOf m) x + membersIn (layoutOf m) x ≤ 272
+    within loc d = group-small m ok loc tt
+    within (counter i) d = group-small m ok (counter i) d
+    within (clock i) d = group-small m ok (clock i) d

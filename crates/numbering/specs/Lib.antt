@@ -1,3 +1,4 @@
 pub mod Numbering
 pub mod Groups
 pub mod StepBlocks
+pub mod Layouts

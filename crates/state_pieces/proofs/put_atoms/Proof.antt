@@ -10,13 +10,13 @@ use Rattle.state_pieces.proofs.put_atoms.Statement.{statement}
 use Rattle.state_pieces.proofs.put_atoms.Tie as tie
 
 abbrev Inv-loop : tie.InvT-loop
-Inv-loop m z o x out₀ at atoms end₀ k₀ out end k = (k ≤ 4) × Wrote (each k (slotClauses m o x atoms)) out₀ out end₀ end
+Inv-loop w o x out₀ at atoms end₀ k₀ out end k = (k ≤ 4) × Wrote (each k (slotClauses w o x atoms)) out₀ out end₀ end
 
 abbrev μ-loop : tie.MeasureT-loop
-μ-loop m z o x out₀ at atoms end₀ k₀ out end k = 4 - k
+μ-loop w o x out₀ at atoms end₀ k₀ out end k = 4 - k
 
 loop-holds : tie.Need-loop-holds Inv-loop μ-loop
-loop-holds c = (omega arith, wrote-each-none _ _ _ (omega (arith, c .pre .5 .room)))
+loop-holds c = (omega arith, wrote-each-none _ _ _ (omega (arith, c .pre .4 .room)))
 
 mul-s : tie.Need-mul-s Inv-loop μ-loop
 mul-s c = search needs
@@ -25,7 +25,7 @@ array-copy-out-s : tie.Need-array-copy-out-s Inv-loop μ-loop
 array-copy-out-s c = search needs
 
 put-atom-requires : tie.Need-put-atom-requires Inv-loop μ-loop
-put-atom-requires c κs = (c .before .before .before .before .pre .0, c .before .before .before .before .pre .1, omega arith, omega arith, c .before .before .before .before .pre .4 (c .before .before .before .loop .k) (c .before .before .loop-test .taken), room-each _ _ _ (c .before .before .before .loop .inv .1) (c .before .before .loop-test .taken) (c .before .before .before .before .pre .5))
+put-atom-requires c κs = (c .before .before .before .before .pre .0, omega arith, omega arith, c .before .before .before .before .pre .3 (c .before .before .before .loop .k) (c .before .before .loop-test .taken), room-each _ _ _ (c .before .before .before .loop .inv .1) (c .before .before .loop-test .taken) (c .before .before .before .before .pre .4))
 
 add-k : tie.Need-add-k Inv-loop μ-loop
 add-k c = search needs

@@ -10,10 +10,10 @@ use Rattle.state_pieces.proofs.put_counter_groups.Statement.{statement}
 use Rattle.state_pieces.proofs.put_counter_groups.Tie as tie
 
 abbrev Inv-loop : tie.InvT-loop
-Inv-loop m o out₀ at end₀ i₀ i-end out end i = (i ≤ i-end) × Wrote (each i (counterGroup m o)) out₀ out end₀ end
+Inv-loop w o out₀ at end₀ i₀ i-end out end i = (i ≤ i-end) × Wrote (each i (counterGroup w o)) out₀ out end₀ end
 
 abbrev μ-loop : tie.MeasureT-loop
-μ-loop m o out₀ at end₀ i₀ i-end out end i = i-end - i
+μ-loop w o out₀ at end₀ i₀ i-end out end i = i-end - i
 
 cast-i-end : tie.Need-cast-i-end Inv-loop μ-loop
 cast-i-end c = search needs
@@ -38,7 +38,7 @@ same-length c = search needs
 
 returns : tie.Need-returns Inv-loop μ-loop
 returns c =
-    let done : c .before .loop .i ≡ c .before .before .before .args .m .vars = omega arith in
+    let done : c .before .loop .i ≡ c .before .before .before .args .w .vars = omega arith in
     rw done at (c .before .loop .inv .1)
 
 pub put-counter-groups-spec : {M : Type 1} → statement M
