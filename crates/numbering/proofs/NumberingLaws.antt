@@ -10,7 +10,7 @@ use Rattle.model.specs.declared.Sizes.{Sizes}
 use Rattle.model.specs.Bounds.{KnownSizes}
 use Rattle.model.specs.Automaton.{Component, loc, counter, clock, Declared, groupSize, ceiling, stateSize, choices}
 use Rattle.model.proofs.IndexedLaws.{sum-mono}
-use Rattle.model.proofs.FormLaws.{WellFormed, formed, stateSize-is, stateSize-le, choices-le, state-of-sizes, choices-of-sizes}
+use Rattle.model.proofs.FormLaws.{WellFormed, formed, stateSize-le, choices-le, state-of-sizes, choices-of-sizes}
 use Rattle.list.specs.Items.{offset, stateWidth, blockAt, nextBlock, stateMember, choiceMember}
 use Rattle.list.specs.Clauses.{oneHotWidth, variableOf}
 use Rattle.numbering.specs.Numbering.{variableNumber}
@@ -51,11 +51,6 @@ module _ (m : Model) where
 
   pub group-small : WellFormed m → (x : Component) → Declared m x → offset oneHotWidth m x + groupSize m x ≤ 272
   group-small ok x d = omega (arith, group-within x d, stateSize-le m ok)
-
-  -- the clocks begin after the counters
-  pub first-clock : T (wellFormed m) → offset oneHotWidth m (counter (m .vars)) ≤ 272
-  unfolding stateSize
-  first-clock ok = omega (arith, stateSize-is m, stateSize-le m (formed m ok))
 
   -- at most 64 blocks of 336 variables come before a block
   pub block-most : WellFormed m → (t : ℕ) → t ≤ 64 → blockAt oneHotWidth m t ≤ 21504
