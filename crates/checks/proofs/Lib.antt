@@ -1,2 +1,2 @@
-pub mod KnownLaws
+pub mod FalseChoices
 pub mod Sequel

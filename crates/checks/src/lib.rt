@@ -1,7 +1,7 @@
 // Checks of the list's pieces other than the edges' clauses: start, choices and delays, states.
 use model::AtomSlot;
 use model::Model;
-use parts::Blocks;
+use parts::GroupTable;
 use truth::Scan;
 use truth::check_group;
 use truth::check_part;
@@ -17,14 +17,15 @@ ghost use Rattle.model.specs.Form.{wellFormed};
 ghost use Rattle.list.specs.Items.{stateItems, initialItems, startItems, invariantOf};
 ghost use Rattle.list.specs.Clauses.{oneHotWidth, clausesOf};
 ghost use Rattle.truth.specs.Scanning.{Checked};
-ghost use Rattle.truth.specs.Parts.{Fits};
+ghost use Rattle.parts.specs.Rules.{Fits};
 ghost use Rattle.piece_tables.specs.Tables.{Table};
+ghost use Rattle.parts.specs.Numbering.{mostVariables};
 ghost use Rattle.parts.specs.StateBlock.{componentAt, Bounded};
 ghost use Rattle.parts.specs.PartsOf.{atomPart};
-ghost use Rattle.checks.specs.Pieces.{Known, BlockIn, StepIn, groupPiece, atomPiece, delayPiece, delayPieces, frontPiece};
+ghost use Rattle.parts.specs.Pieces.{Known, BlockIn, StepIn, groupPiece, atomPiece, delayPiece, delayPieces, frontPiece};
 
 // The group clauses of the state block that begins at `o`.
-fn check_groups(b: Blocks, a: &[u8], o: usize, at: usize) -> Scan
+fn check_groups(b: GroupTable, a: &[u8], o: usize, at: usize) -> Scan
     requires { ⌜ BlockIn b o (length (now a)) × (at ≤ 900000000) ⌝ }
     ensures { λ r. ⌜ Checked (now (a .entry)) (each (b .groups) (groupPiece b o)) at 37800 r ⌝ }
 {
@@ -32,8 +33,8 @@ fn check_groups(b: Blocks, a: &[u8], o: usize, at: usize) -> Scan
     let mut count = at;
     let mut g = 0;
     while g < n {
-        let first = b.first[g];
-        let size = b.size[g];
+        let first = b.first[g] as usize;
+        let size = b.size[g] as usize;
         let s = check_group(a, o + first, size, count);
         count = s.at;
         if !s.ok {
@@ -51,8 +52,8 @@ fn check_groups(b: Blocks, a: &[u8], o: usize, at: usize) -> Scan
 }
 
 // The clauses of the atoms of an invariant, for the location with variable `x`.
-fn check_atoms(b: Blocks, a: &[u8], o: usize, x: usize, atoms: [AtomSlot; 4], at: usize) -> Scan
-    requires { ⌜ Bounded b × (o ≤ 1000000) × (x < length (now a)) × ((k : ℕ) → k < 4 → Fits (atomPart b o (atomAt atoms k)) (length (now a))) × (at ≤ 800000000) ⌝ }
+fn check_atoms(b: GroupTable, a: &[u8], o: usize, x: usize, atoms: [AtomSlot; 4], at: usize) -> Scan
+    requires { ⌜ Bounded b × (o ≤ mostVariables) × (x < length (now a)) × ((k : ℕ) → k < 4 → Fits (atomPart b o (atomAt atoms k)) (length (now a))) × (at ≤ 800000000) ⌝ }
     ensures { λ r. ⌜ Checked (now (a .entry)) (each 4 (atomPiece b o x atoms)) at 128 r ⌝ }
 {
     let mut count = at;
@@ -78,8 +79,8 @@ fn check_atoms(b: Blocks, a: &[u8], o: usize, x: usize, atoms: [AtomSlot; 4], at
 
 // The state clauses of the state block that begins at `o`: its groups, then the invariants. All clauses of a location that is false
 // are true.
-pub fn check_state(m: Model, b: Blocks, table: [usize; 16], a: &[u8], o: usize, at: usize) -> Scan
-    requires { ⌜ Known m b × Table (invariantOf oneHotWidth m) (m .locations) 16 1024 table × (o ≤ 1000000) × (o + stateSize m ≤ length (now a)) × (at ≤ 600000000) ⌝ }
+pub fn check_state(m: Model, b: GroupTable, table: [usize; 16], a: &[u8], o: usize, at: usize) -> Scan
+    requires { ⌜ Known m b × Table (invariantOf oneHotWidth m) (m .locations) 16 1024 table × (o ≤ mostVariables) × (o + stateSize m ≤ length (now a)) × (at ≤ 600000000) ⌝ }
     ensures { λ r. ⌜ Checked (now (a .entry)) (clausesOf (stateItems oneHotWidth m o)) at 60000 r ⌝ }
 {
     let s = check_groups(b, a, o, at);
@@ -130,7 +131,7 @@ fn initial_value(m: Model, g: usize) -> u8
 }
 
 // The clauses of the initial values.
-fn check_initial(m: Model, b: Blocks, a: &[u8], at: usize) -> Scan
+fn check_initial(m: Model, b: GroupTable, a: &[u8], at: usize) -> Scan
     requires { ⌜ Known m b × (stateSize m ≤ length (now a)) × (at ≤ 900000000) ⌝ }
     ensures { λ r. ⌜ Checked (now (a .entry)) (clausesOf (initialItems oneHotWidth m)) at 9 r ⌝ }
 {
@@ -138,7 +139,7 @@ fn check_initial(m: Model, b: Blocks, a: &[u8], at: usize) -> Scan
     let mut count = at;
     let mut g = 0;
     while g < n {
-        let first = b.first[g];
+        let first = b.first[g] as usize;
         let value = initial_value(m, g);
         if !is_true(a, first + value as usize) {
             return Scan {
@@ -156,7 +157,7 @@ fn check_initial(m: Model, b: Blocks, a: &[u8], at: usize) -> Scan
 }
 
 // The clauses of the start.
-pub fn check_start(m: Model, b: Blocks, table: [usize; 16], a: &[u8]) -> Scan
+pub fn check_start(m: Model, b: GroupTable, table: [usize; 16], a: &[u8]) -> Scan
     requires { ⌜ Known m b × Table (invariantOf oneHotWidth m) (m .locations) 16 1024 table × (stateSize m ≤ length (now a)) ⌝ }
     ensures { λ r. ⌜ Checked (now (a .entry)) (clausesOf (startItems oneHotWidth m)) 0 70000 r ⌝ }
 {
@@ -168,8 +169,8 @@ pub fn check_start(m: Model, b: Blocks, table: [usize; 16], a: &[u8]) -> Scan
 }
 
 // The clauses of delay `d` from the state block that begins at `o`.
-fn check_delay(b: Blocks, a: &[u8], o: usize, d: u8, at: usize) -> Scan
-    requires { ⌜ Bounded b × (o ≤ 1000000) × StepIn b o (length (now a)) × (d ≤ b .top) × (at ≤ 800000000) ⌝ }
+fn check_delay(b: GroupTable, a: &[u8], o: usize, d: u8, at: usize) -> Scan
+    requires { ⌜ Bounded b × (o ≤ mostVariables) × StepIn b o (length (now a)) × (d ≤ b .top) × (at ≤ 800000000) ⌝ }
     ensures { λ r. ⌜ Checked (now (a .entry)) (each (b .groups) (delayPiece b o d)) at 288 r ⌝ }
 {
     let n = b.groups;
@@ -195,8 +196,8 @@ fn check_delay(b: Blocks, a: &[u8], o: usize, d: u8, at: usize) -> Scan
 
 // The clauses of all delays from the state block that begins at `o`. All clauses of a delay that is false are true, one for
 // each member of the state block.
-fn check_delays(b: Blocks, a: &[u8], o: usize, at: usize) -> Scan
-    requires { ⌜ Bounded b × (o ≤ 1000000) × StepIn b o (length (now a)) × (at ≤ 700000000) ⌝ }
+fn check_delays(b: GroupTable, a: &[u8], o: usize, at: usize) -> Scan
+    requires { ⌜ Bounded b × (o ≤ mostVariables) × StepIn b o (length (now a)) × (at ≤ 700000000) ⌝ }
     ensures { λ r. ⌜ Checked (now (a .entry)) (each (b .top + 1) (delayPieces b o)) at 9216 r ⌝ }
 {
     let n = b.top as usize + 1;
@@ -225,8 +226,8 @@ fn check_delays(b: Blocks, a: &[u8], o: usize, at: usize) -> Scan
 }
 
 // The clauses of a step up to its edges: the choice's group, then the delays.
-pub fn check_front(b: Blocks, a: &[u8], o: usize, at: usize) -> Scan
-    requires { ⌜ Bounded b × (o ≤ 1000000) × StepIn b o (length (now a)) × (at ≤ 600000000) ⌝ }
+pub fn check_front(b: GroupTable, a: &[u8], o: usize, at: usize) -> Scan
+    requires { ⌜ Bounded b × (o ≤ mostVariables) × StepIn b o (length (now a)) × (at ≤ 600000000) ⌝ }
     ensures { λ r. ⌜ Checked (now (a .entry)) (frontPiece b o) at 13500 r ⌝ }
 {
     let s = check_group(a, o + b.state, b.choices, at);

@@ -7,17 +7,18 @@ use borrow.Author.Tests.{lt-ltb, le-ltb, ne-eqb}
 use Rattle.model.specs.declared.Edge.{Edge}
 use Rattle.model.specs.Record.{atomAt, updateAt, resetAt}
 use Rattle.model.proofs.IndexedLaws.{lt-or-le}
-use Rattle.truth.specs.declared.Rule.the-variants.{Put}
-use Rattle.truth.specs.declared.Part.{Part}
-use Rattle.parts.specs.declared.Blocks.{Blocks}
-use Rattle.parts.specs.PartsOf.{nextAt, atomPart, putPart, updatePart, resetPart, edgePart}
+use Rattle.parts.specs.declared.Rule.the-variants.{Set}
+use Rattle.parts.specs.declared.Part.{Part}
+use Rattle.parts.specs.declared.GroupTable.{GroupTable}
+use Rattle.parts.specs.StateBlock.{sizeAt}
+use Rattle.parts.specs.PartsOf.{nextAt, atomPart, setPart, updatePart, resetPart, edgePart}
 
-module _ (b : Blocks) (e : Edge) (o : ℕ) where
-  pub source-part : edgePart b e o 0 ≡ putPart o (Put (e .source))
+module _ (b : GroupTable) (e : Edge) (o : ℕ) where
+  pub source-part : edgePart b e o 0 ≡ setPart o (sizeAt b 0) (Set (e .source))
   unfolding edgePart
   source-part = refl
 
-  pub target-part : edgePart b e o 1 ≡ putPart (nextAt b o) (Put (e .target))
+  pub target-part : edgePart b e o 1 ≡ setPart (nextAt b o) (sizeAt b 0) (Set (e .target))
   unfolding edgePart
   target-part = refl
 
@@ -48,7 +49,7 @@ module _ (b : Blocks) (e : Edge) (o : ℕ) where
       )
 
   -- every part of an edge is one of these
-  pub edge-cases : (C : Part → Type 0) (clocks : ℕ) → C (putPart o (Put (e .source))) → C (putPart (nextAt b o) (Put (e .target)))
+  pub edge-cases : (C : Part → Type 0) (clocks : ℕ) → C (setPart o (sizeAt b 0) (Set (e .source))) → C (setPart (nextAt b o) (sizeAt b 0) (Set (e .target)))
       → ((k : ℕ) → k < 4 → C (atomPart b o (atomAt (e .guard) k))) → ((i : ℕ) → i < b .vars → C (updatePart b o i (updateAt e i)))
       → ((i : ℕ) → i < clocks → C (resetPart b o i (resetAt e i))) → (j : ℕ) → j < 6 + b .vars + clocks → C (edgePart b e o j)
   edge-cases C clocks s t g u r j l = ⊎-elim

@@ -18,7 +18,7 @@ use Rattle.model.proofs.FormLaws.{WellFormed, stateSize-is, stateSize-le, choic
 use Rattle.list.specs.Items.{offset, overComponents}
 use Rattle.list.specs.Clauses.{oneHotWidth}
 use Rattle.list.proofs.ListLaws.{each-add, each-cong, each-more}
-use Rattle.parts.specs.StateBlock.{componentAt, blocksOf, firstAt, sizeAt, Bounded}
+use Rattle.parts.specs.StateBlock.{componentAt, groupTable, firstAt, sizeAt, Bounded}
 
 -- ---- the components by number
 pub group-cases : {C : Type 0} (vars g : ℕ) → (g ≡ 0 → C) → ((i : ℕ) → i < vars → g ≡ 1 + i → C) → ((i : ℕ) → g ≡ 1 + vars + i → C) → C
@@ -119,20 +119,20 @@ module _ (m : Model) where
     beginning-le g = omega (arith, begins-is g, sum-below many g 32 (λ i l. many-le i))
 
   -- ---- the table
-  pub first-is : (g : ℕ) → g < 9 → firstAt (blocksOf m) g ≡ beginning g
-  unfolding blocksOf
+  pub first-is : (g : ℕ) → g < 9 → firstAt (groupTable m) g ≡ beginning g
+  unfolding groupTable
   first-is g l = getD-list {A = ℕ} 0 beginning 9 g l
 
-  pub size-is : (g : ℕ) → g < 9 → sizeAt (blocksOf m) g ≡ many g
-  unfolding blocksOf
+  pub size-is : (g : ℕ) → g < 9 → sizeAt (groupTable m) g ≡ many g
+  unfolding groupTable
   size-is g l = getD-list {A = ℕ} 0 many 9 g l
 
-  first-past : (g : ℕ) → 9 ≤ g → firstAt (blocksOf m) g ≡ 0
-  unfolding blocksOf
+  first-past : (g : ℕ) → 9 ≤ g → firstAt (groupTable m) g ≡ 0
+  unfolding groupTable
   first-past g l = List·getD-eq-default (listBelow beginning 9) 0 (omega (arith, length-list {A = ℕ} beginning 9))
 
-  size-past : (g : ℕ) → 9 ≤ g → sizeAt (blocksOf m) g ≡ 0
-  unfolding blocksOf
+  size-past : (g : ℕ) → 9 ≤ g → sizeAt (groupTable m) g ≡ 0
+  unfolding groupTable
   size-past g l = List·getD-eq-default (listBelow many 9) 0 (omega (arith, length-list {A = ℕ} many 9))
 
   -- ---- a piece for each component is a piece for each group
@@ -147,27 +147,27 @@ module _ (m : Model) where
       (each-cong (m .clocks) (λ i. F (1 + m .vars + i)) (λ i. f (clock i)) (λ i l. ap f (comp-clock i)))
 
   module _ (ok : WellFormed m) where
-    groups-are : blocksOf m .groups ≤ 5 + blocksOf m .vars
-    unfolding blocksOf
+    groups-are : groupTable m .groups ≤ 5 + groupTable m .vars
+    unfolding groupTable
     groups-are = omega (arith, ok .clocks-le)
 
-    vars-are : blocksOf m .vars ≤ 4
-    unfolding blocksOf
+    vars-are : groupTable m .vars ≤ 4
+    unfolding groupTable
     vars-are = ok .vars-le
 
-    state-is : blocksOf m .state ≤ 272
-    unfolding blocksOf
+    state-is : groupTable m .state ≤ 272
+    unfolding groupTable
     state-is = stateSize-le m ok
 
-    choices-are : blocksOf m .choices ≤ 64
-    unfolding blocksOf
+    choices-are : groupTable m .choices ≤ 64
+    unfolding groupTable
     choices-are = choices-le m ok
 
-    top-is : blocksOf m .top ≤ 31
-    unfolding blocksOf
+    top-is : groupTable m .top ≤ 31
+    unfolding groupTable
     top-is = ok .ceiling-le
 
-    pub bounded : Bounded (blocksOf m)
+    pub bounded : Bounded (groupTable m)
     bounded = record {
       groups-le = groups-are;
       vars-le = vars-are;

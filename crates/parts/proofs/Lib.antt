@@ -2,3 +2,6 @@ pub mod GroupLaws
 pub mod EdgeParts
 pub mod PartPieces
 pub mod PartFits
+pub mod NumberingLaws
+pub mod PartLengths
+pub mod KnownLaws

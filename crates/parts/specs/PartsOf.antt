@@ -12,58 +12,58 @@ use Rattle.model.specs.declared.ClockUpdate.{ClockUpdate}
 use Rattle.model.specs.declared.ClockUpdate.the-variants.{Unchanged, Reset}
 use Rattle.model.specs.declared.Edge.{Edge}
 use Rattle.model.specs.Record.{blankCounter, atomAt, updateAt, resetAt}
-use Rattle.truth.specs.declared.Rule.{Rule}
-use Rattle.truth.specs.declared.Rule.the-variants.{Exclude, Keep, Rise, Shift, Put, Forbid}
-use Rattle.truth.specs.declared.Part.{Part}
-use Rattle.parts.specs.declared.Blocks.{Blocks}
+use Rattle.parts.specs.declared.Rule.{Rule}
+use Rattle.parts.specs.declared.Rule.the-variants.{Exclude, Keep, Rise, Shift, Set, Forbid}
+use Rattle.parts.specs.declared.Part.{Part}
+use Rattle.parts.specs.declared.GroupTable.{GroupTable}
 use Rattle.parts.specs.StateBlock.{firstAt, sizeAt}
 
 -- Where the state block after the one at o begins.
-abbrev pub nextAt : Blocks → ℕ → ℕ
+abbrev pub nextAt : GroupTable → ℕ → ℕ
 nextAt b o = o + b .state + b .choices
 
 -- Group g at o under a comparison: values that fail it are ruled out.
-abbrev pub excludePart : Blocks → ℕ → ℕ → Relation → ℕ → Part
-excludePart b o g relation constant = record { rule = Exclude relation constant; before = o + firstAt b g; size = sizeAt b g; after = 0 }
+abbrev pub excludePart : GroupTable → ℕ → ℕ → Relation → ℕ → Part
+excludePart b o g relation constant = record { rule = Exclude relation constant; before = o + firstAt b g; size = sizeAt b g; after = 0; into = 0 }
 
 -- An atom; a blank slot asks nothing.
-abbrev pub atomPart : Blocks → ℕ → Atom → Part
-atomPart b o Blank = record { rule = Forbid; before = 0; size = 0; after = 0 }
+abbrev pub atomPart : GroupTable → ℕ → Atom → Part
+atomPart b o Blank = record { rule = Forbid; before = 0; size = 0; after = 0; into = 0 }
 atomPart b o (OnClock x relation constant) = excludePart b o (1 + b .vars + x) relation constant
 atomPart b o (OnCounter x relation constant) = excludePart b o (1 + x) relation constant
 
 -- Group g at o leads to group h of the next state.
-abbrev pub leadsPart : Blocks → ℕ → ℕ → ℕ → Rule → Part
-leadsPart b o g h rule = record { rule = rule; before = o + firstAt b g; size = sizeAt b g; after = nextAt b o + firstAt b h }
+abbrev pub leadsPart : GroupTable → ℕ → ℕ → ℕ → Rule → Part
+leadsPart b o g h rule = record { rule = rule; before = o + firstAt b g; size = sizeAt b g; after = nextAt b o + firstAt b h; into = sizeAt b h }
 
 -- Delay d on group g: a clock rises to M at most, all else stays.
-abbrev pub delayPart : Blocks → ℕ → ℕ → ℕ → Part
+abbrev pub delayPart : GroupTable → ℕ → ℕ → ℕ → Part
 delayPart b o d g = leadsPart b o g g (cond (ltb g (1 + b .vars)) Keep (Rise d (b .top)))
 
 -- One clause, of a group that begins at `after`.
-abbrev pub putPart : ℕ → Rule → Part
-putPart after rule = record { rule = rule; before = 0; size = 1; after = after }
+abbrev pub setPart : ℕ → ℕ → Rule → Part
+setPart after into rule = record { rule = rule; before = 0; size = 1; after = after; into = into }
 
 -- The greatest value of counter i.
-abbrev pub greatestAt : Blocks → ℕ → ℕ
+abbrev pub greatestAt : GroupTable → ℕ → ℕ
 greatestAt b i = getD (b .counters) i blankCounter .greatest
 
 -- An update of counter i.
-abbrev pub updatePart : Blocks → ℕ → ℕ → Update → Part
+abbrev pub updatePart : GroupTable → ℕ → ℕ → Update → Part
 updatePart b o i KeepIt = leadsPart b o (1 + i) (1 + i) Keep
-updatePart b o i (Constant n) = putPart (nextAt b o + firstAt b (1 + i)) (cond (leb n (greatestAt b i)) (Put n) Forbid)
+updatePart b o i (Constant n) = setPart (nextAt b o + firstAt b (1 + i)) (sizeAt b (1 + i)) (cond (leb n (greatestAt b i)) (Set n) Forbid)
 updatePart b o i (Sum w offset) = leadsPart b o (1 + w) (1 + i) (Shift offset (greatestAt b i))
 
 -- A reset of clock i, or none.
-abbrev pub resetPart : Blocks → ℕ → ℕ → ClockUpdate → Part
+abbrev pub resetPart : GroupTable → ℕ → ℕ → ClockUpdate → Part
 resetPart b o i Unchanged = leadsPart b o (1 + b .vars + i) (1 + b .vars + i) Keep
-resetPart b o i Reset = putPart (nextAt b o + firstAt b (1 + b .vars + i)) (Put 0)
+resetPart b o i Reset = setPart (nextAt b o + firstAt b (1 + b .vars + i)) (sizeAt b (1 + b .vars + i)) (Set 0)
 
 -- Part j of an edge: its source, its target, four guard atoms, each counter, each clock.
-unfoldable pub edgePart : Blocks → Edge → ℕ → ℕ → Part
+unfoldable pub edgePart : GroupTable → Edge → ℕ → ℕ → Part
 edgePart b e o j =
-    cond (eqb j 0) (putPart o (Put (e .source))) (
-    cond (eqb j 1) (putPart (nextAt b o) (Put (e .target))) (
+    cond (eqb j 0) (setPart o (sizeAt b 0) (Set (e .source))) (
+    cond (eqb j 1) (setPart (nextAt b o) (sizeAt b 0) (Set (e .target))) (
     cond (ltb j 6) (atomPart b o (atomAt (e .guard) (j - 2))) (
     cond (ltb (j - 6) (b .vars)) (updatePart b o (j - 6) (updateAt e (j - 6))) (
     resetPart b o (j - 6 - b .vars) (resetAt e (j - 6 - b .vars))))))

@@ -5,24 +5,47 @@ use model::Counter;
 use model::Edge;
 use model::Model;
 use model::Relation;
+use model::Sizes;
 use model::Update;
-use truth::Part;
-use truth::Rule;
 ghost use mathlib.Core.Path.{_≡_};
 ghost use mathlib.Core.Bool.{cond};
 ghost use Prim.Native.Nat.{ℕ, _+_, _<_, _≤_};
 ghost use lib.Dec.{T, leb};
 ghost use lib.ListN.{getD};
 ghost use Rattle.model.specs.Automaton.{ceiling, groupSize};
+ghost use Rattle.model.specs.Bounds.{KnownSizes};
 ghost use Rattle.model.specs.Form.{wellFormed};
-ghost use Rattle.parts.specs.StateBlock.{componentAt, blocksOf, Bounded};
-ghost use Rattle.parts.specs.PartsOf.{excludePart, atomPart, leadsPart, delayPart, putPart, updatePart, resetPart, edgePart, greatestAt, nextAt};
+ghost use Rattle.parts.specs.Numbering.{mostVariables};
+ghost use Rattle.parts.specs.StateBlock.{componentAt, groupTable, Bounded};
+ghost use Rattle.parts.specs.PartsOf.{excludePart, atomPart, leadsPart, delayPart, setPart, updatePart, resetPart, edgePart, greatestAt, nextAt};
+
+pub mod numbering;
+
+// What a part of the list asks of a value before, under a choice or a location.
+pub enum Rule {
+    Exclude { relation: Relation, constant: u8 },
+    Keep,
+    Rise { by: u8, top: u8 },
+    Shift { offset: i8, greatest: u8 },
+    Set(u8),
+    Forbid,
+}
+
+// A rule for each of `size` values, whose variables begin at `before`; the variables of the group after begin at `after`,
+// and it has `into` members.
+pub struct Part {
+    pub rule: Rule,
+    pub before: usize,
+    pub size: usize,
+    pub after: usize,
+    pub into: usize,
+}
 
 // The groups of a state block in block order: where each begins and how many members it has. M, S and H.
-pub struct Blocks {
+pub struct GroupTable {
     pub groups: usize,
-    pub first: [usize; 9],
-    pub size: [usize; 9],
+    pub first: [u16; 9],
+    pub size: [u16; 9],
     pub counters: [Counter; 4],
     pub vars: usize,
     pub top: u8,
@@ -46,23 +69,22 @@ fn group_size(m: Model, top: u8, g: usize) -> usize
     top as usize + 1
 }
 
-pub fn blocks_of(m: Model) -> Blocks
-    requires { ⌜ T (wellFormed m) ⌝ }
-    ensures { λ r. ⌜ r ≡ blocksOf m ⌝ }
+pub fn group_table(m: Model, z: Sizes) -> GroupTable
+    requires { ⌜ T (wellFormed m) × KnownSizes m z ⌝ }
+    ensures { λ r. ⌜ r ≡ groupTable m ⌝ }
 {
-    let z = m.sizes();
     let top = z.ceiling as u8;
-    let mut first = [0usize; 9];
-    let mut size = [0usize; 9];
+    let mut first = [0u16; 9];
+    let mut size = [0u16; 9];
     let mut sum: usize = 0;
     for g in 0..9 {
         let n = group_size(m, top, g);
-        first[g] = sum;
-        size[g] = n;
+        first[g] = sum as u16;
+        size[g] = n as u16;
         sum += n;
     }
     let counters = m.counters;
-    Blocks {
+    GroupTable {
         groups: 1 + m.vars as usize + m.clocks as usize,
         first,
         size,
@@ -74,15 +96,15 @@ pub fn blocks_of(m: Model) -> Blocks
     }
 }
 
-fn slot(values: [usize; 9], g: usize) -> usize
+fn slot(values: [u16; 9], g: usize) -> usize
     ensures { λ r. ⌜ r ≡ getD values g 0 ⌝ }
 {
-    if g < 9 { values[g] } else { 0 }
+    if g < 9 { values[g] as usize } else { 0 }
 }
 
-impl Blocks {
+impl GroupTable {
     fn exclude_part(self, o: usize, g: usize, relation: Relation, constant: u8) -> Part
-        requires { ⌜ Bounded self × (o ≤ 1000000) ⌝ }
+        requires { ⌜ Bounded self × (o ≤ mostVariables) ⌝ }
         ensures { λ r. ⌜ r ≡ excludePart self o g relation constant ⌝ }
     {
         let first = self.first;
@@ -92,12 +114,13 @@ impl Blocks {
             before: o + slot(first, g),
             size: slot(size, g),
             after: 0,
+            into: 0,
         }
     }
 
     // The clauses of an atom at the state block that begins at `o`.
     pub fn atom_part(self, o: usize, atom: Atom) -> Part
-        requires { ⌜ Bounded self × (o ≤ 1000000) ⌝ }
+        requires { ⌜ Bounded self × (o ≤ mostVariables) ⌝ }
         ensures { λ r. ⌜ r ≡ atomPart self o atom ⌝ }
     {
         match atom {
@@ -106,6 +129,7 @@ impl Blocks {
                 before: 0,
                 size: 0,
                 after: 0,
+                into: 0,
             },
             Atom::OnClock {
                 clock,
@@ -121,7 +145,7 @@ impl Blocks {
     }
 
     fn leads_part(self, o: usize, g: usize, h: usize, rule: Rule) -> Part
-        requires { ⌜ Bounded self × (o ≤ 1000000) ⌝ }
+        requires { ⌜ Bounded self × (o ≤ mostVariables) ⌝ }
         ensures { λ r. ⌜ r ≡ leadsPart self o g h rule ⌝ }
     {
         let first = self.first;
@@ -131,12 +155,13 @@ impl Blocks {
             before: o + slot(first, g),
             size: slot(size, g),
             after: o + self.state + self.choices + slot(first, h),
+            into: slot(size, h),
         }
     }
 
     // The clauses of delay `d` on group `g` of the state block that begins at `o`.
     pub fn delay_part(self, o: usize, d: u8, g: usize) -> Part
-        requires { ⌜ Bounded self × (o ≤ 1000000) ⌝ }
+        requires { ⌜ Bounded self × (o ≤ mostVariables) ⌝ }
         ensures { λ r. ⌜ r ≡ delayPart self o d g ⌝ }
     {
         if g < 1 + self.vars {
@@ -155,26 +180,28 @@ impl Blocks {
     }
 
     // One clause about group `h` of the state after the one at `o`.
-    fn put_part(self, o: usize, h: usize, rule: Rule) -> Part
-        requires { ⌜ Bounded self × (o ≤ 1000000) ⌝ }
-        ensures { λ r. ⌜ r ≡ putPart (nextAt self o + getD (self .first) h 0) rule ⌝ }
+    fn set_part(self, o: usize, h: usize, rule: Rule) -> Part
+        requires { ⌜ Bounded self × (o ≤ mostVariables) ⌝ }
+        ensures { λ r. ⌜ r ≡ setPart (nextAt self o + getD (self .first) h 0) (getD (self .size) h 0) rule ⌝ }
     {
         let first = self.first;
+        let size = self.size;
         Part {
             rule,
             before: 0,
             size: 1,
             after: o + self.state + self.choices + slot(first, h),
+            into: slot(size, h),
         }
     }
 
     fn constant_rule(self, i: usize, n: u8) -> Rule
         requires { ⌜ i < 4 ⌝ }
-        ensures { λ r. ⌜ r ≡ cond (leb n (greatestAt self i)) (Rule.Put n) Rule.Forbid ⌝ }
+        ensures { λ r. ⌜ r ≡ cond (leb n (greatestAt self i)) (Rule.Set n) Rule.Forbid ⌝ }
     {
         let c = self.counters[i];
         if n <= c.greatest {
-            Rule::Put(n)
+            Rule::Set(n)
         } else {
             Rule::Forbid
         }
@@ -191,49 +218,54 @@ impl Blocks {
         }
     }
 
-    fn update_part(self, o: usize, i: usize, update: Update) -> Part
-        requires { ⌜ Bounded self × (o ≤ 1000000) × (i < 4) ⌝ }
+    // The clauses of an update of counter `i`.
+    pub fn update_part(self, o: usize, i: usize, update: Update) -> Part
+        requires { ⌜ Bounded self × (o ≤ mostVariables) × (i < 4) ⌝ }
         ensures { λ r. ⌜ r ≡ updatePart self o i update ⌝ }
     {
         match update {
             Update::Keep => self.leads_part(o, 1 + i, 1 + i, Rule::Keep),
-            Update::Constant(n) => self.put_part(o, 1 + i, self.constant_rule(i, n)),
+            Update::Constant(n) => self.set_part(o, 1 + i, self.constant_rule(i, n)),
             Update::Sum { source, offset } => {
                 self.leads_part(o, 1 + source as usize, 1 + i, self.shift_rule(i, offset))
             }
         }
     }
 
-    fn reset_part(self, o: usize, i: usize, update: ClockUpdate) -> Part
-        requires { ⌜ Bounded self × (o ≤ 1000000) × (i < 4) ⌝ }
+    // The clauses of a reset of clock `i`, or of none.
+    pub fn reset_part(self, o: usize, i: usize, update: ClockUpdate) -> Part
+        requires { ⌜ Bounded self × (o ≤ mostVariables) × (i < 4) ⌝ }
         ensures { λ r. ⌜ r ≡ resetPart self o i update ⌝ }
     {
         let g = 1 + self.vars + i;
         match update {
             ClockUpdate::Unchanged => self.leads_part(o, g, g, Rule::Keep),
-            ClockUpdate::Reset => self.put_part(o, g, Rule::Put(0)),
+            ClockUpdate::Reset => self.set_part(o, g, Rule::Set(0)),
         }
     }
 
     // Part `j` of an edge, from the state block that begins at `o`: source, target, guard atoms, counters, clocks.
     pub fn edge_part(self, e: Edge, o: usize, j: usize) -> Part
-        requires { ⌜ Bounded self × (o ≤ 1000000) × (j < self .groups + 5) ⌝ }
+        requires { ⌜ Bounded self × (o ≤ mostVariables) × (j < self .groups + 5) ⌝ }
         ensures { λ r. ⌜ r ≡ edgePart self e o j ⌝ }
     {
+        let locations = self.size[0] as usize;
         if j == 0 {
             return Part {
-                rule: Rule::Put(e.source),
+                rule: Rule::Set(e.source),
                 before: 0,
                 size: 1,
                 after: o,
+                into: locations,
             };
         }
         if j == 1 {
             return Part {
-                rule: Rule::Put(e.target),
+                rule: Rule::Set(e.target),
                 before: 0,
                 size: 1,
                 after: o + self.state + self.choices,
+                into: locations,
             };
         }
         if j < 6 {

@@ -3,8 +3,8 @@ use checks::check_front;
 use checks::check_start;
 use checks::check_state;
 use model::Model;
-use parts::Blocks;
-use parts::blocks_of;
+use parts::GroupTable;
+use parts::group_table;
 use piece_tables::edge_table;
 use piece_tables::invariant_table;
 use truth::Scan;
@@ -22,7 +22,7 @@ ghost use Rattle.list.specs.Clauses.{oneHotWidth, clauses};
 ghost use Rattle.list.specs.Assignments.{firstFalse};
 ghost use Rattle.piece_tables.specs.Tables.{Table};
 ghost use Rattle.truth.specs.Scanning.{Checked};
-ghost use Rattle.checks.specs.Pieces.{Known, stepClauses};
+ghost use Rattle.parts.specs.Pieces.{Known, stepClauses};
 ghost use Rattle.search.specs.Answer.{found};
 
 // The index of the first false clause, or none.
@@ -35,7 +35,7 @@ pub enum Found {
 // whose choice is false are true: they are counted and not looked at.
 fn check_steps(
     m: Model,
-    b: Blocks,
+    b: GroupTable,
     invariants: [usize; 16],
     table: [usize; 32],
     bound: usize,
@@ -110,7 +110,8 @@ pub fn first_false(m: Model, bound: usize, a: &[u8]) -> Found
     requires { ⌜ T (wellFormed m) × (bound ≤ 64) × (length (now a) ≡ variables m bound) ⌝ }
     ensures { λ r. ⌜ found r ≡ firstFalse (now (a .entry)) (clauses m bound) ⌝ }
 {
-    let b = blocks_of(m);
+    let z = m.sizes();
+    let b = group_table(m, z);
     let top = b.top as usize;
     let invariants = invariant_table(m, top);
     let start = check_start(m, b, invariants, a);

@@ -10,10 +10,11 @@ use Rattle.model.specs.Automaton.{meets}
 use Rattle.model.proofs.IndexedLaws.{each-suc, length-each, sum-const}
 use Rattle.list.specs.Clauses.{bare, negated, Clause, one}
 use Rattle.list.specs.Assignments.{bit, trueBefore}
-use Rattle.truth.specs.declared.Rule.{Rule}
-use Rattle.truth.specs.declared.Rule.the-variants.{Exclude, Keep, Rise, Shift, Put, Forbid}
-use Rattle.truth.specs.declared.Part.{Part}
-use Rattle.truth.specs.Parts.{ruleClauses, valueClauses, partClauses}
+use Rattle.parts.specs.declared.Rule.{Rule}
+use Rattle.parts.specs.declared.Rule.the-variants.{Exclude, Keep, Rise, Shift, Set, Forbid}
+use Rattle.parts.specs.declared.Part.{Part}
+use Rattle.parts.specs.Rules.{ruleClauses, valueClauses, partClauses}
+use Rattle.parts.proofs.PartLengths.{one-length}
 use Rattle.truth.proofs.Scans.{Passed, passed-none, passed-then, passed-each-none}
 
 -- all clauses of a piece are true
@@ -41,27 +42,12 @@ module _ (a : List ℕ) (x : ℕ) (h : bit a x ≡ false) where
   rule-true y after v Keep = led-true _
   rule-true y after v (Rise d top) = led-true _
   rule-true y after v (Shift offset greatest) = led-true _
-  rule-true y after v (Put u) = led-true _
+  rule-true y after v (Set u) = led-true _
   rule-true y after v Forbid = led-true _
 
   pub part-true : (p : Part) → AllTrue a (partClauses x p)
   unfolding partClauses valueClauses
   part-true p = all-each a (valueClauses x p) (p .size) (λ v. rule-true (p .before + v) (p .after) v (p .rule))
-
--- a part with a clause for each value
-one-length : (c : Clause) → length (one c) ≡ 1
-unfolding one
-one-length c = refl
-
-pub keep-length : (x before size after : ℕ) → length (partClauses x (record { rule = Keep; before = before; size = size; after = after })) ≡ size
-unfolding partClauses valueClauses
-keep-length x before size after =
-    length-each (λ _. 1) size (valueClauses x (record { rule = Keep; before = before; size = size; after = after })) (λ v. one-length _) ∙ omega (arith, sum-const size 1)
-
-pub rise-length : (x before size after d top : ℕ) → length (partClauses x (record { rule = Rise d top; before = before; size = size; after = after })) ≡ size
-unfolding partClauses valueClauses
-rise-length x before size after d top =
-    length-each (λ _. 1) size (valueClauses x (record { rule = Rise d top; before = before; size = size; after = after })) (λ v. one-length _) ∙ omega (arith, sum-const size 1)
 
 -- the pairs of a member of a group with those after it
 pub row-true : (a : List ℕ) (x y n : ℕ) → bit a x ≡ false → AllTrue a (each n (λ d. one (negated x ∷ negated (y + d) ∷ [])))

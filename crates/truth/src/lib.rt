@@ -2,6 +2,8 @@
 use model::Relation;
 use new_values::NewValue;
 use new_values::shift;
+use parts::Part;
+use parts::Rule;
 ghost use mathlib.Core.Path.{_≡_};
 ghost use mathlib.Core.List.{List, [], _∷_};
 ghost use Prim.Native.Nat.{ℕ, _+_, _<_, _≤_, min};
@@ -9,30 +11,12 @@ ghost use lib.ListN.{length};
 ghost use Rattle.list.specs.Clauses.{bare, negated, members, groupClauses};
 ghost use Rattle.list.specs.Assignments.{bit, clauseTrue};
 ghost use Rattle.truth.specs.Scanning.{Checked, counted};
-ghost use Rattle.truth.specs.Parts.{ruleClauses, valueClauses, partClauses, Fits};
+ghost use Rattle.parts.specs.Rules.{ruleClauses, valueClauses, partClauses, Fits};
 
 // A piece of the list has been checked: whether all its clauses are true, and the count of clauses where the check stopped.
 pub struct Scan {
     pub ok: bool,
     pub at: usize,
-}
-
-// What a part of the list asks of a value before, under a choice or a location.
-pub enum Rule {
-    Exclude { relation: Relation, constant: u8 },
-    Keep,
-    Rise { by: u8, top: u8 },
-    Shift { offset: i8, greatest: u8 },
-    Put(u8),
-    Forbid,
-}
-
-// A rule for each of `size` values, whose variables begin at `before`; the variables of the group after begin at `after`.
-pub struct Part {
-    pub rule: Rule,
-    pub before: usize,
-    pub size: usize,
-    pub after: usize,
 }
 
 pub fn is_true(a: &[u8], i: usize) -> bool
@@ -205,7 +189,7 @@ pub fn check_value(a: &[u8], x: usize, p: Part, v: usize, at: usize) -> Scan
         Rule::Shift { offset, greatest } => {
             check_shifted(a, x, y, after, v as u8, offset, greatest, at)
         }
-        Rule::Put(u) => counted(one_leads(a, x, after + u as usize), at),
+        Rule::Set(u) => counted(one_leads(a, x, after + u as usize), at),
         Rule::Forbid => counted(not_one(a, x), at),
     }
 }

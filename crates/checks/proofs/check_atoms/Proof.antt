@@ -1,7 +1,7 @@
-use Rattle.truth.specs.Parts.{partClauses, Fits}
-use Rattle.truth.specs.declared.Part.{Part}
+use Rattle.parts.specs.Rules.{partClauses, Fits}
+use Rattle.parts.specs.declared.Part.{Part}
 use borrow.Author.Needs.{needs}
-use Rattle.checks.specs.Pieces.{atomPiece}
+use Rattle.parts.specs.Pieces.{atomPiece}
 use Rattle.truth.proofs.Scans.{Passed, passed-each, passed-each-none, failed-each, passed-scan, failed-scan, checked-passed, checked-failed, checked-as}
 use Rattle.model.specs.Indexed.{each}
 use lib.ListN.{length}

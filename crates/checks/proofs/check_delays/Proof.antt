@@ -6,8 +6,8 @@ use denote.Ref.{now}
 use Rattle.model.specs.Indexed.{each}
 use Rattle.truth.proofs.Scans.{Passed, passed-each, passed-each-none, failed-each, passed-scan, failed-scan, checked-passed, checked-failed}
 use Rattle.truth.proofs.Skips.{passed-over}
-use Rattle.checks.proofs.KnownLaws.{delay-true}
-use Rattle.checks.specs.Pieces.{delayPieces}
+use Rattle.checks.proofs.FalseChoices.{delay-true}
+use Rattle.parts.specs.Pieces.{delayPieces}
 use borrow.Author.Needs.{needs}
 use Rattle.checks.proofs.check_delays.Statement.{statement}
 use Rattle.checks.proofs.check_delays.Tie as tie

@@ -1,5 +1,5 @@
 use borrow.Author.Needs.{needs}
-use Rattle.checks.specs.Pieces.{groupPiece}
+use Rattle.parts.specs.Pieces.{groupPiece}
 use Rattle.truth.proofs.Scans.{Passed, passed-each, passed-each-none, failed-each, passed-scan, failed-scan, checked-passed, checked-failed}
 use Rattle.model.specs.Indexed.{each}
 use borrow.Author.Tests.{not-true, not-false}
@@ -24,11 +24,17 @@ mul-first c = search needs
 element-copy-out-first : tie.Need-element-copy-out-first Inv-loop μ-loop
 element-copy-out-first c = omega (arith, c .before .before .before .pre .0 .groups-le)
 
+cast-first : tie.Need-cast-first Inv-loop μ-loop
+cast-first c = search needs
+
 mul-size : tie.Need-mul-size Inv-loop μ-loop
 mul-size c = search needs
 
 element-copy-out-size : tie.Need-element-copy-out-size Inv-loop μ-loop
 element-copy-out-size c = omega (arith, c .before .before .before .before .pre .0 .groups-le)
+
+cast-size : tie.Need-cast-size Inv-loop μ-loop
+cast-size c = search needs
 
 add-check-group : tie.Need-add-check-group Inv-loop μ-loop
 add-check-group c = record { fits = omega (arith, c .before .before .before .before .before .pre .0 .group-in (c .before .before .before .loop .g) (c .before .before .loop-test .taken)) }
@@ -62,8 +68,10 @@ check-groups-spec =
     loop-holds
     mul-first
     element-copy-out-first
+    cast-first
     mul-size
     element-copy-out-size
+    cast-size
     add-check-group
     check-group-requires
     returns

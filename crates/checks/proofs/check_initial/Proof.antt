@@ -1,11 +1,11 @@
 use mathlib.Core.Bool.{Bool}
-use Rattle.checks.proofs.KnownLaws.{at-most-nine, known-initial, initial-piece-of}
+use Rattle.parts.proofs.KnownLaws.{at-most-nine, known-initial, initial-piece-of}
 use Rattle.parts.specs.StateBlock.{firstAt}
 use Rattle.list.specs.Clauses.{bare}
 use Rattle.list.specs.Assignments.{bit, clauseTrue}
 use mathlib.Core.List.{List, [], _∷_}
 use borrow.Author.Needs.{needs}
-use Rattle.checks.specs.Pieces.{initialPiece}
+use Rattle.parts.specs.Pieces.{initialPiece}
 use Rattle.truth.proofs.Scans.{Passed, passed-each, passed-each-none, failed-each, checked-passed, checked-failed, clause-passed, clause-failed, one-true, passed-as, failed-as}
 use Rattle.model.specs.Indexed.{each}
 use denote.Ref.{now}
@@ -30,6 +30,9 @@ mul-first c = omega (arith, at-most-nine (c .before .before .before .pre .0))
 
 element-copy-out-first : tie.Need-element-copy-out-first Inv-loop μ-loop
 element-copy-out-first c = omega (arith, at-most-nine (c .before .before .before .pre .0))
+
+cast-first : tie.Need-cast-first Inv-loop μ-loop
+cast-first c = search needs
 
 initial-value-requires : tie.Need-initial-value-requires Inv-loop μ-loop
 initial-value-requires c κs = c .before .before .before .before .pre .0 .formed
@@ -76,6 +79,7 @@ check-initial-spec =
     loop-holds
     mul-first
     element-copy-out-first
+    cast-first
     initial-value-requires
     cast-is-true
     add-is-true

@@ -9,8 +9,9 @@ use Rattle.truth.proofs.Scans.{Passed, passed-then, passed-each, passed-each-no
 use Rattle.truth.proofs.Skips.{passed-over}
 use Rattle.list.proofs.Pieces.{state-piece}
 use Rattle.piece_tables.proofs.TableLaws.{slots-are}
-use Rattle.checks.specs.Pieces.{locationPiece}
-use Rattle.checks.proofs.KnownLaws.{wf, block-in, groups-piece-of, known-bounded, known-locations, invariant-fits, invariants-piece-of, location-true, location-clauses}
+use Rattle.parts.specs.Pieces.{locationPiece}
+use Rattle.parts.proofs.KnownLaws.{wf, block-in, groups-piece-of, known-bounded, known-locations, invariant-fits, invariants-piece-of}
+use Rattle.checks.proofs.FalseChoices.{location-true, location-clauses}
 use Rattle.checks.proofs.Sequel.{checked-stop}
 use borrow.Author.Needs.{needs}
 use Rattle.checks.proofs.check_state.Statement.{statement}

@@ -1,4 +1,4 @@
-use Rattle.checks.proofs.KnownLaws.{initial-loc, initial-counter, initial-clock}
+use Rattle.parts.proofs.KnownLaws.{initial-loc, initial-counter, initial-clock}
 use Rattle.model.proofs.FormLaws.{formed}
 use native.Mathlib.Omega.{arith}
 use borrow.Author.Needs.{needs}

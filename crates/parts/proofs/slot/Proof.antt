@@ -11,6 +11,9 @@ mul-result c = search needs
 array-read-result : tie.Need-array-read-result
 array-read-result c = search needs
 
+cast-result : tie.Need-cast-result
+cast-result c = search needs
+
 returns : tie.Need-returns
 returns c = search needs
 
@@ -18,4 +21,4 @@ returns-2 : tie.Need-returns-2
 returns-2 c = sym (List·getD-eq-default (c .before .args .t1) 0 (omega (arith, c .before .good .0 .1 .0 .1)))
 
 pub slot-spec : {M : Type 1} → statement M
-slot-spec = tie.close (tie.spec mul-result array-read-result returns returns-2)
+slot-spec = tie.close (tie.spec mul-result array-read-result cast-result returns returns-2)

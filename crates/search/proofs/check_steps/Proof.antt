@@ -8,12 +8,12 @@ use lib.ListN.{length}
 use Rattle.model.specs.Indexed.{each}
 use Rattle.list.specs.Items.{blockAt}
 use Rattle.list.specs.Clauses.{oneHotWidth}
-use Rattle.truth.specs.declared.Part.{Part}
-use Rattle.truth.specs.Parts.{valueClauses, Fits}
+use Rattle.parts.specs.declared.Part.{Part}
+use Rattle.parts.specs.Rules.{valueClauses, Fits}
 use Rattle.truth.proofs.Scans.{Passed, passed-each, passed-each-none, passed-scan, failed-scan, checked-passed, checked-failed}
 use Rattle.piece_tables.proofs.TableLaws.{slots-are}
-use Rattle.checks.specs.Pieces.{edgePiece, edgeClauses, stepClauses}
-use Rattle.checks.proofs.KnownLaws.{wf, known-bounded, known-state, known-choices, known-top, step-in, edge-fits-of}
+use Rattle.parts.specs.Pieces.{edgePiece, edgeClauses, stepClauses}
+use Rattle.parts.proofs.KnownLaws.{wf, known-bounded, known-state, known-choices, known-top, step-in, edge-fits-of}
 use Rattle.search.proofs.StepPieces.{block-next, step-lies, step-small, front-failed, value-failed, state-failed, step-passed, edge-passed, part-passed, edge-skipped}
 use Rattle.model.proofs.FormLaws.{choices-is}
 use borrow.Author.Needs.{needs}

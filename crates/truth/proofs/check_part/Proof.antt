@@ -1,6 +1,6 @@
 use borrow.Author.Needs.{needs}
 use Rattle.truth.proofs.Scans.{Passed, passed-each, passed-each-none, failed-each, passed-scan, failed-scan, checked-passed, checked-failed}
-use Rattle.truth.specs.Parts.{valueClauses, partClauses}
+use Rattle.parts.specs.Rules.{valueClauses, partClauses}
 use Rattle.model.specs.Indexed.{each}
 use borrow.Author.Tests.{not-true, not-false}
 use Prim.Native.Nat.{_+_, _-_, _≤_}

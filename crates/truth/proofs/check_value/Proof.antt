@@ -1,12 +1,12 @@
-use Rattle.truth.specs.declared.Rule.the-variants.{Shift}
+use Rattle.parts.specs.declared.Rule.the-variants.{Shift}
 use mir.Syntax.{w8}
 use mir.Val.{toZ, ofZ}
 use lib.IntN.{ℤ}
 use Rattle.truth.proofs.Scans.{checked-one}
-use Rattle.truth.specs.declared.Part.{Part}
-use Rattle.truth.specs.declared.Rule.{Rule}
+use Rattle.parts.specs.declared.Part.{Part}
+use Rattle.parts.specs.declared.Rule.{Rule}
 use Rattle.truth.specs.Scanning.{Checked}
-use Rattle.truth.specs.Parts.{reach, valueClauses, ruleClauses}
+use Rattle.parts.specs.Rules.{reach, valueClauses, ruleClauses}
 use Rattle.list.specs.Clauses.{bare, negated}
 use lib.ListN.{length}
 use Prim.Native.Nat.{ℕ, _+_, _≤_}

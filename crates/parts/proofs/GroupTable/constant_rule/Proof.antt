@@ -1,0 +1,20 @@
+use Rattle.parts.specs.PartsOf.{greatestAt}
+use borrow.Author.Tests.{le-leb, lt-leb}
+use borrow.Author.Needs.{needs}
+use Rattle.parts.proofs.GroupTable.constant_rule.Statement.{statement}
+use Rattle.parts.proofs.GroupTable.constant_rule.Tie as tie
+
+mul-c : tie.Need-mul-c
+mul-c c = search needs
+
+element-copy-out-c : tie.Need-element-copy-out-c
+element-copy-out-c c = search needs
+
+returns : tie.Need-returns
+returns c = rw (le-leb (c .before .before .before .args .n) (greatestAt (c .before .before .before .args .t1) (c .before .before .before .args .i)) (c .if1 .taken))
+
+returns-2 : tie.Need-returns-2
+returns-2 c = rw (lt-leb (c .before .before .before .args .n) (greatestAt (c .before .before .before .args .t1) (c .before .before .before .args .i)) (c .if1 .left))
+
+pub constant-rule-spec : {M : Type 1} → statement M
+constant-rule-spec = tie.close (tie.spec mul-c element-copy-out-c returns returns-2)
