@@ -79,7 +79,14 @@ fn check_atoms(b: GroupTable, a: &[u8], o: usize, x: usize, atoms: [AtomSlot; 4]
 
 // The state clauses of the state block that begins at `o`: its groups, then the invariants. All clauses of a location that is false
 // are true.
-pub fn check_state(m: Model, b: GroupTable, table: [usize; 16], a: &[u8], o: usize, at: usize) -> Scan
+pub fn check_state(
+    m: Model,
+    b: GroupTable,
+    table: [usize; 16],
+    a: &[u8],
+    o: usize,
+    at: usize,
+) -> Scan
     requires { ⌜ Known m b × Table (invariantOf oneHotWidth m) (m .locations) 16 1024 table × (o ≤ mostVariables) × (o + stateSize m ≤ length (now a)) × (at ≤ 600000000) ⌝ }
     ensures { λ r. ⌜ Checked (now (a .entry)) (clausesOf (stateItems oneHotWidth m o)) at 60000 r ⌝ }
 {

@@ -73,7 +73,7 @@ module _ (m : Model) (ok : WellFormed m) where
       set-fits : (z w : ℕ) (rule : Rule) → z + reach 1 rule ≤ n → Fits (setPart z w rule) n
       set-fits z w rule r = record { size-le = omega arith; before-in = omega (arith, locations-in, ok .initial-ok); after-in = r }
 
-      update-fits : (i : ℕ) (u : Update) → i < m .vars → DeclaredUpdate m u → Fits (updatePart (groupTable m) o i u) n
+      pub update-fits : (i : ℕ) (u : Update) → i < m .vars → DeclaredUpdate m u → Fits (updatePart (groupTable m) o i u) n
       update-fits i KeepIt l d = leads-fits (1 + i) (1 + i) Keep (omega arith) (omega arith) (omega arith)
       update-fits i (Constant c) l d = by (leb c (greatestAt (groupTable m) i)) refl
         where
@@ -82,7 +82,7 @@ module _ (m : Model) (ok : WellFormed m) where
           by false e = set-fits _ _ Forbid (omega (arith, group-fits (1 + i) (omega arith), next-at))
       update-fits i (Sum w z) l d = leads-fits (1 + w) (1 + i) (Shift z (greatestAt (groupTable m) i)) (omega arith) (omega arith) (omega (arith, greatest-is m i, counter-size i l))
 
-      reset-fits : (i : ℕ) (u : ClockUpdate) → i < m .clocks → Fits (resetPart (groupTable m) o i u) n
+      pub reset-fits : (i : ℕ) (u : ClockUpdate) → i < m .clocks → Fits (resetPart (groupTable m) o i u) n
       reset-fits i Unchanged l =
           subst (λ (v : ℕ). Fits (leadsPart (groupTable m) o (1 + v + i) (1 + v + i) Keep) n) (sym (vars-are m))
           (leads-fits (1 + m .vars + i) (1 + m .vars + i) Keep (omega arith) (omega arith) (omega arith))

@@ -29,7 +29,7 @@ use Rattle.list.proofs.OneHot.{next-block-is}
 use Rattle.list.proofs.Pieces.{groups-piece, initial-piece, values-piece, delay-piece, leads-piece, puts-piece, edge-piece, source-piece, target-piece, guard-piece, updates-piece, resets-piece}
 use Rattle.parts.specs.declared.Rule.{Rule}
 use Rattle.parts.specs.declared.Rule.the-variants.{Exclude, Keep, Rise, Shift, Set, Forbid}
-use Rattle.parts.specs.Rules.{ruleClauses, valueClauses, partClauses}
+use Rattle.parts.specs.Rules.{ruleClauses, rowClauses, valueClauses, partClauses}
 use Rattle.parts.specs.StateBlock.{componentAt, groupTable, firstAt, sizeAt}
 use Rattle.parts.specs.PartsOf.{nextAt, excludePart, atomPart, leadsPart, delayPart, setPart, greatestAt, updatePart, resetPart, edgePart}
 use Rattle.parts.proofs.GroupLaws.{group-cases, comp-counter, comp-clock, first-is, size-is, over-groups}
@@ -38,19 +38,16 @@ use Rattle.parts.proofs.EdgeParts.{source-part, target-part, guard-part
 each-one : {A : Type 0} (f : ℕ → List A) → each 1 f ≡ f 0
 each-one f = each-suc 0 f ∙ ap (λ (l : List _). l ++ f 0) (each-zero f)
 
--- one clause for each value
-abbrev row : ℕ → ℕ → ℕ → ℕ → Rule → List Clause
-row x y z n rule = each n (λ v. ruleClauses x (y + v) z v rule)
-
-part-is : (x y z n w : ℕ) (rule : Rule) → partClauses x (record { rule = rule; before = y; size = n; after = z; into = w }) ≡ row x y z n rule
+-- a part is its rule for each value
+pub part-is : (x y z n w : ℕ) (rule : Rule) → partClauses x (record { rule = rule; before = y; size = n; after = z; into = w }) ≡ rowClauses x y z n rule
 unfolding partClauses valueClauses
 part-is x y z n w rule = refl
 
-set-is : (x z w : ℕ) (rule : Rule) → partClauses x (setPart z w rule) ≡ ruleClauses x 0 z 0 rule
+pub set-is : (x z w : ℕ) (rule : Rule) → partClauses x (setPart z w rule) ≡ ruleClauses x 0 z 0 rule
 set-is x z w rule = part-is x 0 z 1 w rule ∙ each-one (λ v. ruleClauses x (0 + v) z v rule)
 
 -- a constant in range is put, one out of range forbids the choice
-constant-is : (x z n : ℕ) (b : Bool) → ruleClauses x 0 z 0 (cond b (Set n) Forbid) ≡ one (negated x ∷ map (λ u. bare (z + u)) (toList (onlyIf b n)))
+pub constant-is : (x z n : ℕ) (b : Bool) → ruleClauses x 0 z 0 (cond b (Set n) Forbid) ≡ one (negated x ∷ map (λ u. bare (z + u)) (toList (onlyIf b n)))
 constant-is x z n true = refl
 constant-is x z n false = refl
 
@@ -116,30 +113,30 @@ module _ (m : Model) where
 
   -- ---- parts of groups
   leads-is : (x o g h : ℕ) (rule : Rule) → g < 9 → h < 9
-      → partClauses x (leadsPart (groupTable m) o g h rule) ≡ row x (o + at (componentAt m g)) (after o + at (componentAt m h)) (groupSize m (componentAt m g)) rule
+      → partClauses x (leadsPart (groupTable m) o g h rule) ≡ rowClauses x (o + at (componentAt m g)) (after o + at (componentAt m h)) (groupSize m (componentAt m g)) rule
   leads-is x o g h rule p q =
       let b = groupTable m in
       part-is x (o + firstAt b g) (nextAt b o + firstAt b h) (sizeAt b g) (sizeAt b h) rule ∙
-      ap₂ (λ (y n : ℕ). row x (o + y) (nextAt b o + firstAt b h) n rule) (first-is m g p) (size-is m g p) ∙
-      ap₂ (λ (y z : ℕ). row x (o + at (componentAt m g)) (y + z) (groupSize m (componentAt m g)) rule) (next-is o) (first-is m h q)
+      ap₂ (λ (y n : ℕ). rowClauses x (o + y) (nextAt b o + firstAt b h) n rule) (first-is m g p) (size-is m g p) ∙
+      ap₂ (λ (y z : ℕ). rowClauses x (o + at (componentAt m g)) (y + z) (groupSize m (componentAt m g)) rule) (next-is o) (first-is m h q)
 
   exclude-is : (x o g : ℕ) (relation : Relation) (constant : ℕ) → g < 9
-      → partClauses x (excludePart (groupTable m) o g relation constant) ≡ row x (o + at (componentAt m g)) 0 (groupSize m (componentAt m g)) (Exclude relation constant)
+      → partClauses x (excludePart (groupTable m) o g relation constant) ≡ rowClauses x (o + at (componentAt m g)) 0 (groupSize m (componentAt m g)) (Exclude relation constant)
   exclude-is x o g relation constant p =
       let b = groupTable m in
       part-is x (o + firstAt b g) 0 (sizeAt b g) 0 (Exclude relation constant) ∙
-      ap₂ (λ (y n : ℕ). row x (o + y) 0 n (Exclude relation constant)) (first-is m g p) (size-is m g p)
+      ap₂ (λ (y n : ℕ). rowClauses x (o + y) 0 n (Exclude relation constant)) (first-is m g p) (size-is m g p)
 
   -- the same, by the component
   leads-from : (x o : ℕ) (rule : Rule) {g h : ℕ} {y z : Component} → g < 9 → h < 9 → componentAt m g ≡ y → componentAt m h ≡ z
-      → partClauses x (leadsPart (groupTable m) o g h rule) ≡ row x (o + at y) (after o + at z) (groupSize m y) rule
+      → partClauses x (leadsPart (groupTable m) o g h rule) ≡ rowClauses x (o + at y) (after o + at z) (groupSize m y) rule
   leads-from x o rule {g} {h} p q e f =
-      leads-is x o g h rule p q ∙ ap₂ (λ (y z : Component). row x (o + at y) (after o + at z) (groupSize m y) rule) e f
+      leads-is x o g h rule p q ∙ ap₂ (λ (y z : Component). rowClauses x (o + at y) (after o + at z) (groupSize m y) rule) e f
 
   exclude-from : (x o : ℕ) (relation : Relation) (constant : ℕ) {g : ℕ} {y : Component} → g < 9 → componentAt m g ≡ y
-      → partClauses x (excludePart (groupTable m) o g relation constant) ≡ row x (o + at y) 0 (groupSize m y) (Exclude relation constant)
+      → partClauses x (excludePart (groupTable m) o g relation constant) ≡ rowClauses x (o + at y) 0 (groupSize m y) (Exclude relation constant)
   exclude-from x o relation constant {g} p e =
-      exclude-is x o g relation constant p ∙ ap (λ (y : Component). row x (o + at y) 0 (groupSize m y) (Exclude relation constant)) e
+      exclude-is x o g relation constant p ∙ ap (λ (y : Component). rowClauses x (o + at y) 0 (groupSize m y) (Exclude relation constant)) e
 
   module _ (ok : WellFormed m) where
     -- ---- an atom
@@ -187,7 +184,7 @@ module _ (m : Model) where
         over-groups m (delayRow o d) ∙ sym (delay-piece m o d)
 
     -- ---- an edge
-    update-law : (o c i : ℕ) (u : Update) → i < m .vars → DeclaredUpdate m u
+    pub update-law : (o c i : ℕ) (u : Update) → i < m .vars → DeclaredUpdate m u
         → partClauses (o + S + c) (updatePart (groupTable m) o i u) ≡ clausesOf (updateItems oneHotWidth m o c i u)
     update-law o c i KeepIt l d =
         leads-from (o + S + c) o Keep (omega (arith, ok .vars-le)) (omega (arith, ok .vars-le)) (comp-counter m i l) (comp-counter m i l) ∙ sym
@@ -203,7 +200,7 @@ module _ (m : Model) where
         leads-from (o + S + c) o (Shift z (counterAt m i .greatest)) (omega (arith, ok .vars-le)) (omega (arith, ok .vars-le)) (comp-counter m w d) (comp-counter m i l) ∙ sym
         (leads-piece m o o c (counter w) (counter i) (shifted z (counterAt m i .greatest)))
 
-    reset-law : (o c i : ℕ) (u : ClockUpdate) → i < m .clocks → partClauses (o + S + c) (resetPart (groupTable m) o i u) ≡ clausesOf (resetItems oneHotWidth m o c i u)
+    pub reset-law : (o c i : ℕ) (u : ClockUpdate) → i < m .clocks → partClauses (o + S + c) (resetPart (groupTable m) o i u) ≡ clausesOf (resetItems oneHotWidth m o c i u)
     reset-law o c i Unchanged l =
         let k : 1 + m .vars + i < 9 = omega (arith, ok .vars-le, ok .clocks-le) in
         ap (λ (v : ℕ). partClauses (o + S + c) (leadsPart (groupTable m) o (1 + v + i) (1 + v + i) Keep)) vars-are ∙

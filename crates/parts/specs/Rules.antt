@@ -12,7 +12,7 @@ use Rattle.parts.specs.declared.Part.{Part}
 
 -- The clauses of a rule for value v, whose variable before is y; `after` is the first variable of the group after.
 -- Exclude: not x, not a value that fails the comparison. Keep, Rise, Shift: not x, not the value, what becomes of it, if that lies in range.
--- Set: not x, the value put. Forbid: not x.
+-- Set: not x, the value set. Forbid: not x.
 abbrev pub ruleClauses : ℕ → ℕ → ℕ → ℕ → Rule → List Clause
 ruleClauses x y after v (Exclude relation constant) = cond (meets relation v constant) [] (one (negated x ∷ negated y ∷ []))
 ruleClauses x y after v Keep = one (negated x ∷ negated y ∷ bare (after + v) ∷ [])
@@ -20,6 +20,10 @@ ruleClauses x y after v (Rise d top) = one (negated x ∷ negated y ∷ bare (af
 ruleClauses x y after v (Shift offset greatest) = one (negated x ∷ negated y ∷ map (λ u. bare (after + u)) (toList (shifted offset greatest v)))
 ruleClauses x y after v (Set u) = one (negated x ∷ bare (after + u) ∷ [])
 ruleClauses x y after v Forbid = one (negated x ∷ [])
+
+-- The clauses of a rule for each of n values, whose variables begin at `before`.
+abbrev pub rowClauses : ℕ → ℕ → ℕ → ℕ → Rule → List Clause
+rowClauses x before after n rule = each n (λ v. ruleClauses x (before + v) after v rule)
 
 -- The clauses of a part for value v.
 unfoldable pub valueClauses : ℕ → Part → ℕ → List Clause

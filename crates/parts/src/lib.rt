@@ -9,7 +9,7 @@ use model::Sizes;
 use model::Update;
 ghost use mathlib.Core.Path.{_≡_};
 ghost use mathlib.Core.Bool.{cond};
-ghost use Prim.Native.Nat.{ℕ, _+_, _<_, _≤_};
+ghost use Prim.Native.Nat.{ℕ, _+_, _<_, _≤_, min};
 ghost use lib.Dec.{T, leb};
 ghost use lib.ListN.{getD};
 ghost use Rattle.model.specs.Automaton.{ceiling, groupSize};
@@ -51,6 +51,13 @@ pub struct GroupTable {
     pub top: u8,
     pub state: usize,
     pub choices: usize,
+}
+
+// The smaller of two numbers.
+pub fn smaller(a: usize, b: usize) -> usize
+    ensures { λ r. ⌜ r ≡ min a b ⌝ }
+{
+    if a < b { a } else { b }
 }
 
 // How many members group `g` of a state block has.

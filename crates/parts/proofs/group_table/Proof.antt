@@ -68,9 +68,16 @@ loop-again c =
     let size = c .group-size in
     let m = c .before .before .before .before .args .m in
     let begins : ℕ → ℕ = λ n. offset oneHotWidth m (componentAt m g) + n in
-    let sum = ap (λ (n : ℕ). n + size .result) (v .5) ∙ ap begins (size .ensures .0) ∙ sym (begins-next m g) in
-    (omega arith, simp length-set (v .1), simp length-set (v .2), v .3, omega (arith, size .ensures .1), sum,
-     filled _ _ _ _ (omega arith) (v .6) (v .5), filled _ _ _ _ (omega arith) (v .7) (size .ensures .0))
+    let sum = ap (λ (n : ℕ). n + size .result) (v .5) ∙ ap begins (size .ensures .0) ∙ sym (begins-next m g) in (
+      omega arith,
+      simp length-set (v .1),
+      simp length-set (v .2),
+      v .3,
+      omega (arith, size .ensures .1),
+      sum,
+      filled _ _ _ _ (omega arith) (v .6) (v .5),
+      filled _ _ _ _ (omega arith) (v .7) (size .ensures .0),
+    )
 
 cast-t17 : tie.Need-cast-t17 Inv-loop μ-loop
 cast-t17 c = search needs
