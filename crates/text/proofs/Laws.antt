@@ -1,0 +1,5 @@
+pub mod Bytewise
+pub mod Pieces
+pub mod Slots
+pub mod Keeping
+pub mod Accepted

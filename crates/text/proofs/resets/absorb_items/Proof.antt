@@ -1,0 +1,73 @@
+use borrow.Author.Needs.{needs}
+use Rattle.text.specs.resets.OnePass.{absorbed, noResets}
+use Rattle.text.specs.resets.Resets.{resetOf}
+use Rattle.text.proofs.Laws.Pieces.{absorb-last, absorb-more}
+use Rattle.text.specs.bytes.Bytes.{splitOn}
+use lib.ListN.{length, drop}
+use native.Mathlib.Omega.{arith}
+use mathlib.Core.List.{map, foldl}
+use mathlib.Core.Path.{_≡_, ap, _∙_}
+use Prim.Native.Nat.{_-_, _≤_}
+use Rattle.text.proofs.resets.absorb_items.Statement.{statement}
+use Rattle.text.proofs.resets.absorb_items.Tie as tie
+
+abbrev Inv-loop : tie.InvT-loop
+Inv-loop v clocks s₀ i₀ s i = (i ≤ length v) × (foldl (absorbed clocks) s (map resetOf (splitOn 44 (drop i v))) ≡ foldl (absorbed clocks) noResets (map resetOf (splitOn 44 v)))
+
+abbrev μ-loop : tie.MeasureT-loop
+μ-loop v clocks s₀ i₀ s i = length v - i
+
+none-requires : tie.Need-none-requires Inv-loop μ-loop
+none-requires c κs = search needs
+
+loop-holds : tie.Need-loop-holds Inv-loop μ-loop
+loop-holds c = (search needs, rw (c .none .ensures))
+
+find-requires : tie.Need-find-requires Inv-loop μ-loop
+find-requires c κs = search needs
+
+sub-item : tie.Need-sub-item Inv-loop μ-loop
+sub-item c = search needs
+
+part-item-start : tie.Need-part-item-start Inv-loop μ-loop
+part-item-start c = search needs
+
+part-item-end : tie.Need-part-item-end Inv-loop μ-loop
+part-item-end c = search needs
+
+item-requires : tie.Need-item-requires Inv-loop μ-loop
+item-requires c κs = search needs
+
+absorb-requires : tie.Need-absorb-requires Inv-loop μ-loop
+absorb-requires c κs = search needs
+
+returns : tie.Need-returns Inv-loop μ-loop
+returns c = absorb-last (absorbed _) resetOf 44 _ (c .before .before .before .before .before .loop .i) (c .before .before .before .before .find .result) (c .before .before .before .before .before .loop .s) _ (c .before .before .before .before .before .loop .inv .0) (c .before .before .before .before .find .ensures .place) (c .before .absorb .ensures ∙ ap (absorbed _ _) (c .before .before .item .ensures)) (c .if1 .taken) ∙ c .before .before .before .before .before .loop .inv .1
+
+add-i : tie.Need-add-i Inv-loop μ-loop
+add-i c = omega (arith, c .if1 .left)
+
+loop-less : tie.Need-loop-less Inv-loop μ-loop
+loop-less c = omega (arith, c .if1 .left)
+
+loop-again : tie.Need-loop-again Inv-loop μ-loop
+loop-again c = (omega (arith, c .if1 .left), absorb-more (absorbed _) resetOf 44 _ (c .before .before .before .before .before .loop .i) (c .before .before .before .before .find .result) (c .before .before .before .before .before .loop .s) _ (c .before .before .before .before .before .loop .inv .0) (c .before .before .before .before .find .ensures .place) (c .before .absorb .ensures ∙ ap (absorbed _ _) (c .before .before .item .ensures)) (c .if1 .left) ∙ c .before .before .before .before .before .loop .inv .1)
+
+pub absorb-items-spec : {M : Type 1} → statement M
+absorb-items-spec =
+    tie.close
+    (tie.spec
+    Inv-loop
+    μ-loop
+    none-requires
+    loop-holds
+    find-requires
+    sub-item
+    part-item-start
+    part-item-end
+    item-requires
+    absorb-requires
+    returns
+    add-i
+    loop-less
+    loop-again)

@@ -1,0 +1,78 @@
+-- One pass over the items comes to the tests over all items, and to the slots where none fails.
+use Prim.Native.Nat.{ℕ, _<_}
+use mathlib.Core.Path.{_≡_, refl, sym, _∙_}
+use mathlib.Core.List.{List, [], _∷_, foldl}
+use mathlib.Core.Bool.{Bool, true, false, cond, _||_}
+use native.Mathlib.Omega.{arith}
+use lib.ListN.{length, set, replicate, length-set}
+use lib.Seq.{set-out}
+use lib.Dec.{ltb, leb, eqb}
+use borrow.Author.Tests.{lt-ltb, leb-false, ltb-false, eqb-true}
+use Rattle.text.specs.bytes.Faulty.{faultNumber, anyOf}
+use Rattle.text.proofs.bytes.Flags.{flag, unflagged, unrising, any-head, any-tail, same-faults, passed}
+use Rattle.model.specs.declared.Update.{Update}
+use Rattle.model.specs.declared.UpdateSlot.{UpdateSlot}
+use Rattle.model.specs.Record.{blankUpdate}
+use Rattle.text.specs.declared.updates.SetRead.{SetRead}
+use Rattle.text.specs.declared.updates.SetRead.the-variants.{Malformed, ToConstant, ToSum}
+use Rattle.text.specs.declared.updates.SetsRead.{SetsRead}
+use Rattle.text.specs.updates.Sets.{isMalformed, isOutside, isUndeclared, counterOf, setFaults, updateIn, placed, updateSlots, setLine}
+use Rattle.text.specs.updates.OnePass.{storedUpdate, put, absorbed, noSets, lineIn}
+
+faults-are : (vars : ℕ) (items : List SetRead) → foldl (absorbed vars) noSets items .faults ≡ setFaults vars items
+unfolding setFaults noSets absorbed
+faults-are vars items =
+    let step = absorbed vars in
+    same-faults (foldl step noSets items .faults)
+    (flag step (λ s. s .faults .malformed) isMalformed (λ s a. refl) items noSets)
+    (unflagged step (λ s. s .faults .crowded) (λ s a. refl) items noSets)
+    (flag step (λ s. s .faults .outside) isOutside (λ s a. refl) items noSets)
+    (flag step (λ s. s .faults .undeclared) (isUndeclared vars) (λ s a. refl) items noSets)
+    (unrising step (λ s. s .faults .unordered) (λ s. s .least) counterOf (λ s a. refl) (λ s a. refl) items noSets)
+
+pub or-false-left : (a b : Bool) → (a || b) ≡ false → a ≡ false
+or-false-left true b h = h
+or-false-left false b h = refl
+
+pub or-false-right : (a b : Bool) → (a || b) ≡ false → b ≡ false
+or-false-right true b h = absurd (omega (arith, absurd-true h))
+  where
+    absurd-true : true ≡ false → _≡_ {A = ℕ} 0 1
+    absurd-true e = cc
+or-false-right false b h = h
+
+module _ (vars : ℕ) (p : vars < 256) where
+  stored-is : (a : SetRead) → isOutside a ≡ false → isUndeclared vars a ≡ false → storedUpdate a ≡ updateIn a
+  stored-is Malformed o u = refl
+  stored-is (ToConstant v c) o u = rw (lt-ltb c 256 (omega (arith, ltb-false 31 c o)))
+  stored-is (ToSum v w negative n) o u = rw (lt-ltb w 256 (omega (arith, leb-false vars w (or-false-right (leb vars v) (leb vars w) u))), o)
+
+  put-is : (slots : List UpdateSlot) (k : ℕ) (x : Update) → length slots ≡ 4 → put slots k x ≡ set slots k (record { update = x })
+  unfolding put
+  put-is slots k x n = go (ltb k 4) refl
+    where
+      go : (b : Bool) → ltb k 4 ≡ b → cond b (set slots k (record { update = x })) slots ≡ set slots k (record { update = x })
+      go true e = refl
+      go false e = sym (set-out slots k (record { update = x }) (omega (arith, ltb-false k 4 e)))
+
+  slots-are : (l : List SetRead) (s : SetsRead) (slots : List UpdateSlot) → length slots ≡ 4 → s .updates ≡ slots → anyOf isOutside l ≡ false → anyOf (isUndeclared vars) l ≡ false
+      → foldl (absorbed vars) s l .updates ≡ foldl placed slots l
+  unfolding absorbed
+  slots-are [] s slots n e o u = e
+  slots-are (a ∷ l) s slots n e o u =
+      slots-are l (absorbed vars s a) (placed slots a) (length-set slots (counterOf a) (record { update = updateIn a }) ∙ n)
+      (rw (e, stored-is a (any-head isOutside a l o) (any-head (isUndeclared vars) a l u)) (put-is slots (counterOf a) (updateIn a) n))
+      (any-tail isOutside a l o)
+      (any-tail (isUndeclared vars) a l u)
+
+  filled : (items : List SetRead) → faultNumber (setFaults vars items) ≡ 0 → foldl (absorbed vars) noSets items .updates ≡ updateSlots items
+  unfolding setFaults updateSlots noSets
+  filled items h = let g = passed (setFaults vars items) h in slots-are items noSets (replicate 4 blankUpdate) refl refl (g .inside) (g .declared)
+
+  pub by-stages : (items : List SetRead) → lineIn (foldl (absorbed vars) noSets items) ≡ setLine vars items
+  unfolding lineIn setLine
+  by-stages items = rw (faults-are vars items) (λ i. record { faults = setFaults vars items; updates = go (eqb (faultNumber (setFaults vars items)) 0) refl i })
+    where
+      go : (b : Bool) → eqb (faultNumber (setFaults vars items)) 0 ≡ b → cond b (foldl (absorbed vars) noSets items .updates) (replicate 4 blankUpdate) ≡ cond b (updateSlots items) (replicate 4 blankUpdate)
+      go true e = filled items (eqb-true _ _ e)
+      go false e = refl
