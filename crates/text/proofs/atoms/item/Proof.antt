@@ -4,12 +4,6 @@ use borrow.Author.Needs.{needs}
 use Rattle.text.proofs.atoms.item.Statement.{statement}
 use Rattle.text.proofs.atoms.item.Tie as tie
 
-atom-requires : tie.Need-atom-requires
-atom-requires c κs = search needs
-
-on-clocks-requires : tie.Need-on-clocks-requires
-on-clocks-requires c κs = search needs
-
 returns : tie.Need-returns
 returns c = rw (c .if1 .taken) (c .before .atom .ensures)
 
@@ -17,4 +11,4 @@ returns-2 : tie.Need-returns-2
 returns-2 c = rw (c .before .if1 .left) (c .on-clocks .ensures ∙ ap onClocks (c .before .before .atom .ensures))
 
 pub item-spec : {M : Type 1} → statement M
-item-spec = tie.close (tie.spec atom-requires on-clocks-requires returns returns-2)
+item-spec = tie.close (tie.spec (search needs) (search needs) returns returns-2)

@@ -4,9 +4,6 @@ use borrow.Author.Needs.{needs}
 use Rattle.text.proofs.atoms.named_atom.Statement.{statement}
 use Rattle.text.proofs.atoms.named_atom.Tie as tie
 
-clock-atom-requires : tie.Need-clock-atom-requires
-clock-atom-requires c κs = search needs
-
 returns : tie.Need-returns
 returns c = c .clock-atom .ensures ∙ rw (eq-eqb _ _ (c .before .if1 .taken))
 
@@ -17,4 +14,4 @@ returns-3 : tie.Need-returns-3
 returns-3 c = rw (ne-eqb _ _ (c .before .if1 .left), ne-eqb _ _ (c .if2 .left))
 
 pub named-atom-spec : {M : Type 1} → statement M
-named-atom-spec = tie.close (tie.spec clock-atom-requires returns returns-2 returns-3)
+named-atom-spec = tie.close (tie.spec (search needs) returns returns-2 returns-3)

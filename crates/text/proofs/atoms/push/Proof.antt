@@ -4,12 +4,6 @@ use borrow.Author.Needs.{needs}
 use Rattle.text.proofs.atoms.push.Statement.{statement}
 use Rattle.text.proofs.atoms.push.Tie as tie
 
-mul-slots : tie.Need-mul-slots
-mul-slots c = search needs
-
-array-set-from-slots : tie.Need-array-set-from-slots
-array-set-from-slots c = search needs
-
 returns : tie.Need-returns
 unfolding pushed
 returns c = rw (lt-ltb _ _ (c .if1 .taken))
@@ -19,4 +13,4 @@ unfolding pushed
 returns-2 c = rw (le-ltb _ _ (c .if1 .left))
 
 pub push-spec : {M : Type 1} → statement M
-push-spec = tie.close (tie.spec mul-slots array-set-from-slots returns returns-2)
+push-spec = tie.close (tie.spec (search needs) (search needs) returns returns-2)

@@ -3,9 +3,6 @@ use borrow.Author.Needs.{needs}
 use Rattle.text.proofs.bytes.is_hyphen.Statement.{statement}
 use Rattle.text.proofs.bytes.is_hyphen.Tie as tie
 
-shared-slice-read-result : tie.Need-shared-slice-read-result
-shared-slice-read-result c = search needs
-
 returns : tie.Need-returns
 returns c = isHyphen-one _ (c .before .if1 .taken)
 
@@ -13,4 +10,4 @@ returns-2 : tie.Need-returns-2
 returns-2 c = isHyphen-more _ (c .if1 .left)
 
 pub is-hyphen-spec : {M : Type 1} → statement M
-is-hyphen-spec = tie.close (tie.spec shared-slice-read-result returns returns-2)
+is-hyphen-spec = tie.close (tie.spec (search needs) returns returns-2)

@@ -5,38 +5,11 @@ use borrow.Author.Needs.{needs}
 use Rattle.text.proofs.bytes.number.Statement.{statement}
 use Rattle.text.proofs.bytes.number.Tie as tie
 
-shared-slice-read-one-digit : tie.Need-shared-slice-read-one-digit
-shared-slice-read-one-digit c = search needs
-
-one-digit-requires : tie.Need-one-digit-requires
-one-digit-requires c κs = search needs
-
 returns : tie.Need-returns
 returns c = c .one-digit .ensures ∙ ap numberOf (list1 _ (c .before .before .if1 .taken))
 
-shared-slice-read-two-digits : tie.Need-shared-slice-read-two-digits
-shared-slice-read-two-digits c = search needs
-
-shared-slice-read-two-digits-2 : tie.Need-shared-slice-read-two-digits-2
-shared-slice-read-two-digits-2 c = search needs
-
-two-digits-requires : tie.Need-two-digits-requires
-two-digits-requires c κs = search needs
-
 returns-2 : tie.Need-returns-2
 returns-2 c = c .two-digits .ensures ∙ ap numberOf (list2 _ (c .before .before .before .if2 .taken))
-
-shared-slice-read-three-digits : tie.Need-shared-slice-read-three-digits
-shared-slice-read-three-digits c = search needs
-
-shared-slice-read-three-digits-2 : tie.Need-shared-slice-read-three-digits-2
-shared-slice-read-three-digits-2 c = search needs
-
-shared-slice-read-three-digits-3 : tie.Need-shared-slice-read-three-digits-3
-shared-slice-read-three-digits-3 c = search needs
-
-three-digits-requires : tie.Need-three-digits-requires
-three-digits-requires c κs = search needs
 
 returns-3 : tie.Need-returns-3
 returns-3 c = c .three-digits .ensures ∙ ap numberOf (list3 _ (c .before .before .before .before .if3 .taken))
@@ -48,16 +21,16 @@ pub number-spec : {M : Type 1} → statement M
 number-spec =
     tie.close
     (tie.spec
-    shared-slice-read-one-digit
-    one-digit-requires
+    (search needs)
+    (search needs)
     returns
-    shared-slice-read-two-digits
-    shared-slice-read-two-digits-2
-    two-digits-requires
+    (search needs)
+    (search needs)
+    (search needs)
     returns-2
-    shared-slice-read-three-digits
-    shared-slice-read-three-digits-2
-    shared-slice-read-three-digits-3
-    three-digits-requires
+    (search needs)
+    (search needs)
+    (search needs)
+    (search needs)
     returns-3
     returns-4)

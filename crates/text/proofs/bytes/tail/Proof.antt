@@ -6,18 +6,6 @@ use borrow.Author.Needs.{needs}
 use Rattle.text.proofs.bytes.tail.Statement.{statement}
 use Rattle.text.proofs.bytes.tail.Tie as tie
 
-sub-result : tie.Need-sub-result
-sub-result c = search needs
-
-part-result-start : tie.Need-part-result-start
-part-result-start c = search needs
-
-part-result-end : tie.Need-part-result-end
-part-result-end c = search needs
-
-slice-aggregate-result : tie.Need-slice-aggregate-result
-slice-aggregate-result c = search needs
-
 returns : tie.Need-returns
 returns c = part-to-end (c .before .before .args .s .now) (c .before .before .args .a)
 
@@ -28,9 +16,9 @@ pub tail-spec : {M : Type 1} → statement M
 tail-spec =
     tie.close
     (tie.spec
-    sub-result
-    part-result-start
-    part-result-end
-    slice-aggregate-result
+    (search needs)
+    (search needs)
+    (search needs)
+    (search needs)
     returns
     returns-2)

@@ -8,18 +8,6 @@ use borrow.Author.Needs.{needs}
 use Rattle.text.proofs.edges.from_line.Statement.{statement}
 use Rattle.text.proofs.edges.from_line.Tie as tie
 
-slice-aggregate-reference-due : tie.Need-slice-aggregate-reference-due
-slice-aggregate-reference-due c = search needs
-
-reference-due-requires : tie.Need-reference-due-requires
-reference-due-requires c κs = search needs
-
-with-source-requires : tie.Need-with-source-requires
-with-source-requires c κs = search needs
-
-settled-requires : tie.Need-settled-requires
-settled-requires c κs = search needs
-
 returns : tie.Need-returns
 unfolding fromLine
 returns c = reference-reads (ascii "from=") (λ m n. withSource m (c .before .before .before .before .before .before .before .before .args .e) n) (c .before .before .before .before .before .before .before .before .args .text .now) (c .before .before .before .before .before .before .before .before .args .r) (c .settled .result) (c .before .before .before .before .reference-due .result) (c .before .before .before .before .before .before .before .before .pre) (c .before .before .before .before .reference-due .ensures) (c .settled .ensures ∙ ap (settled (told (c .before .before .before .before .before .before .before .before .args .r)) (c .before .before .before .before .reference-due .result .due) (c .before .before .before .before .reference-due .result .faults)) (c .before .with-source .ensures))
@@ -28,8 +16,8 @@ pub from-line-spec : {M : Type 1} → statement M
 from-line-spec =
     tie.close
     (tie.spec
-    slice-aggregate-reference-due
-    reference-due-requires
-    with-source-requires
-    settled-requires
+    (search needs)
+    (search needs)
+    (search needs)
+    (search needs)
     returns)

@@ -14,20 +14,11 @@ Inv-loop text n q₀ e₀ q e = (e ≤ n) × (n ≡ q₀ .model .used) × Reads 
 abbrev μ-loop : tie.MeasureT-loop
 μ-loop text n q₀ e₀ q e = n - e
 
-cast-n : tie.Need-cast-n Inv-loop μ-loop
-cast-n c = search needs
-
 loop-holds : tie.Need-loop-holds Inv-loop μ-loop
 loop-holds c = (search needs, refl, turn-none _ readEdge (c .before .before .before .pre))
 
 read-edge-requires : tie.Need-read-edge-requires Inv-loop μ-loop
 read-edge-requires c κs = c .before .loop .inv .2 .placed
-
-add-e : tie.Need-add-e Inv-loop μ-loop
-add-e c = search needs
-
-loop-less : tie.Need-loop-less Inv-loop μ-loop
-loop-less c = search needs
 
 loop-again : tie.Need-loop-again Inv-loop μ-loop
 loop-again c = (search needs, c .before .before .loop .inv .1, turn-more _ readEdge (c .before .before .loop .e) (c .before .before .loop .inv .2) (c .read-edge .ensures))
@@ -42,10 +33,10 @@ read-edges-spec =
     (tie.spec
     Inv-loop
     μ-loop
-    cast-n
+    (search needs)
     loop-holds
     read-edge-requires
-    add-e
-    loop-less
+    (search needs)
+    (search needs)
     loop-again
     returns)

@@ -8,30 +8,6 @@ use borrow.Author.Needs.{needs}
 use Rattle.text.proofs.edges.reset_line.Statement.{statement}
 use Rattle.text.proofs.edges.reset_line.Tie as tie
 
-slice-aggregate-due-at : tie.Need-slice-aggregate-due-at
-slice-aggregate-due-at c = search needs
-
-due-at-requires : tie.Need-due-at-requires
-due-at-requires c κs = search needs
-
-sub-reset-line : tie.Need-sub-reset-line
-sub-reset-line c = search needs
-
-part-reset-line-start : tie.Need-part-reset-line-start
-part-reset-line-start c = search needs
-
-part-reset-line-end : tie.Need-part-reset-line-end
-part-reset-line-end c = search needs
-
-reset-line-requires : tie.Need-reset-line-requires
-reset-line-requires c κs = search needs
-
-with-resets-requires : tie.Need-with-resets-requires
-with-resets-requires c κs = search needs
-
-settled-requires : tie.Need-settled-requires
-settled-requires c κs = search needs
-
 returns : tie.Need-returns
 unfolding resetLine
 returns c = reset-reads (ascii "reset=") (c .before .before .before .before .before .before .before .before .before .before .args .text .now) (c .before .before .before .before .before .before .before .before .before .before .args .r) (c .settled .result) (c .before .before .before .before .before .before .due-at .result) (c .before .before .before .before .before .before .before .before .before .before .pre) (c .before .before .before .before .before .before .due-at .ensures) (λ m x. withResets m (c .before .before .before .before .before .before .before .before .before .before .args .e) x) (c .before .before .before .before .reset-line .result) (c .before .before .before .before .reset-line .ensures) (c .settled .ensures ∙ ap (settled (told (c .before .before .before .before .before .before .before .before .before .before .args .r)) (c .before .before .before .before .before .before .due-at .result) (c .before .before .before .before .reset-line .result .faults)) (c .before .with-resets .ensures))
@@ -40,12 +16,12 @@ pub reset-line-spec : {M : Type 1} → statement M
 reset-line-spec =
     tie.close
     (tie.spec
-    slice-aggregate-due-at
-    due-at-requires
-    sub-reset-line
-    part-reset-line-start
-    part-reset-line-end
-    reset-line-requires
-    with-resets-requires
-    settled-requires
+    (search needs)
+    (search needs)
+    (search needs)
+    (search needs)
+    (search needs)
+    (search needs)
+    (search needs)
+    (search needs)
     returns)

@@ -8,18 +8,6 @@ use borrow.Author.Needs.{needs}
 use Rattle.text.proofs.edges.to_line.Statement.{statement}
 use Rattle.text.proofs.edges.to_line.Tie as tie
 
-slice-aggregate-reference-due : tie.Need-slice-aggregate-reference-due
-slice-aggregate-reference-due c = search needs
-
-reference-due-requires : tie.Need-reference-due-requires
-reference-due-requires c κs = search needs
-
-with-edge-target-requires : tie.Need-with-edge-target-requires
-with-edge-target-requires c κs = search needs
-
-settled-requires : tie.Need-settled-requires
-settled-requires c κs = search needs
-
 returns : tie.Need-returns
 unfolding toLine
 returns c = reference-reads (ascii "to=") (λ m n. withEdgeTarget m (c .before .before .before .before .before .before .before .before .args .e) n) (c .before .before .before .before .before .before .before .before .args .text .now) (c .before .before .before .before .before .before .before .before .args .r) (c .settled .result) (c .before .before .before .before .reference-due .result) (c .before .before .before .before .before .before .before .before .pre) (c .before .before .before .before .reference-due .ensures) (c .settled .ensures ∙ ap (settled (told (c .before .before .before .before .before .before .before .before .args .r)) (c .before .before .before .before .reference-due .result .due) (c .before .before .before .before .reference-due .result .faults)) (c .before .with-edge-target .ensures))
@@ -28,8 +16,8 @@ pub to-line-spec : {M : Type 1} → statement M
 to-line-spec =
     tie.close
     (tie.spec
-    slice-aggregate-reference-due
-    reference-due-requires
-    with-edge-target-requires
-    settled-requires
+    (search needs)
+    (search needs)
+    (search needs)
+    (search needs)
     returns)

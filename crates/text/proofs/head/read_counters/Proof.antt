@@ -15,20 +15,11 @@ Inv-loop text n q₀ i₀ q i = (i ≤ n) × (n ≡ q₀ .model .vars) × Reads 
 abbrev μ-loop : tie.MeasureT-loop
 μ-loop text n q₀ i₀ q i = n - i
 
-cast-n : tie.Need-cast-n Inv-loop μ-loop
-cast-n c = search needs
-
 loop-holds : tie.Need-loop-holds Inv-loop μ-loop
 loop-holds c = (search needs, refl, turn-none _ varLine (c .before .before .before .pre))
 
 var-line-requires : tie.Need-var-line-requires Inv-loop μ-loop
 var-line-requires c κs = c .before .loop .inv .2 .placed
-
-add-i : tie.Need-add-i Inv-loop μ-loop
-add-i c = search needs
-
-loop-less : tie.Need-loop-less Inv-loop μ-loop
-loop-less c = search needs
 
 loop-again : tie.Need-loop-again Inv-loop μ-loop
 loop-again c = (search needs, c .before .before .loop .inv .1, turn-more _ varLine (c .before .before .loop .i) (c .before .before .loop .inv .2) (c .var-line .ensures))
@@ -43,10 +34,10 @@ read-counters-spec =
     (tie.spec
     Inv-loop
     μ-loop
-    cast-n
+    (search needs)
     loop-holds
     var-line-requires
-    add-i
-    loop-less
+    (search needs)
+    (search needs)
     loop-again
     returns)

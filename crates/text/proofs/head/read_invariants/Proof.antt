@@ -15,20 +15,11 @@ Inv-loop text n q₀ l₀ q l = (l ≤ n) × (n ≡ q₀ .model .locations) × R
 abbrev μ-loop : tie.MeasureT-loop
 μ-loop text n q₀ l₀ q l = n - l
 
-cast-n : tie.Need-cast-n Inv-loop μ-loop
-cast-n c = search needs
-
 loop-holds : tie.Need-loop-holds Inv-loop μ-loop
 loop-holds c = (search needs, refl, turn-none _ invLine (c .before .before .before .pre))
 
 inv-line-requires : tie.Need-inv-line-requires Inv-loop μ-loop
 inv-line-requires c κs = c .before .loop .inv .2 .placed
-
-add-l : tie.Need-add-l Inv-loop μ-loop
-add-l c = search needs
-
-loop-less : tie.Need-loop-less Inv-loop μ-loop
-loop-less c = search needs
 
 loop-again : tie.Need-loop-again Inv-loop μ-loop
 loop-again c = (search needs, c .before .before .loop .inv .1, turn-more _ invLine (c .before .before .loop .l) (c .before .before .loop .inv .2) (c .inv-line .ensures))
@@ -43,10 +34,10 @@ read-invariants-spec =
     (tie.spec
     Inv-loop
     μ-loop
-    cast-n
+    (search needs)
     loop-holds
     inv-line-requires
-    add-l
-    loop-less
+    (search needs)
+    (search needs)
     loop-again
     returns)

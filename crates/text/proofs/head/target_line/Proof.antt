@@ -6,15 +6,6 @@ use borrow.Author.Needs.{needs}
 use Rattle.text.proofs.head.target_line.Statement.{statement}
 use Rattle.text.proofs.head.target_line.Tie as tie
 
-slice-aggregate-reference-due : tie.Need-slice-aggregate-reference-due
-slice-aggregate-reference-due c = search needs
-
-reference-due-requires : tie.Need-reference-due-requires
-reference-due-requires c κs = search needs
-
-settled-requires : tie.Need-settled-requires
-settled-requires c κs = search needs
-
 returns : tie.Need-returns
 unfolding targetLine withTarget
 returns c = reference-reads (ascii "target=") withTarget (c .before .before .before .before .before .before .before .args .text .now) (c .before .before .before .before .before .before .before .args .r) (c .settled .result) (c .before .before .before .reference-due .result) (c .before .before .before .before .before .before .before .pre) (c .before .before .before .reference-due .ensures) (c .settled .ensures)
@@ -22,4 +13,4 @@ returns c = reference-reads (ascii "target=") withTarget (c .before .before .bef
 pub target-line-spec : {M : Type 1} → statement M
 target-line-spec =
     tie.close
-    (tie.spec slice-aggregate-reference-due reference-due-requires settled-requires returns)
+    (tie.spec (search needs) (search needs) (search needs) returns)

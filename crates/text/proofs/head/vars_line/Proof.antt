@@ -7,19 +7,10 @@ use borrow.Author.Needs.{needs}
 use Rattle.text.proofs.head.vars_line.Statement.{statement}
 use Rattle.text.proofs.head.vars_line.Tie as tie
 
-slice-aggregate-number-due : tie.Need-slice-aggregate-number-due
-slice-aggregate-number-due c = search needs
-
-number-due-requires : tie.Need-number-due-requires
-number-due-requires c κs = search needs
-
-settled-requires : tie.Need-settled-requires
-settled-requires c κs = search needs
-
 returns : tie.Need-returns
 unfolding varsLine withVars
 returns c = number-reads (ascii "vars=") 0 4 (omega arith) withVars (c .before .before .before .before .before .before .before .args .text .now) (c .before .before .before .before .before .before .before .args .r) (c .settled .result) (c .before .before .before .before .number-due .result) (c .before .before .before .before .before .before .before .pre) (c .before .before .before .before .number-due .ensures) (c .settled .ensures)
 
 pub vars-line-spec : {M : Type 1} → statement M
 vars-line-spec =
-    tie.close (tie.spec slice-aggregate-number-due number-due-requires settled-requires returns)
+    tie.close (tie.spec (search needs) (search needs) (search needs) returns)

@@ -7,12 +7,6 @@ use borrow.Author.Needs.{needs}
 use Rattle.text.proofs.head.with_counter.Statement.{statement}
 use Rattle.text.proofs.head.with_counter.Tie as tie
 
-mul-c : tie.Need-mul-c
-mul-c c = search needs
-
-element-set-from-c : tie.Need-element-set-from-c
-element-set-from-c c = search needs
-
 returns : tie.Need-returns
 unfolding withCounter
 returns c = refl
@@ -21,4 +15,4 @@ returns-2 : tie.Need-returns-2
 returns-2 c = counter-out (c .before .args .m) (c .before .args .i) (c .before .args .c) (omega (arith, lengths (c .before .args .m) _ (c .before .good .0) .counters))
 
 pub with-counter-spec : {M : Type 1} → statement M
-with-counter-spec = tie.close (tie.spec mul-c element-set-from-c returns returns-2)
+with-counter-spec = tie.close (tie.spec (search needs) (search needs) returns returns-2)

@@ -7,12 +7,6 @@ use borrow.Author.Needs.{needs}
 use Rattle.text.proofs.head.with_invariant.Statement.{statement}
 use Rattle.text.proofs.head.with_invariant.Tie as tie
 
-mul-t7 : tie.Need-mul-t7
-mul-t7 c = search needs
-
-element-set-from-next : tie.Need-element-set-from-next
-element-set-from-next c = search needs
-
 returns : tie.Need-returns
 unfolding withInvariant
 returns c = refl
@@ -21,4 +15,4 @@ returns-2 : tie.Need-returns-2
 returns-2 c = invariant-out (c .before .args .m) (c .before .args .l) (c .before .args .atoms) (omega (arith, lengths (c .before .args .m) _ (c .before .good .0) .invariants))
 
 pub with-invariant-spec : {M : Type 1} → statement M
-with-invariant-spec = tie.close (tie.spec mul-t7 element-set-from-next returns returns-2)
+with-invariant-spec = tie.close (tie.spec (search needs) (search needs) returns returns-2)

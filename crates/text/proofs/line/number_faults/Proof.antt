@@ -3,15 +3,9 @@ use borrow.Author.Needs.{needs}
 use Rattle.text.proofs.line.number_faults.Statement.{statement}
 use Rattle.text.proofs.line.number_faults.Tie as tie
 
-is-malformed-requires : tie.Need-is-malformed-requires
-is-malformed-requires c κs = search needs
-
-lies-outside-requires : tie.Need-lies-outside-requires
-lies-outside-requires c κs = search needs
-
 returns : tie.Need-returns
 unfolding numberFaults
 returns c = rw (c .lies-outside .ensures, c .before .is-malformed .ensures)
 
 pub number-faults-spec : {M : Type 1} → statement M
-number-faults-spec = tie.close (tie.spec is-malformed-requires lies-outside-requires returns)
+number-faults-spec = tie.close (tie.spec (search needs) (search needs) returns)

@@ -4,9 +4,6 @@ use borrow.Author.Needs.{needs}
 use Rattle.text.proofs.resets.put.Statement.{statement}
 use Rattle.text.proofs.resets.put.Tie as tie
 
-array-set-from-resets : tie.Need-array-set-from-resets
-array-set-from-resets c = search needs
-
 returns : tie.Need-returns
 unfolding put
 returns c = rw (lt-ltb _ _ (c .if1 .taken))
@@ -16,4 +13,4 @@ unfolding put
 returns-2 c = rw (le-ltb _ _ (c .if1 .left))
 
 pub put-spec : {M : Type 1} → statement M
-put-spec = tie.close (tie.spec array-set-from-resets returns returns-2)
+put-spec = tie.close (tie.spec (search needs) returns returns-2)

@@ -2,17 +2,8 @@ use borrow.Author.Needs.{needs}
 use Rattle.text.proofs.resets.reset_named.Statement.{statement}
 use Rattle.text.proofs.resets.reset_named.Tie as tie
 
-enum-told : tie.Need-enum-told
-enum-told c = search needs
-
-enum-known-x : tie.Need-enum-known-x
-enum-known-x c = search needs
-
-returns : tie.Need-returns
-returns c = search needs
-
 returns-2 : tie.Need-returns-2
 returns-2 c = rw (c .before .x .given .1)
 
 pub reset-named-spec : {M : Type 1} → statement M
-reset-named-spec = tie.close (tie.spec enum-told enum-known-x returns returns-2)
+reset-named-spec = tie.close (tie.spec (search needs) (search needs) (λ c. search needs) returns-2)

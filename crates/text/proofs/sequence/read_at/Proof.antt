@@ -3,17 +3,8 @@ use borrow.Author.Needs.{needs}
 use Rattle.text.proofs.sequence.read_at.Statement.{statement}
 use Rattle.text.proofs.sequence.read_at.Tie as tie
 
-within-requires : tie.Need-within-requires
-within-requires c κs = search needs
-
-unread-requires : tie.Need-unread-requires
-unread-requires c κs = search needs
-
 read-declarations-requires : tie.Need-read-declarations-requires
 read-declarations-requires c κs = unread-placed _ (c .before .before .before .args .at) (c .before .within .result) (c .unread .result) (c .before .within .ensures) (c .unread .ensures)
-
-read-edges-requires : tie.Need-read-edges-requires
-read-edges-requires c κs = search needs
 
 returns : tie.Need-returns
 returns c = read-from _ (c .before .before .before .before .before .args .at) (c .before .before .before .within .result) (c .before .before .unread .result) (c .before .before .before .within .ensures) (c .before .before .unread .ensures) (c .before .read-declarations .ensures) (c .read-edges .ensures)
@@ -22,8 +13,8 @@ pub read-at-spec : {M : Type 1} → statement M
 read-at-spec =
     tie.close
     (tie.spec
-    within-requires
-    unread-requires
+    (search needs)
+    (search needs)
     read-declarations-requires
-    read-edges-requires
+    (search needs)
     returns)

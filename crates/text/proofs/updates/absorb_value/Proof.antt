@@ -4,15 +4,6 @@ use borrow.Author.Needs.{needs}
 use Rattle.text.proofs.updates.absorb_value.Statement.{statement}
 use Rattle.text.proofs.updates.absorb_value.Tie as tie
 
-is-hyphen-requires : tie.Need-is-hyphen-requires
-is-hyphen-requires c κs = search needs
-
-none-requires : tie.Need-none-requires
-none-requires c κs = search needs
-
-absorb-items-requires : tie.Need-absorb-items-requires
-absorb-items-requires c κs = search needs
-
 returns : tie.Need-returns
 returns c = rw (items-none _ (sym (c .before .before .is-hyphen .ensures) ∙ c .before .if1 .taken)) (c .none .ensures)
 
@@ -21,4 +12,4 @@ returns-2 c = rw (items-some _ (sym (c .before .before .is-hyphen .ensures) ∙ 
 
 pub absorb-value-spec : {M : Type 1} → statement M
 absorb-value-spec =
-    tie.close (tie.spec is-hyphen-requires none-requires absorb-items-requires returns returns-2)
+    tie.close (tie.spec (search needs) (search needs) (search needs) returns returns-2)

@@ -6,14 +6,8 @@ use borrow.Author.Needs.{needs}
 use Rattle.text.proofs.updates.offset.Statement.{statement}
 use Rattle.text.proofs.updates.offset.Tie as tie
 
-cast-if1 : tie.Need-cast-if1
-cast-if1 c = search needs
-
 returns : tie.Need-returns
 returns c = rw (lt-ltb _ _ (c .if1 .taken))
-
-cast-m : tie.Need-cast-m
-cast-m c = search needs
 
 sub-result : tie.Need-sub-result
 sub-result c = minus-fits (c .before .before .args .n) (omega arith)
@@ -25,4 +19,4 @@ returns-3 : tie.Need-returns-3
 returns-3 c = read-offset (c .before .before .args .n) (omega arith) ∙ rw (le-ltb _ _ (c .before .if1 .left), c .if2 .left)
 
 pub offset-spec : {M : Type 1} → statement M
-offset-spec = tie.close (tie.spec cast-if1 returns cast-m sub-result returns-2 returns-3)
+offset-spec = tie.close (tie.spec (search needs) returns (search needs) sub-result returns-2 returns-3)

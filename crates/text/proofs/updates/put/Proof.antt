@@ -4,12 +4,6 @@ use borrow.Author.Needs.{needs}
 use Rattle.text.proofs.updates.put.Statement.{statement}
 use Rattle.text.proofs.updates.put.Tie as tie
 
-mul-updates : tie.Need-mul-updates
-mul-updates c = search needs
-
-array-set-from-updates : tie.Need-array-set-from-updates
-array-set-from-updates c = search needs
-
 returns : tie.Need-returns
 unfolding put
 returns c = rw (lt-ltb _ _ (c .if1 .taken))
@@ -19,4 +13,4 @@ unfolding put
 returns-2 c = rw (le-ltb _ _ (c .if1 .left))
 
 pub put-spec : {M : Type 1} → statement M
-put-spec = tie.close (tie.spec mul-updates array-set-from-updates returns returns-2)
+put-spec = tie.close (tie.spec (search needs) (search needs) returns returns-2)

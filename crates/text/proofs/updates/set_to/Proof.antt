@@ -5,18 +5,6 @@ use borrow.Author.Needs.{needs}
 use Rattle.text.proofs.updates.set_to.Statement.{statement}
 use Rattle.text.proofs.updates.set_to.Tie as tie
 
-byte-requires : tie.Need-byte-requires
-byte-requires c κs = search needs
-
-sum-requires : tie.Need-sum-requires
-sum-requires c κs = search needs
-
-number-requires : tie.Need-number-requires
-number-requires c κs = search needs
-
-made-constant-requires : tie.Need-made-constant-requires
-made-constant-requires c κs = search needs
-
 returns : tie.Need-returns
 unfolding setTo
 returns c = rw (← c .before .before .byte .ensures, eq-eqb _ _ (c .before .if1 .taken)) (c .sum .ensures)
@@ -28,4 +16,4 @@ returns-2 c = rw (← c .before .before .before .byte .ensures, ne-eqb _ _ (c .b
 pub set-to-spec : {M : Type 1} → statement M
 set-to-spec =
     tie.close
-    (tie.spec byte-requires sum-requires number-requires made-constant-requires returns returns-2)
+    (tie.spec (search needs) (search needs) (search needs) (search needs) returns returns-2)

@@ -2,24 +2,9 @@ use borrow.Author.Needs.{needs}
 use Rattle.text.proofs.atoms.AtomRead.on_clocks.Statement.{statement}
 use Rattle.text.proofs.atoms.AtomRead.on_clocks.Tie as tie
 
-enum-told : tie.Need-enum-told
-enum-told c = search needs
-
-enum-known-self : tie.Need-enum-known-self
-enum-known-self c = search needs
-
-enum-told-2 : tie.Need-enum-told-2
-enum-told-2 c = search needs
-
-returns : tie.Need-returns
-returns c = search needs
-
 returns-2 : tie.Need-returns-2
 returns-2 c = rw (c .before .self .given .1)
 
-returns-3 : tie.Need-returns-3
-returns-3 c = search needs
-
 pub on-clocks-spec : {M : Type 1} → statement M
 on-clocks-spec =
-    tie.close (tie.spec enum-told enum-known-self enum-told-2 returns returns-2 returns-3)
+    tie.close (tie.spec (search needs) (search needs) (search needs) (λ c. search needs) returns-2 (λ c. search needs))

@@ -2,24 +2,6 @@ use borrow.Author.Needs.{needs}
 use Rattle.text.proofs.updates.SetRead.is_outside.Statement.{statement}
 use Rattle.text.proofs.updates.SetRead.is_outside.Tie as tie
 
-enum-told : tie.Need-enum-told
-enum-told c = search needs
-
-enum-known-self : tie.Need-enum-known-self
-enum-known-self c = search needs
-
-cast-result : tie.Need-cast-result
-cast-result c = search needs
-
-enum-known-self-2 : tie.Need-enum-known-self-2
-enum-known-self-2 c = search needs
-
-cast-result-2 : tie.Need-cast-result-2
-cast-result-2 c = search needs
-
-returns : tie.Need-returns
-returns c = search needs
-
 returns-2 : tie.Need-returns-2
 returns-2 c = rw (c .before .self .given .1)
 
@@ -30,11 +12,11 @@ pub is-outside-spec : {M : Type 1} → statement M
 is-outside-spec =
     tie.close
     (tie.spec
-    enum-told
-    enum-known-self
-    cast-result
-    enum-known-self-2
-    cast-result-2
-    returns
+    (search needs)
+    (search needs)
+    (search needs)
+    (search needs)
+    (search needs)
+    (λ c. search needs)
     returns-2
     returns-3)

@@ -2,18 +2,6 @@ use borrow.Author.Needs.{needs}
 use Rattle.text.proofs.updates.SetRead.is_undeclared.Statement.{statement}
 use Rattle.text.proofs.updates.SetRead.is_undeclared.Tie as tie
 
-enum-told : tie.Need-enum-told
-enum-told c = search needs
-
-enum-known-self : tie.Need-enum-known-self
-enum-known-self c = search needs
-
-enum-known-self-2 : tie.Need-enum-known-self-2
-enum-known-self-2 c = search needs
-
-returns : tie.Need-returns
-returns c = search needs
-
 returns-2 : tie.Need-returns-2
 returns-2 c = rw (c .before .self .given .1)
 
@@ -22,4 +10,4 @@ returns-3 c = rw (c .before .self2 .given .1)
 
 pub is-undeclared-spec : {M : Type 1} → statement M
 is-undeclared-spec =
-    tie.close (tie.spec enum-told enum-known-self enum-known-self-2 returns returns-2 returns-3)
+    tie.close (tie.spec (search needs) (search needs) (search needs) (λ c. search needs) returns-2 returns-3)

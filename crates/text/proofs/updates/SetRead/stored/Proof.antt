@@ -6,27 +6,6 @@ use borrow.Author.Needs.{needs}
 use Rattle.text.proofs.updates.SetRead.stored.Statement.{statement}
 use Rattle.text.proofs.updates.SetRead.stored.Tie as tie
 
-enum-told : tie.Need-enum-told
-enum-told c = search needs
-
-enum-known-self : tie.Need-enum-known-self
-enum-known-self c = search needs
-
-narrow-requires : tie.Need-narrow-requires
-narrow-requires c κs = search needs
-
-enum-known-self-2 : tie.Need-enum-known-self-2
-enum-known-self-2 c = search needs
-
-offset-requires : tie.Need-offset-requires
-offset-requires c κs = search needs
-
-narrow-requires-2 : tie.Need-narrow-requires-2
-narrow-requires-2 c κs = search needs
-
-returns : tie.Need-returns
-returns c = search needs
-
 returns-2 : tie.Need-returns-2
 returns-2 c = rw (c .before .before .self .given .1, c .narrow .ensures)
 
@@ -40,12 +19,12 @@ pub stored-spec : {M : Type 1} → statement M
 stored-spec =
     tie.close
     (tie.spec
-    enum-told
-    enum-known-self
-    narrow-requires
-    enum-known-self-2
-    offset-requires
-    narrow-requires-2
-    returns
+    (search needs)
+    (search needs)
+    (search needs)
+    (search needs)
+    (search needs)
+    (search needs)
+    (λ c. search needs)
     returns-2
     returns-3)
