@@ -12,8 +12,7 @@ use Rattle.text.specs.bytes.Ascii.{ascii}
 use Rattle.text.specs.bytes.Bytes.{firstAt, startsWith, isDue, valueOf, numberOf}
 use Rattle.text.specs.declared.bytes.NumberRead.{NumberRead}
 use Rattle.text.specs.declared.bytes.NumberRead.the-variants.{Malformed, Number}
-use Rattle.text.proofs.Laws.Bytewise.{numberOf-none}
-use Rattle.text.proofs.Laws.Pieces.{firstAt-le}
+use Rattle.text.proofs.Laws.Bytewise.{firstAt-le, numberOf-none}
 use Rattle.text.specs.Bound.{BoundReport, boundRefused, boundIn, boundReport, ifBound}
 use Rattle.text.specs.Text.{ReadReport, readReport, readRefused}
 use Rattle.sizing.specs.SizeCall.{refusedSizes, textSizes, boundSizes, sizeReport}

@@ -15,11 +15,11 @@ use Rattle.text.specs.declared.bytes.NumberRead.{NumberRead}
 use Rattle.text.proofs.bytes.Flags.{no-fault-number}
 use Rattle.model.specs.Record.{blankModel}
 use Rattle.text.specs.declared.lines.Reading.{Reading}
-use Rattle.text.specs.lines.Place.{progress}
+use Rattle.text.specs.lines.Readings.{progress}
 use Rattle.text.specs.declared.line.Due.{Due}
-use Rattle.text.specs.line.Place.{DueLine, valueIn}
+use Rattle.text.specs.line.DueLines.{DueLine, valueIn}
 use Rattle.text.proofs.line.DueLaws.{found-is, line-end, value-is}
-use Rattle.text.specs.sequence.Place.{ReadsFrom}
+use Rattle.text.specs.lines.Readings.{ReadsFrom}
 use Rattle.text.specs.declared.ReadOutcome.{ReadOutcome}
 use Rattle.text.specs.declared.ReadOutcome.the-variants.{Read, TooLong, BytesLeft}
 use Rattle.text.specs.declared.ReadAnswer.{ReadAnswer}

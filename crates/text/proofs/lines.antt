@@ -1,4 +1,4 @@
 pub mod Settling
+pub mod LineKinds
 pub mod Stores
-pub mod ListLines
 pub mod Turns

@@ -4,6 +4,5 @@ pub mod atoms
 pub mod updates
 pub mod resets
 pub mod lines
-pub mod sequence
 pub mod Text
 pub mod Bound

@@ -2,4 +2,4 @@ pub mod Store
 pub mod Progress
 pub mod Lines
 pub mod Sequence
-pub mod Place
+pub mod Readings

@@ -7,13 +7,10 @@ use model::AtomSlot;
 use model::Model;
 use model::Relation;
 ghost use mathlib.Core.Path.{_≡_};
-ghost use Prim.Native.Nat.{_+_};
-ghost use mathlib.Core.Bool.{cond};
 ghost use mathlib.Core.List.{foldl, map};
-ghost use lib.Dec.{ltb};
 ghost use Rattle.text.specs.bytes.Bytes.{splitOn, itemsOf};
-ghost use Rattle.text.specs.atoms.Atoms.{relationAt, width, clockAtom, namedAtom, relatedAtom, valuedAtom, madeAtom, atomOf, onClocks, itemOf, isMalformed, isOutside, isUndeclared, atomLine};
-ghost use Rattle.text.specs.atoms.OnePass.{storedAtom, pushed, absorbed, noAtoms, lineIn};
+ghost use Rattle.text.specs.atoms.Atoms.{relationAt, width, clockAtom, namedAtom, relatedAtom, valuedAtom, madeAtom, atomOf, onClocks, itemOf, isMalformed, isOutside, isUndeclared, atomValue};
+ghost use Rattle.text.specs.atoms.OnePass.{storedAtom, pushed, counted, absorbed, noAtoms, collected};
 
 // The relation that some bytes begin with, and how many of them it takes.
 pub(crate) enum RelationRead {
@@ -38,7 +35,7 @@ pub enum AtomRead {
 }
 
 // The faults of the value and, where there are none, its atoms.
-pub struct AtomLine {
+pub struct AtomValue {
     pub faults: Faults,
     pub atoms: [AtomSlot; Model::ATOMS],
 }
@@ -295,7 +292,7 @@ fn item(s: &[u8], counters: bool) -> AtomRead
     if counters { a } else { a.on_clocks() }
 }
 
-fn push(atoms: [AtomSlot; 4], k: usize, a: Atom) -> [AtomSlot; 4]
+fn push(atoms: [AtomSlot; Model::ATOMS], k: usize, a: Atom) -> [AtomSlot; Model::ATOMS]
     ensures { λ r. ⌜ r ≡ pushed atoms k a ⌝ }
 {
     let mut slots = atoms;
@@ -306,7 +303,7 @@ fn push(atoms: [AtomSlot; 4], k: usize, a: Atom) -> [AtomSlot; 4]
 }
 
 fn next_count(k: usize) -> usize
-    ensures { λ r. ⌜ r ≡ cond (ltb k 4) (k + 1) k ⌝ }
+    ensures { λ r. ⌜ r ≡ counted k ⌝ }
 {
     if k < Model::ATOMS { k + 1 } else { k }
 }
@@ -346,16 +343,16 @@ impl AtomsRead {
         }
     }
 
-    fn line(self) -> AtomLine
-        ensures { λ r. ⌜ r ≡ lineIn self ⌝ }
+    fn collected(self) -> AtomValue
+        ensures { λ r. ⌜ r ≡ collected self ⌝ }
     {
         let faults = self.faults;
         if faults.first().is_none() {
             let atoms = self.atoms;
-            AtomLine { faults, atoms }
+            AtomValue { faults, atoms }
         } else {
             let slot = AtomSlot { atom: Atom::Blank };
-            AtomLine {
+            AtomValue {
                 faults,
                 atoms: [slot; Model::ATOMS],
             }
@@ -389,8 +386,8 @@ fn absorb_value(v: &[u8], clocks: u8, vars: u8, counters: bool) -> AtomsRead
 }
 
 // The value of an inv line, which may not name counters, or of a when line.
-pub fn atom_line(v: &[u8], clocks: u8, vars: u8, counters: bool) -> AtomLine
-    ensures { λ r. ⌜ r ≡ atomLine clocks vars (map (itemOf counters) (itemsOf (now (v .entry)))) ⌝ }
+pub fn atom_value(v: &[u8], clocks: u8, vars: u8, counters: bool) -> AtomValue
+    ensures { λ r. ⌜ r ≡ atomValue clocks vars (map (itemOf counters) (itemsOf (now (v .entry)))) ⌝ }
 {
-    absorb_value(v, clocks, vars, counters).line()
+    absorb_value(v, clocks, vars, counters).collected()
 }

@@ -2,10 +2,9 @@
 ghost use mathlib.Core.Path.{_≡_};
 ghost use Prim.Native.Nat.{_+_, _-_, _≤_};
 ghost use lib.ListN.{length, take, drop, getD};
-ghost use lib.Dec.{ltb};
 ghost use mathlib.Core.List.{[], _∷_};
 ghost use mathlib.Core.Bool.{cond};
-ghost use Rattle.text.specs.bytes.Bytes.{FirstFrom, LeadingDigits, numberOf, isDigit, isHyphen};
+ghost use Rattle.text.specs.bytes.Bytes.{FirstFrom, LeadingDigits, numberOf, narrowed, isDigit, isHyphen};
 ghost use Rattle.text.specs.bytes.Faulty.{noFaults, faultNumber, lineTold, isNoFault};
 
 pub enum NumberRead {
@@ -87,7 +86,7 @@ impl LineFault {
 
 // A number that fits a byte, or else 0.
 pub fn narrow(n: u16) -> u8
-    ensures { λ r. ⌜ r ≡ cond (ltb n 256) n 0 ⌝ }
+    ensures { λ r. ⌜ r ≡ narrowed n ⌝ }
 {
     if n < 256 { n as u8 } else { 0 }
 }

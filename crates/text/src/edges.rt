@@ -12,7 +12,7 @@ ghost use mathlib.Core.Path.{_≡_};
 ghost use Rattle.text.specs.lines.Store.{withSource, withEdgeTarget, withGuard, withUpdates, withResets};
 ghost use Rattle.text.specs.lines.Lines.{fromLine, toLine, whenLine, setLine, resetLine};
 ghost use Rattle.text.specs.lines.Sequence.{readEdge, readEdges};
-ghost use Rattle.text.specs.lines.Place.{Placed, Reads};
+ghost use Rattle.text.specs.lines.Readings.{Placed, Reads};
 
 fn with_source(m: Model, e: usize, n: u8) -> Model
     ensures { λ r. ⌜ r ≡ withSource m e n ⌝ }
@@ -38,7 +38,7 @@ fn with_edge_target(m: Model, e: usize, n: u8) -> Model
     next
 }
 
-fn with_guard(m: Model, e: usize, atoms: [AtomSlot; 4]) -> Model
+fn with_guard(m: Model, e: usize, atoms: [AtomSlot; Model::ATOMS]) -> Model
     ensures { λ r. ⌜ r ≡ withGuard m e atoms ⌝ }
 {
     let mut next = m;
@@ -50,7 +50,7 @@ fn with_guard(m: Model, e: usize, atoms: [AtomSlot; 4]) -> Model
     next
 }
 
-fn with_updates(m: Model, e: usize, updates: [UpdateSlot; 4]) -> Model
+fn with_updates(m: Model, e: usize, updates: [UpdateSlot; Model::COUNTERS]) -> Model
     ensures { λ r. ⌜ r ≡ withUpdates m e updates ⌝ }
 {
     let mut next = m;
@@ -62,7 +62,7 @@ fn with_updates(m: Model, e: usize, updates: [UpdateSlot; 4]) -> Model
     next
 }
 
-fn with_resets(m: Model, e: usize, resets: [ClockSlot; 4]) -> Model
+fn with_resets(m: Model, e: usize, resets: [ClockSlot; Model::CLOCKS]) -> Model
     ensures { λ r. ⌜ r ≡ withResets m e resets ⌝ }
 {
     let mut next = m;
@@ -109,7 +109,7 @@ fn when_line(text: &[u8], e: usize, r: Reading) -> Reading
     let d = line::due_at(text, at, b"when=");
     let start = d.start;
     let end = d.end;
-    let v = atoms::atom_line(&text[start..end], m.clocks, m.vars, true);
+    let v = atoms::atom_value(&text[start..end], m.clocks, m.vars, true);
     let f = v.faults;
     let atoms = v.atoms;
     let next = with_guard(m, e, atoms);
@@ -125,7 +125,7 @@ fn set_line(text: &[u8], e: usize, r: Reading) -> Reading
     let d = line::due_at(text, at, b"set=");
     let start = d.start;
     let end = d.end;
-    let v = updates::set_line(&text[start..end], m.vars);
+    let v = updates::set_value(&text[start..end], m.vars);
     let f = v.faults;
     let slots = v.updates;
     let next = with_updates(m, e, slots);
@@ -141,7 +141,7 @@ fn reset_line(text: &[u8], e: usize, r: Reading) -> Reading
     let d = line::due_at(text, at, b"reset=");
     let start = d.start;
     let end = d.end;
-    let v = resets::reset_line(&text[start..end], m.clocks);
+    let v = resets::reset_value(&text[start..end], m.clocks);
     let f = v.faults;
     let slots = v.resets;
     let next = with_resets(m, e, slots);

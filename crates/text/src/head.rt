@@ -10,7 +10,7 @@ ghost use mathlib.Core.Path.{_≡_};
 ghost use Rattle.text.specs.lines.Store.{withCounter, withInvariant};
 ghost use Rattle.text.specs.lines.Lines.{locationsLine, initLine, targetLine, clocksLine, varsLine, varLine, invLine, edgesLine};
 ghost use Rattle.text.specs.lines.Sequence.{readHead, readCounters, readInvariants};
-ghost use Rattle.text.specs.lines.Place.{Placed, Reads};
+ghost use Rattle.text.specs.lines.Readings.{Placed, Reads};
 
 fn with_counter(m: Model, i: usize, c: Counter) -> Model
     ensures { λ r. ⌜ r ≡ withCounter m i c ⌝ }
@@ -22,7 +22,7 @@ fn with_counter(m: Model, i: usize, c: Counter) -> Model
     next
 }
 
-fn with_invariant(m: Model, l: usize, atoms: [AtomSlot; 4]) -> Model
+fn with_invariant(m: Model, l: usize, atoms: [AtomSlot; Model::ATOMS]) -> Model
     ensures { λ r. ⌜ r ≡ withInvariant m l atoms ⌝ }
 {
     let mut next = m;
@@ -37,7 +37,7 @@ fn locations_line(text: &[u8], r: Reading) -> Reading
     ensures { λ q. ⌜ Reads locationsLine (now (text .entry)) r q ⌝ }
 {
     let at = r.at;
-    let n = line::number_due(text, at, b"locations=", 1, 16);
+    let n = line::number_due(text, at, b"locations=", 1, Model::LOCATIONS as u16);
     let d = n.due;
     let f = n.faults;
     let mut m = r.model;
@@ -76,7 +76,7 @@ fn clocks_line(text: &[u8], r: Reading) -> Reading
     ensures { λ q. ⌜ Reads clocksLine (now (text .entry)) r q ⌝ }
 {
     let at = r.at;
-    let n = line::number_due(text, at, b"clocks=", 0, 4);
+    let n = line::number_due(text, at, b"clocks=", 0, Model::CLOCKS as u16);
     let d = n.due;
     let f = n.faults;
     let mut m = r.model;
@@ -89,7 +89,7 @@ fn vars_line(text: &[u8], r: Reading) -> Reading
     ensures { λ q. ⌜ Reads varsLine (now (text .entry)) r q ⌝ }
 {
     let at = r.at;
-    let n = line::number_due(text, at, b"vars=", 0, 4);
+    let n = line::number_due(text, at, b"vars=", 0, Model::COUNTERS as u16);
     let d = n.due;
     let f = n.faults;
     let mut m = r.model;
@@ -120,7 +120,7 @@ fn inv_line(text: &[u8], l: usize, r: Reading) -> Reading
     let d = line::due_at(text, at, b"inv=");
     let start = d.start;
     let end = d.end;
-    let v = atoms::atom_line(&text[start..end], m.clocks, m.vars, false);
+    let v = atoms::atom_value(&text[start..end], m.clocks, m.vars, false);
     let f = v.faults;
     let atoms = v.atoms;
     let next = with_invariant(m, l, atoms);
@@ -132,7 +132,7 @@ fn edges_line(text: &[u8], r: Reading) -> Reading
     ensures { λ q. ⌜ Reads edgesLine (now (text .entry)) r q ⌝ }
 {
     let at = r.at;
-    let n = line::number_due(text, at, b"edges=", 0, 32);
+    let n = line::number_due(text, at, b"edges=", 0, Model::EDGES as u16);
     let d = n.due;
     let f = n.faults;
     let mut m = r.model;

@@ -5,7 +5,7 @@ use crate::lines::Reading;
 use model::Model;
 ghost use mathlib.Core.Path.{_≡_};
 ghost use Rattle.model.specs.Record.{blankModel};
-ghost use Rattle.text.specs.lines.Place.{progress};
+ghost use Rattle.text.specs.lines.Readings.{progress};
 ghost use Rattle.text.specs.Text.{readEnded, readReport, readTold, Outcome, outcomeNumber, outcomeLine};
 ghost use Rattle.text.specs.Bound.{boundIn, boundReport, boundTold};
 
@@ -129,6 +129,17 @@ impl ReadOutcome {
             ReadOutcome::NotRising { line } => line,
             ReadOutcome::TooManyItems { line } => line,
             ReadOutcome::BytesLeft { line } => line,
+        }
+    }
+}
+
+impl BoundRead {
+    pub fn number(self) -> u8
+        ensures { λ n. ⌜ n ≡ boundTold self .number ⌝ }
+    {
+        match self {
+            BoundRead::NotABound => 9,
+            BoundRead::Bound { bound: _, next: _ } => 0,
         }
     }
 }

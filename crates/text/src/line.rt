@@ -7,9 +7,9 @@ use model::Model;
 ghost use mathlib.Core.Path.{_≡_};
 ghost use Prim.Native.Nat.{_≤_};
 ghost use lib.ListN.{length};
-ghost use Rattle.text.specs.bytes.Bytes.{startsWith, isMalformed, numberIn};
+ghost use Rattle.text.specs.bytes.Bytes.{startsWith, isMalformed, numberIn, byteIn};
 ghost use Rattle.text.specs.line.Values.{liesOutside, isUndeclared, numberFaults, referenceFaults, counterFaults};
-ghost use Rattle.text.specs.line.Place.{DueLine, narrowed, NumberLine, ReferenceLine, CounterLine};
+ghost use Rattle.text.specs.line.DueLines.{DueLine, NumberLine, ReferenceLine, CounterLine};
 
 // Where the value of the due line stands, if the line is the due one.
 pub struct Due {
@@ -150,7 +150,7 @@ fn counter_faults(greatest: NumberRead, initial: NumberRead) -> Faults
 }
 
 fn byte_of(n: NumberRead) -> u8
-    ensures { λ r. ⌜ r ≡ narrowed n ⌝ }
+    ensures { λ r. ⌜ r ≡ byteIn n ⌝ }
 {
     bytes::narrow(value(n))
 }

@@ -2,7 +2,7 @@
 use crate::lines::Reading;
 use crate::sequence;
 ghost use mathlib.Core.Path.{_≡_};
-ghost use Rattle.text.specs.sequence.Place.{ReadsFrom};
+ghost use Rattle.text.specs.lines.Readings.{ReadsFrom};
 
 // A text and a place in it. The functions over it are thin; the work is done by functions on a slice and a place.
 pub(crate) struct Reader<'a> {

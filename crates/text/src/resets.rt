@@ -8,8 +8,8 @@ use model::Model;
 ghost use mathlib.Core.Path.{_≡_};
 ghost use mathlib.Core.List.{foldl, map};
 ghost use Rattle.text.specs.bytes.Bytes.{splitOn, itemsOf};
-ghost use Rattle.text.specs.resets.Resets.{resetNamed, resetOf, isMalformed, isUndeclared, clockOf, updateIn, resetLine};
-ghost use Rattle.text.specs.resets.OnePass.{put, absorbed, noResets, lineIn};
+ghost use Rattle.text.specs.resets.Resets.{resetNamed, resetOf, isMalformed, isUndeclared, clockOf, updateIn, resetValue};
+ghost use Rattle.text.specs.resets.OnePass.{put, absorbed, noResets, collected};
 
 // One item of the line.
 pub enum ResetRead {
@@ -18,7 +18,7 @@ pub enum ResetRead {
 }
 
 // The faults of the value and, where there are none, its resets.
-pub struct ResetLine {
+pub struct ResetValue {
     pub faults: Faults,
     pub resets: [ClockSlot; Model::CLOCKS],
 }
@@ -88,7 +88,7 @@ impl ResetRead {
     }
 }
 
-fn put(slots: [ClockSlot; 4], k: usize, u: ClockUpdate) -> [ClockSlot; 4]
+fn put(slots: [ClockSlot; Model::CLOCKS], k: usize, u: ClockUpdate) -> [ClockSlot; Model::CLOCKS]
     ensures { λ r. ⌜ r ≡ put slots k u ⌝ }
 {
     let mut resets = slots;
@@ -135,18 +135,18 @@ impl ResetsRead {
         }
     }
 
-    fn line(self) -> ResetLine
-        ensures { λ r. ⌜ r ≡ lineIn self ⌝ }
+    fn collected(self) -> ResetValue
+        ensures { λ r. ⌜ r ≡ collected self ⌝ }
     {
         let faults = self.faults;
         if faults.first().is_none() {
             let resets = self.resets;
-            ResetLine { faults, resets }
+            ResetValue { faults, resets }
         } else {
             let slot = ClockSlot {
                 update: ClockUpdate::Unchanged,
             };
-            ResetLine {
+            ResetValue {
                 faults,
                 resets: [slot; Model::CLOCKS],
             }
@@ -180,8 +180,8 @@ fn absorb_value(v: &[u8], clocks: u8) -> ResetsRead
 }
 
 // The value of a reset line.
-pub fn reset_line(v: &[u8], clocks: u8) -> ResetLine
-    ensures { λ r. ⌜ r ≡ resetLine clocks (map resetOf (itemsOf (now (v .entry)))) ⌝ }
+pub fn reset_value(v: &[u8], clocks: u8) -> ResetValue
+    ensures { λ r. ⌜ r ≡ resetValue clocks (map resetOf (itemsOf (now (v .entry)))) ⌝ }
 {
-    absorb_value(v, clocks).line()
+    absorb_value(v, clocks).collected()
 }

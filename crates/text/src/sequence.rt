@@ -8,7 +8,7 @@ ghost use mathlib.Core.Path.{_≡_};
 ghost use Prim.Native.Nat.{_≤_, min};
 ghost use lib.ListN.{length};
 ghost use Rattle.model.specs.Record.{blankModel};
-ghost use Rattle.text.specs.sequence.Place.{ReadsFrom};
+ghost use Rattle.text.specs.lines.Readings.{ReadsFrom};
 
 // Nothing is read yet.
 fn unread(at: usize) -> Reading

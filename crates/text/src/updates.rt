@@ -8,8 +8,8 @@ use model::UpdateSlot;
 ghost use mathlib.Core.Path.{_≡_};
 ghost use mathlib.Core.List.{foldl, map};
 ghost use Rattle.text.specs.bytes.Bytes.{splitOn, itemsOf};
-ghost use Rattle.text.specs.updates.Sets.{signedSum, valuedSum, madeSum, madeConstant, sumOf, setTo, setNamed, assigns, setOf, isMalformed, isOutside, isUndeclared, counterOf, setLine};
-ghost use Rattle.text.specs.updates.OnePass.{storedOffset, storedUpdate, put, absorbed, noSets, lineIn};
+ghost use Rattle.text.specs.updates.Sets.{signedSum, valuedSum, madeSum, madeConstant, sumOf, setTo, setNamed, assigns, setOf, isMalformed, isOutside, isUndeclared, counterOf, setValue};
+ghost use Rattle.text.specs.updates.OnePass.{storedOffset, storedUpdate, put, absorbed, noSets, collected};
 
 // One item of the line.
 pub enum SetRead {
@@ -27,7 +27,7 @@ pub enum SetRead {
 }
 
 // The faults of the value and, where there are none, its updates.
-pub struct SetLine {
+pub struct SetValue {
     pub faults: Faults,
     pub updates: [UpdateSlot; Model::COUNTERS],
 }
@@ -258,7 +258,7 @@ impl SetRead {
     }
 }
 
-fn put(slots: [UpdateSlot; 4], k: usize, u: Update) -> [UpdateSlot; 4]
+fn put(slots: [UpdateSlot; Model::COUNTERS], k: usize, u: Update) -> [UpdateSlot; Model::COUNTERS]
     ensures { λ r. ⌜ r ≡ put slots k u ⌝ }
 {
     let mut updates = slots;
@@ -305,18 +305,18 @@ impl SetsRead {
         }
     }
 
-    fn line(self) -> SetLine
-        ensures { λ r. ⌜ r ≡ lineIn self ⌝ }
+    fn collected(self) -> SetValue
+        ensures { λ r. ⌜ r ≡ collected self ⌝ }
     {
         let faults = self.faults;
         if faults.first().is_none() {
             let updates = self.updates;
-            SetLine { faults, updates }
+            SetValue { faults, updates }
         } else {
             let slot = UpdateSlot {
                 update: Update::Keep,
             };
-            SetLine {
+            SetValue {
                 faults,
                 updates: [slot; Model::COUNTERS],
             }
@@ -350,8 +350,8 @@ fn absorb_value(v: &[u8], vars: u8) -> SetsRead
 }
 
 // The value of a set line.
-pub fn set_line(v: &[u8], vars: u8) -> SetLine
-    ensures { λ r. ⌜ r ≡ setLine vars (map setOf (itemsOf (now (v .entry)))) ⌝ }
+pub fn set_value(v: &[u8], vars: u8) -> SetValue
+    ensures { λ r. ⌜ r ≡ setValue vars (map setOf (itemsOf (now (v .entry)))) ⌝ }
 {
-    absorb_value(v, vars).line()
+    absorb_value(v, vars).collected()
 }

@@ -1,8 +1,8 @@
 -- Laws of the definitions in specs/Bytes, one byte at a time from a place of the list.
-use Prim.Native.Nat.{ℕ, _+_, _-_, _≤_, _<_}
+use Prim.Native.Nat.{ℕ, suc, _+_, _-_, _≤_, _<_}
 use mathlib.Core.Path.{_≡_, refl, sym}
 use mathlib.Core.List.{List, [], _∷_}
-use mathlib.Core.Bool.{true, false}
+use mathlib.Core.Bool.{Bool, true, false, cond}
 use native.Mathlib.Numerals.{add-one}
 use native.Mathlib.Omega.{arith}
 use lib.ListN.{length, getD, take, drop, drop-of-length-le, length-drop}
@@ -24,6 +24,15 @@ firstAt-next b s i h e = rw (add-one i, drop-cons s i 0 h, ne-eqb _ _ e)
 pub firstAt-end : (b : ℕ) (s : List ℕ) (i : ℕ) → length s ≤ i → firstAt b (drop i s) ≡ 0
 unfolding firstAt
 firstAt-end b s i h = rw (drop-of-length-le s h)
+
+pub firstAt-le : (b : ℕ) (l : List ℕ) → firstAt b l ≤ length l
+unfolding firstAt
+firstAt-le b [] = omega arith
+firstAt-le b (x ∷ l) = go (eqb x b) (firstAt-le b l)
+  where
+    go : (t : Bool) → firstAt b l ≤ length l → cond t 0 (firstAt b l + 1) ≤ suc (length l)
+    go true h = omega arith
+    go false h = omega arith
 
 -- ---- numbers: a list of one, two or three elements is made of what stands at its places
 pub list1 : (s : List ℕ) → length s ≡ 1 → (getD s 0 0 ∷ []) ≡ s

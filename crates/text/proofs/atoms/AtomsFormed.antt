@@ -88,7 +88,7 @@ blank-at zero k = refl
 blank-at (suc n) zero = refl
 blank-at (suc n) (suc k) = blank-at n k
 
--- ---- lists of atoms that an item gives of each piece
+-- ---- lists of atoms that the items are
 module _ (clocks vars declared : ℕ) (item : List ℕ → AtomRead)
     (formed : (l : List ℕ) → isOutside (item l) ≡ false → isUndeclared clocks vars (item l) ≡ false → T (atomFormed clocks declared (atomIn (item l)))) where
   each-formed : (l : List (List ℕ)) (n k : ℕ) → anyOf isOutside (map item l) ≡ false → anyOf (isUndeclared clocks vars) (map item l) ≡ false → T (atomFormed clocks declared (atomAt (map slotOf (map item l) ++ replicate n blankAtom) k))

@@ -16,8 +16,8 @@ use Rattle.model.specs.Record.{blankAtom}
 use Rattle.text.specs.declared.atoms.AtomRead.{AtomRead}
 use Rattle.text.specs.declared.atoms.AtomRead.the-variants.{Malformed, ClockAtom, CounterAtom}
 use Rattle.text.specs.declared.atoms.AtomsRead.{AtomsRead}
-use Rattle.text.specs.atoms.Atoms.{isMalformed, isOutside, isUndeclared, atomFaults, atomIn, slotOf, atomSlots, atomLine}
-use Rattle.text.specs.atoms.OnePass.{storedAtom, pushed, absorbed, noAtoms, lineIn}
+use Rattle.text.specs.atoms.Atoms.{isMalformed, isOutside, isUndeclared, atomFaults, atomIn, slotOf, atomSlots, atomValue}
+use Rattle.text.specs.atoms.OnePass.{storedAtom, pushed, absorbed, noAtoms, collected}
 
 -- ---- the flags
 module _ (clocks vars : ℕ) where
@@ -81,8 +81,8 @@ module _ (clocks vars : ℕ) (p : clocks < 256) (q : vars < 256) where
       slots-are items noAtoms [] refl (omega (arith, ltb-false 4 (length items) (g .few))) refl (g .inside) (g .declared)
       ∙ rw (zero-add (length items))
 
-  pub by-stages : (items : List AtomRead) → lineIn (foldl (absorbed clocks vars) noAtoms items) ≡ atomLine clocks vars items
-  unfolding lineIn atomLine
+  pub by-stages : (items : List AtomRead) → collected (foldl (absorbed clocks vars) noAtoms items) ≡ atomValue clocks vars items
+  unfolding collected atomValue
   by-stages items = rw (faults-are clocks vars items) (λ i. record { faults = atomFaults clocks vars items; atoms = go (eqb (faultNumber (atomFaults clocks vars items)) 0) refl i })
     where
       go : (b : Bool) → eqb (faultNumber (atomFaults clocks vars items)) 0 ≡ b → cond b (foldl (absorbed clocks vars) noAtoms items .atoms) (replicate 4 blankAtom) ≡ cond b (atomSlots items) (replicate 4 blankAtom)

@@ -9,14 +9,14 @@ use lib.ListN.{length, take, drop, length-take, length-drop}
 use lib.Seq.{drop-drop, take-nil}
 use lib.Dec.{eqb, ltb}
 use borrow.Author.Tests.{lt-ltb, le-ltb, leb-false, ltb-false}
-use Rattle.text.specs.bytes.Bytes.{firstAt, startsWith, isDue, valueOf, after, numberOf, isMalformed, numberIn}
+use Rattle.text.specs.bytes.Bytes.{firstAt, startsWith, isDue, valueOf, after, numberOf, isMalformed, numberIn, byteIn}
 use Rattle.text.specs.bytes.Faulty.{faultNumber}
 use Rattle.text.specs.declared.bytes.NumberRead.{NumberRead}
 use Rattle.text.specs.declared.bytes.NumberRead.the-variants.{Malformed, Number}
 use Rattle.text.proofs.bytes.Flags.{passed}
 use Rattle.text.specs.declared.line.Due.{Due}
 use Rattle.text.specs.line.Values.{greatestOf, initialOf, liesOutside, isUndeclared, numberFaults, referenceFaults, counterFaults}
-use Rattle.text.specs.line.Place.{dueAt, DueLine, valueIn, narrowed}
+use Rattle.text.specs.line.DueLines.{dueAt, DueLine, valueIn}
 
 -- ---- finding it
 startsWith-length : (k l : List ℕ) → startsWith k l ≡ true → length k ≤ length l
@@ -103,7 +103,7 @@ module _ (key t : List ℕ) (at : ℕ) (d : Due) (is : d ≡ dueAt key t at) whe
       ap (λ (x : Due). drop (x .end + 1) t) (at-found h) ∙ ap (λ (n : ℕ). drop n t) e ∙ sym (drop-drop (firstAt 10 (drop at t) + 1) at t)
 
 -- ---- numbers that pass their tests fit a byte
-narrowed-is : (n : NumberRead) → numberIn n < 256 → narrowed n ≡ numberIn n
+narrowed-is : (n : NumberRead) → numberIn n < 256 → byteIn n ≡ numberIn n
 narrowed-is n h = rw (lt-ltb (numberIn n) 256 h)
 
 or-right : (a b : Bool) → (a || b) ≡ false → b ≡ false
@@ -136,16 +136,16 @@ counter-inside g i h =
     let o = passed (counterFaults g i) h .inside in
     (ltb-false 31 (numberIn g) (or-left (ltb 31 (numberIn g)) (ltb (numberIn g) (numberIn i)) o), ltb-false (numberIn g) (numberIn i) (or-right (ltb 31 (numberIn g)) (ltb (numberIn g) (numberIn i)) o))
 
-pub number-fits : (least greatest : ℕ) (n : NumberRead) → greatest < 256 → faultNumber (numberFaults least greatest n) ≡ 0 → narrowed n ≡ numberIn n
+pub number-fits : (least greatest : ℕ) (n : NumberRead) → greatest < 256 → faultNumber (numberFaults least greatest n) ≡ 0 → byteIn n ≡ numberIn n
 number-fits least greatest n l h = narrowed-is n (omega (arith, number-inside least greatest n h .1))
 
-pub reference-fits : (declared : ℕ) (n : NumberRead) → declared < 256 → faultNumber (referenceFaults declared n) ≡ 0 → narrowed n ≡ numberIn n
+pub reference-fits : (declared : ℕ) (n : NumberRead) → declared < 256 → faultNumber (referenceFaults declared n) ≡ 0 → byteIn n ≡ numberIn n
 reference-fits declared n l h = narrowed-is n (omega (arith, reference-declared declared n h))
 
-pub greatest-fits : (g i : NumberRead) → faultNumber (counterFaults g i) ≡ 0 → narrowed g ≡ numberIn g
+pub greatest-fits : (g i : NumberRead) → faultNumber (counterFaults g i) ≡ 0 → byteIn g ≡ numberIn g
 greatest-fits g i h = narrowed-is g (omega (arith, counter-inside g i h .0))
 
-pub initial-fits : (g i : NumberRead) → faultNumber (counterFaults g i) ≡ 0 → narrowed i ≡ numberIn i
+pub initial-fits : (g i : NumberRead) → faultNumber (counterFaults g i) ≡ 0 → byteIn i ≡ numberIn i
 initial-fits g i h = narrowed-is i (omega (arith, counter-inside g i h .0, counter-inside g i h .1))
 
 -- ---- a value parted at its first comma

@@ -6,7 +6,7 @@ use native.Mathlib.Numerals.{add-one}
 use native.Mathlib.Omega.{arith}
 use Rattle.text.specs.declared.lines.Reading.{Reading}
 use Rattle.text.specs.lines.Progress.{Progress}
-use Rattle.text.specs.lines.Place.{Placed, progress, Reads}
+use Rattle.text.specs.lines.Readings.{Placed, progress, Reads}
 use Rattle.text.specs.lines.Sequence.{inTurn}
 
 module _ (t : List ℕ) where

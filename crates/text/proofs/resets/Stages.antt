@@ -14,8 +14,8 @@ use Rattle.model.specs.declared.ClockSlot.{ClockSlot}
 use Rattle.model.specs.Record.{blankReset}
 use Rattle.text.specs.declared.resets.ResetRead.{ResetRead}
 use Rattle.text.specs.declared.resets.ResetsRead.{ResetsRead}
-use Rattle.text.specs.resets.Resets.{isMalformed, isUndeclared, clockOf, resetFaults, updateIn, placed, resetSlots, resetLine}
-use Rattle.text.specs.resets.OnePass.{put, absorbed, noResets, lineIn}
+use Rattle.text.specs.resets.Resets.{isMalformed, isUndeclared, clockOf, resetFaults, updateIn, placed, resetSlots, resetValue}
+use Rattle.text.specs.resets.OnePass.{put, absorbed, noResets, collected}
 
 faults-are : (clocks : ℕ) (items : List ResetRead) → foldl (absorbed clocks) noResets items .faults ≡ resetFaults clocks items
 unfolding resetFaults noResets absorbed
@@ -46,6 +46,6 @@ filled : (clocks : ℕ) (items : List ResetRead) → foldl (absorbed clocks) noR
 unfolding resetSlots noResets
 filled clocks items = slots-are clocks items noResets (replicate 4 blankReset) refl refl
 
-pub by-stages : (clocks : ℕ) (items : List ResetRead) → lineIn (foldl (absorbed clocks) noResets items) ≡ resetLine clocks items
-unfolding lineIn resetLine
+pub by-stages : (clocks : ℕ) (items : List ResetRead) → collected (foldl (absorbed clocks) noResets items) ≡ resetValue clocks items
+unfolding collected resetValue
 by-stages clocks items = rw (faults-are clocks items, filled clocks items)

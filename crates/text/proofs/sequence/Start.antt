@@ -11,10 +11,10 @@ use Rattle.model.specs.Record.{blankModel}
 use Rattle.text.specs.declared.bytes.LineFault.the-variants.{NoFault}
 use Rattle.text.specs.declared.lines.Reading.{Reading}
 use Rattle.text.specs.lines.Progress.{Progress, unread}
-use Rattle.text.specs.lines.Place.{Placed, progress, Reads}
+use Rattle.text.specs.lines.Readings.{Placed, progress, Reads}
 use Rattle.text.specs.lines.Lines.{edgesLine}
 use Rattle.text.specs.lines.Sequence.{readHead, readCounters, readInvariants, readEdges, readLines}
-use Rattle.text.specs.sequence.Place.{ReadsFrom}
+use Rattle.text.specs.lines.Readings.{ReadsFrom}
 
 module _ (t : List ℕ) where
   -- a place past the end is the end

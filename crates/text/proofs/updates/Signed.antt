@@ -9,8 +9,9 @@ use mir.Val.{SFits, toZ, ofZ}
 use mir.Facts.{toZ-ofZ, toZ-pos}
 use Rattle.model.specs.declared.Update.the-variants.{Sum}
 use Rattle.text.specs.declared.updates.SetRead.the-variants.{ToSum}
+use Rattle.text.specs.bytes.Bytes.{narrowed}
 use Rattle.text.specs.updates.Sets.{offsetOf}
-use Rattle.text.specs.updates.OnePass.{narrowed, storedOffset, storedUpdate}
+use Rattle.text.specs.updates.OnePass.{storedOffset, storedUpdate}
 
 pub offset-fits : (negative : Bool) (n : ℕ) → n ≤ 31 → SFits w8 (offsetOf negative n)
 offset-fits false n h = record { sfits = omega arith }

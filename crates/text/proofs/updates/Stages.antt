@@ -16,8 +16,8 @@ use Rattle.model.specs.Record.{blankUpdate}
 use Rattle.text.specs.declared.updates.SetRead.{SetRead}
 use Rattle.text.specs.declared.updates.SetRead.the-variants.{Malformed, ToConstant, ToSum}
 use Rattle.text.specs.declared.updates.SetsRead.{SetsRead}
-use Rattle.text.specs.updates.Sets.{isMalformed, isOutside, isUndeclared, counterOf, setFaults, updateIn, placed, updateSlots, setLine}
-use Rattle.text.specs.updates.OnePass.{storedUpdate, put, absorbed, noSets, lineIn}
+use Rattle.text.specs.updates.Sets.{isMalformed, isOutside, isUndeclared, counterOf, setFaults, updateIn, placed, updateSlots, setValue}
+use Rattle.text.specs.updates.OnePass.{storedUpdate, put, absorbed, noSets, collected}
 
 faults-are : (vars : ℕ) (items : List SetRead) → foldl (absorbed vars) noSets items .faults ≡ setFaults vars items
 unfolding setFaults noSets absorbed
@@ -69,8 +69,8 @@ module _ (vars : ℕ) (p : vars < 256) where
   unfolding setFaults updateSlots noSets
   filled items h = let g = passed (setFaults vars items) h in slots-are items noSets (replicate 4 blankUpdate) refl refl (g .inside) (g .declared)
 
-  pub by-stages : (items : List SetRead) → lineIn (foldl (absorbed vars) noSets items) ≡ setLine vars items
-  unfolding lineIn setLine
+  pub by-stages : (items : List SetRead) → collected (foldl (absorbed vars) noSets items) ≡ setValue vars items
+  unfolding collected setValue
   by-stages items = rw (faults-are vars items) (λ i. record { faults = setFaults vars items; updates = go (eqb (faultNumber (setFaults vars items)) 0) refl i })
     where
       go : (b : Bool) → eqb (faultNumber (setFaults vars items)) 0 ≡ b → cond b (foldl (absorbed vars) noSets items .updates) (replicate 4 blankUpdate) ≡ cond b (updateSlots items) (replicate 4 blankUpdate)

@@ -17,7 +17,7 @@ use Rattle.model.specs.declared.AtomSlot.{AtomSlot}
 use Rattle.model.specs.Record.{blankAtom}
 use Rattle.text.specs.declared.atoms.RelationRead.{RelationRead}
 use Rattle.text.specs.declared.atoms.RelationRead.the-variants.{Absent, One, Two}
-use Rattle.text.specs.declared.atoms.AtomLine.{AtomLine}
+use Rattle.text.specs.declared.atoms.AtomValue.{AtomValue}
 use Rattle.text.specs.declared.atoms.AtomRead.{AtomRead}
 use Rattle.text.specs.declared.atoms.AtomRead.the-variants.{Malformed, ClockAtom, CounterAtom}
 
@@ -120,8 +120,8 @@ unfoldable pub atomSlots : List AtomRead → List AtomSlot
 atomSlots items = map slotOf items ++ replicate (4 - length items) blankAtom
 
 -- the faults of a value, and the slots where it has none
-unfoldable pub atomLine : ℕ → ℕ → List AtomRead → AtomLine
-atomLine clocks vars items = record {
+unfoldable pub atomValue : ℕ → ℕ → List AtomRead → AtomValue
+atomValue clocks vars items = record {
   faults = atomFaults clocks vars items;
   atoms = cond (eqb (faultNumber (atomFaults clocks vars items)) 0) (atomSlots items) (replicate 4 blankAtom);
 }

@@ -4,20 +4,17 @@ use mathlib.Core.List.{List}
 use mathlib.Core.Bool.{cond, _||_}
 use lib.ListN.{set, replicate}
 use lib.Dec.{ltb, leb, eqb}
+use Rattle.text.specs.bytes.Bytes.{narrowed}
 use Rattle.text.specs.bytes.Faulty.{noFaults, faultNumber}
 use Rattle.model.specs.declared.Atom.{Atom}
 use Rattle.model.specs.declared.Atom.the-variants.{Blank, OnClock, OnCounter}
 use Rattle.model.specs.declared.AtomSlot.{AtomSlot}
 use Rattle.model.specs.Record.{blankAtom}
-use Rattle.text.specs.declared.atoms.AtomLine.{AtomLine}
+use Rattle.text.specs.declared.atoms.AtomValue.{AtomValue}
 use Rattle.text.specs.declared.atoms.AtomRead.{AtomRead}
 use Rattle.text.specs.declared.atoms.AtomRead.the-variants.{Malformed, ClockAtom, CounterAtom}
 use Rattle.text.specs.declared.atoms.AtomsRead.{AtomsRead}
 use Rattle.text.specs.atoms.Atoms.{isMalformed, isOutside, isUndeclared}
-
--- a number that fits a byte, or else 0
-abbrev pub narrowed : ℕ → ℕ
-narrowed n = cond (ltb n 256) n 0
 
 abbrev pub storedAtom : AtomRead → Atom
 storedAtom Malformed = Blank
@@ -27,6 +24,10 @@ storedAtom (CounterAtom v r c) = OnCounter (narrowed v) r (narrowed c)
 -- one more atom, in slot k
 unfoldable pub pushed : List AtomSlot → ℕ → Atom → List AtomSlot
 pushed atoms k a = cond (ltb k 4) (set atoms k (record { atom = a })) atoms
+
+-- how many slots are filled then
+abbrev pub counted : ℕ → ℕ
+counted k = cond (ltb k 4) (k + 1) k
 
 unfoldable pub noAtoms : AtomsRead
 noAtoms = record { faults = noFaults; count = 0; atoms = replicate 4 blankAtom }
@@ -41,9 +42,9 @@ absorbed clocks vars s a = record {
     undeclared = s .faults .undeclared || isUndeclared clocks vars a;
     unordered = s .faults .unordered;
   };
-  count = cond (ltb (s .count) 4) (s .count + 1) (s .count);
+  count = counted (s .count);
   atoms = pushed (s .atoms) (s .count) (storedAtom a);
 }
 
-unfoldable pub lineIn : AtomsRead → AtomLine
-lineIn s = record { faults = s .faults; atoms = cond (eqb (faultNumber (s .faults)) 0) (s .atoms) (replicate 4 blankAtom) }
+unfoldable pub collected : AtomsRead → AtomValue
+collected s = record { faults = s .faults; atoms = cond (eqb (faultNumber (s .faults)) 0) (s .atoms) (replicate 4 blankAtom) }

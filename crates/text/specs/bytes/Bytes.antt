@@ -65,6 +65,13 @@ abbrev pub numberIn : NumberRead → ℕ
 numberIn Malformed = 0
 numberIn (Number n) = n
 
+-- a number that fits a byte, or else 0
+abbrev pub narrowed : ℕ → ℕ
+narrowed n = cond (ltb n 256) n 0
+
+abbrev pub byteIn : NumberRead → ℕ
+byteIn n = narrowed (numberIn n)
+
 -- how many bytes stand before the first that is no digit
 unfoldable pub digitsOf : List ℕ → ℕ
 digitsOf [] = 0
@@ -83,7 +90,7 @@ abbrev pub following : List ℕ → List ℕ
 following l = drop (digitsOf l) l
 
 -- ---- items, parted by commas (44)
--- the pieces of l between the bytes b
+-- the parts of l between the bytes b
 abbrev pub grow : ℕ → List (List ℕ) → List (List ℕ)
 grow x [] = (x ∷ []) ∷ []
 grow x (p ∷ ps) = (x ∷ p) ∷ ps

@@ -8,7 +8,7 @@ use Rattle.text.specs.bytes.Faulty.{noFaults, faultNumber}
 use Rattle.model.specs.declared.ClockUpdate.{ClockUpdate}
 use Rattle.model.specs.declared.ClockSlot.{ClockSlot}
 use Rattle.model.specs.Record.{blankReset}
-use Rattle.text.specs.declared.resets.ResetLine.{ResetLine}
+use Rattle.text.specs.declared.resets.ResetValue.{ResetValue}
 use Rattle.text.specs.declared.resets.ResetRead.{ResetRead}
 use Rattle.text.specs.declared.resets.ResetsRead.{ResetsRead}
 use Rattle.text.specs.resets.Resets.{isMalformed, isUndeclared, clockOf, updateIn}
@@ -33,5 +33,5 @@ absorbed clocks s a = record {
   resets = put (s .resets) (clockOf a) (updateIn a);
 }
 
-unfoldable pub lineIn : ResetsRead → ResetLine
-lineIn s = record { faults = s .faults; resets = cond (eqb (faultNumber (s .faults)) 0) (s .resets) (replicate 4 blankReset) }
+unfoldable pub collected : ResetsRead → ResetValue
+collected s = record { faults = s .faults; resets = cond (eqb (faultNumber (s .faults)) 0) (s .resets) (replicate 4 blankReset) }

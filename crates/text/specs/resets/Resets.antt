@@ -13,7 +13,7 @@ use Rattle.model.specs.declared.ClockUpdate.{ClockUpdate}
 use Rattle.model.specs.declared.ClockUpdate.the-variants.{Unchanged, Reset}
 use Rattle.model.specs.declared.ClockSlot.{ClockSlot}
 use Rattle.model.specs.Record.{blankReset}
-use Rattle.text.specs.declared.resets.ResetLine.{ResetLine}
+use Rattle.text.specs.declared.resets.ResetValue.{ResetValue}
 use Rattle.text.specs.declared.resets.ResetRead.{ResetRead}
 use Rattle.text.specs.declared.resets.ResetRead.the-variants.{Malformed, ToZero}
 
@@ -60,8 +60,8 @@ unfoldable pub resetSlots : List ResetRead → List ClockSlot
 resetSlots items = foldl placed (replicate 4 blankReset) items
 
 -- the faults of a value, and the slots where it has none
-unfoldable pub resetLine : ℕ → List ResetRead → ResetLine
-resetLine clocks items = record {
+unfoldable pub resetValue : ℕ → List ResetRead → ResetValue
+resetValue clocks items = record {
   faults = resetFaults clocks items;
   resets = cond (eqb (faultNumber (resetFaults clocks items)) 0) (resetSlots items) (replicate 4 blankReset);
 }

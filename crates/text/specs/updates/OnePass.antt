@@ -5,20 +5,17 @@ use mathlib.Core.Bool.{Bool, cond, _||_}
 use lib.ListN.{set, replicate}
 use lib.Dec.{ltb, eqb}
 use lib.IntN.{ℤ, pos}
+use Rattle.text.specs.bytes.Bytes.{narrowed}
 use Rattle.text.specs.bytes.Faulty.{noFaults, faultNumber}
 use Rattle.model.specs.declared.Update.{Update}
 use Rattle.model.specs.declared.Update.the-variants.{Keep, Constant, Sum}
 use Rattle.model.specs.declared.UpdateSlot.{UpdateSlot}
 use Rattle.model.specs.Record.{blankUpdate}
-use Rattle.text.specs.declared.updates.SetLine.{SetLine}
+use Rattle.text.specs.declared.updates.SetValue.{SetValue}
 use Rattle.text.specs.declared.updates.SetRead.{SetRead}
 use Rattle.text.specs.declared.updates.SetRead.the-variants.{Malformed, ToConstant, ToSum}
 use Rattle.text.specs.declared.updates.SetsRead.{SetsRead}
 use Rattle.text.specs.updates.Sets.{isMalformed, isOutside, isUndeclared, counterOf, offsetOf}
-
--- a number that fits a byte, or else 0
-abbrev pub narrowed : ℕ → ℕ
-narrowed n = cond (ltb n 256) n 0
 
 -- an offset, or 0 where it is out of range
 abbrev pub storedOffset : Bool → ℕ → ℤ
@@ -49,5 +46,5 @@ absorbed vars s a = record {
   updates = put (s .updates) (counterOf a) (storedUpdate a);
 }
 
-unfoldable pub lineIn : SetsRead → SetLine
-lineIn s = record { faults = s .faults; updates = cond (eqb (faultNumber (s .faults)) 0) (s .updates) (replicate 4 blankUpdate) }
+unfoldable pub collected : SetsRead → SetValue
+collected s = record { faults = s .faults; updates = cond (eqb (faultNumber (s .faults)) 0) (s .updates) (replicate 4 blankUpdate) }

@@ -14,7 +14,7 @@ use Rattle.model.specs.declared.Update.{Update}
 use Rattle.model.specs.declared.Update.the-variants.{Keep, Constant, Sum}
 use Rattle.model.specs.declared.UpdateSlot.{UpdateSlot}
 use Rattle.model.specs.Record.{blankUpdate}
-use Rattle.text.specs.declared.updates.SetLine.{SetLine}
+use Rattle.text.specs.declared.updates.SetValue.{SetValue}
 use Rattle.text.specs.declared.updates.SetRead.{SetRead}
 use Rattle.text.specs.declared.updates.SetRead.the-variants.{Malformed, ToConstant, ToSum}
 
@@ -105,8 +105,8 @@ unfoldable pub updateSlots : List SetRead → List UpdateSlot
 updateSlots items = foldl placed (replicate 4 blankUpdate) items
 
 -- the faults of a value, and the slots where it has none
-unfoldable pub setLine : ℕ → List SetRead → SetLine
-setLine vars items = record {
+unfoldable pub setValue : ℕ → List SetRead → SetValue
+setValue vars items = record {
   faults = setFaults vars items;
   updates = cond (eqb (faultNumber (setFaults vars items)) 0) (updateSlots items) (replicate 4 blankUpdate);
 }

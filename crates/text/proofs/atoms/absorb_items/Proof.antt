@@ -1,27 +1,30 @@
-use borrow.Author.Needs.{needs}
-use Rattle.text.specs.atoms.OnePass.{absorbed, noAtoms}
-use Rattle.text.specs.atoms.Atoms.{itemOf}
-use Rattle.text.proofs.Laws.Pieces.{absorb-last, absorb-more}
-use Rattle.text.specs.bytes.Bytes.{splitOn}
-use lib.ListN.{length, drop}
+-- `absorb_items`: each turn of the loop absorbs the item up to the next comma. The invariant is `Absorbing`: what is left to absorb, absorbed
+-- into the state, comes to the whole value absorbed into the first state.
+use Prim.Native.Nat.{_-_}
+use mathlib.Core.Path.{ap, _∙_}
 use native.Mathlib.Omega.{arith}
-use mathlib.Core.List.{map, foldl}
-use mathlib.Core.Path.{_≡_, ap, _∙_}
-use Prim.Native.Nat.{_-_, _≤_}
+use lib.ListN.{length}
+use borrow.Author.Needs.{needs}
+use Rattle.text.specs.atoms.Atoms.{itemOf}
+use Rattle.text.specs.atoms.OnePass.{absorbed, noAtoms}
+use Rattle.text.proofs.bytes.Items.{Absorbing, absorb-none, absorb-last, absorb-more}
 use Rattle.text.proofs.atoms.absorb_items.Statement.{statement}
 use Rattle.text.proofs.atoms.absorb_items.Tie as tie
 
 abbrev Inv-loop : tie.InvT-loop
-Inv-loop v clocks vars counters s₀ i₀ s i = (i ≤ length v) × (foldl (absorbed clocks vars) s (map (itemOf counters) (splitOn 44 (drop i v))) ≡ foldl (absorbed clocks vars) noAtoms (map (itemOf counters) (splitOn 44 v)))
+Inv-loop v clocks vars counters s₀ i₀ s i = Absorbing (absorbed clocks vars) (itemOf counters) noAtoms v s i
 
 abbrev μ-loop : tie.MeasureT-loop
 μ-loop v clocks vars counters s₀ i₀ s i = length v - i
 
 loop-holds : tie.Need-loop-holds Inv-loop μ-loop
-loop-holds c = (search needs, rw (c .none .ensures))
+loop-holds c = absorb-none (c .none .ensures)
 
 returns : tie.Need-returns Inv-loop μ-loop
-returns c = absorb-last (absorbed _ _) (itemOf (c .before .before .before .before .before .before .before .before .args .counters)) 44 _ (c .before .before .before .before .before .loop .i) (c .before .before .before .before .find .result) (c .before .before .before .before .before .loop .s) _ (c .before .before .before .before .before .loop .inv .0) (c .before .before .before .before .find .ensures .place) (c .before .absorb .ensures ∙ ap (absorbed _ _ _) (c .before .before .item .ensures)) (c .if1 .taken) ∙ c .before .before .before .before .before .loop .inv .1
+returns c =
+    let b = c .before .before .before .before in
+    let took = c .before .absorb .ensures ∙ ap (absorbed _ _ _) (c .before .before .item .ensures) in
+    absorb-last (b .before .loop .inv) (b .find .ensures) took (c .if1 .taken)
 
 add-i : tie.Need-add-i Inv-loop μ-loop
 add-i c = omega (arith, c .if1 .left)
@@ -30,7 +33,10 @@ loop-less : tie.Need-loop-less Inv-loop μ-loop
 loop-less c = omega (arith, c .if1 .left)
 
 loop-again : tie.Need-loop-again Inv-loop μ-loop
-loop-again c = (omega (arith, c .if1 .left), absorb-more (absorbed _ _) (itemOf (c .before .before .before .before .before .before .before .before .args .counters)) 44 _ (c .before .before .before .before .before .loop .i) (c .before .before .before .before .find .result) (c .before .before .before .before .before .loop .s) _ (c .before .before .before .before .before .loop .inv .0) (c .before .before .before .before .find .ensures .place) (c .before .absorb .ensures ∙ ap (absorbed _ _ _) (c .before .before .item .ensures)) (c .if1 .left) ∙ c .before .before .before .before .before .loop .inv .1)
+loop-again c =
+    let b = c .before .before .before .before in
+    let took = c .before .absorb .ensures ∙ ap (absorbed _ _ _) (c .before .before .item .ensures) in
+    absorb-more (b .before .loop .inv) (b .find .ensures) took (c .if1 .left)
 
 pub absorb-items-spec : {M : Type 1} → statement M
 absorb-items-spec =

@@ -1,27 +1,17 @@
-use Rattle.text.proofs.lines.ListLines.{when-reads}
+-- `when_line`: a line of items, which become the guard of edge e (`atoms-reads`).
+use borrow.Author.Needs.{needs}
+use Rattle.text.specs.atoms.Atoms.{whenItems}
 use Rattle.text.specs.lines.Lines.{whenLine}
 use Rattle.text.specs.lines.Store.{withGuard}
-use Rattle.text.specs.lines.Place.{settled, told}
-use mathlib.Core.Path.{_∙_, ap}
-use Rattle.text.specs.bytes.Ascii.{ascii}
-use borrow.Author.Needs.{needs}
+use Rattle.text.proofs.lines.LineKinds.{atoms-reads}
 use Rattle.text.proofs.edges.when_line.Statement.{statement}
 use Rattle.text.proofs.edges.when_line.Tie as tie
 
 returns : tie.Need-returns
-unfolding whenLine
-returns c = when-reads (ascii "when=") (c .before .before .before .before .before .before .before .before .before .before .args .text .now) (c .before .before .before .before .before .before .before .before .before .before .args .r) (c .settled .result) (c .before .before .before .before .before .before .due-at .result) (c .before .before .before .before .before .before .before .before .before .before .pre) (c .before .before .before .before .before .before .due-at .ensures) (λ m x. withGuard m (c .before .before .before .before .before .before .before .before .before .before .args .e) x) (c .before .before .before .before .atom-line .result) (c .before .before .before .before .atom-line .ensures) (c .settled .ensures ∙ ap (settled (told (c .before .before .before .before .before .before .before .before .before .before .args .r)) (c .before .before .before .before .before .before .due-at .result) (c .before .before .before .before .atom-line .result .faults)) (c .before .with-guard .ensures))
+unfolding whenLine whenItems
+returns c =
+    let b = c .before .before .before .before .before .before in
+    atoms-reads (b .before .before .before .before .pre) (b .due-at .ensures) whenItems (λ m. withGuard m _) (c .before .before .before .before .atom-value .ensures) (c .before .with-guard .ensures) (c .settled .ensures)
 
 pub when-line-spec : {M : Type 1} → statement M
-when-line-spec =
-    tie.close
-    (tie.spec
-    (search needs)
-    (search needs)
-    (search needs)
-    (search needs)
-    (search needs)
-    (search needs)
-    (search needs)
-    (search needs)
-    returns)
+when-line-spec = tie.close (tie.spec (search needs) (search needs) (search needs) (search needs) (search needs) (search needs) (search needs) (search needs) returns)

@@ -11,6 +11,7 @@ use Rattle.text.specs.declared.line.Due.{Due}
 use Rattle.model.specs.declared.Model.{Model}
 use Rattle.text.specs.declared.lines.Reading.{Reading}
 use Rattle.text.specs.lines.Progress.{Progress}
+use Rattle.text.specs.lines.Sequence.{readLines}
 
 -- the place lies within the text, and each line read took a byte at least
 pub record Placed (t : List ℕ) (r : Reading) : Type 0 where
@@ -25,6 +26,11 @@ progress t r = record { number = lineTold (r .fault); line = r .line; rest = dro
 pub record Reads (f : Progress → Progress) (t : List ℕ) (r q : Reading) : Type 0 where
   pub is : progress t q ≡ f (progress t r)
   pub placed : Placed t q
+
+-- r is the reading of the lines of a model from the place `at` on; its own place, which lies within the text, is where it stopped
+pub record ReadsFrom (t : List ℕ) (at : ℕ) (r : Reading) : Type 0 where
+  pub is : progress t r ≡ readLines (drop at t)
+  pub within : r .at ≤ length t
 
 -- ---- one due line, by places
 pub record Told : Type 0 where

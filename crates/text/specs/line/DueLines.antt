@@ -4,9 +4,7 @@ use mathlib.Core.Path.{_≡_}
 use mathlib.Core.List.{List}
 use mathlib.Core.Bool.{true, false, cond}
 use lib.ListN.{length, take, drop}
-use lib.Dec.{ltb}
-use Rattle.text.specs.bytes.Bytes.{firstAt, isDue, numberOf, numberIn}
-use Rattle.text.specs.declared.bytes.NumberRead.{NumberRead}
+use Rattle.text.specs.bytes.Bytes.{firstAt, isDue, numberOf, byteIn}
 use Rattle.text.specs.declared.line.Due.{Due}
 use Rattle.text.specs.declared.line.NumberDue.{NumberDue}
 use Rattle.text.specs.declared.line.CounterDue.{CounterDue}
@@ -30,24 +28,20 @@ pub record DueLine (key t : List ℕ) (at : ℕ) (d : Due) : Type 0 where
 abbrev pub valueIn : List ℕ → Due → List ℕ
 valueIn t d = take (d .end - d .start) (drop (d .start) t)
 
--- a number that fits a byte, or else 0
-abbrev pub narrowed : NumberRead → ℕ
-narrowed n = cond (ltb (numberIn n) 256) (numberIn n) 0
-
 -- a line of one number, one reference, one counter
 pub record NumberLine (key : List ℕ) (least greatest : ℕ) (t : List ℕ) (at : ℕ) (r : NumberDue) : Type 0 where
   pub due : DueLine key t at (r .due)
   pub faults-are : r .faults ≡ numberFaults least greatest (numberOf (valueIn t (r .due)))
-  pub value-is : r .value ≡ narrowed (numberOf (valueIn t (r .due)))
+  pub value-is : r .value ≡ byteIn (numberOf (valueIn t (r .due)))
 
 pub record ReferenceLine (key : List ℕ) (declared : ℕ) (t : List ℕ) (at : ℕ) (r : NumberDue) : Type 0 where
   pub byte : declared < 256
   pub due : DueLine key t at (r .due)
   pub faults-are : r .faults ≡ referenceFaults declared (numberOf (valueIn t (r .due)))
-  pub value-is : r .value ≡ narrowed (numberOf (valueIn t (r .due)))
+  pub value-is : r .value ≡ byteIn (numberOf (valueIn t (r .due)))
 
 pub record CounterLine (key t : List ℕ) (at : ℕ) (r : CounterDue) : Type 0 where
   pub due : DueLine key t at (r .due)
   pub faults-are : r .faults ≡ counterFaults (greatestOf (valueIn t (r .due))) (initialOf (valueIn t (r .due)))
-  pub greatest-is : r .counter .greatest ≡ narrowed (greatestOf (valueIn t (r .due)))
-  pub initial-is : r .counter .initial ≡ narrowed (initialOf (valueIn t (r .due)))
+  pub greatest-is : r .counter .greatest ≡ byteIn (greatestOf (valueIn t (r .due)))
+  pub initial-is : r .counter .initial ≡ byteIn (initialOf (valueIn t (r .due)))
