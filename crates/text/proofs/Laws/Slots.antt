@@ -1,67 +1,76 @@
--- Slots that are filled one after the other: those below k pass one test, the others another.
+-- Slots of which the first k are filled: those pass one test, the others another.
 use Prim.Native.Nat.{ℕ, zero, suc, _+_, _≤_, _<_, zero-le}
 use mathlib.Core.Path.{_≡_, refl, sym, ap, _∙_, subst}
 use mathlib.Core.Logic.{⊎-elim}
-use mathlib.Core.List.{List}
-use mathlib.Core.Bool.{Bool, cond}
+use mathlib.Core.List.{List, [], _∷_, foldl}
+use mathlib.Core.Bool.{Bool, true, false, cond}
 use native.Mathlib.Omega.{arith}
 use lib.Dec.{T, ltb}
-use lib.ListN.{length, getD, set, replicate}
-use lib.Seq.{getD-set-same, getD-set-other}
-use borrow.Author.Tests.{lt-ltb, le-ltb}
+use lib.ListN.{length, getD, set, replicate, length-set, length-replicate, getD-replicate}
+use lib.Seq.{getD-set-same, getD-set-other, set-out}
+use borrow.Author.Tests.{lt-ltb, le-ltb, ltb-false}
 use Rattle.model.proofs.IndexedLaws.{lt-or-le}
 
--- a slot past a blank list, or in it, is blank
-pub blank-at : {X : Type 0} (n k : ℕ) (x : X) → getD (replicate n x) k x ≡ x
-blank-at zero k x = refl
-blank-at (suc n) zero x = refl
-blank-at (suc n) (suc k) x = blank-at n k x
+three-ways : {C : Type 0} (i k : ℕ) → (i < k → C) → (i ≡ k → C) → (k < i → C) → C
+three-ways i k below same above = ⊎-elim below (λ l. ⊎-elim above (λ r. same (omega arith)) (lt-or-le k i)) (lt-or-le i k)
 
-pub equal-or-not : {C : Type 0} (i k : ℕ) → (i ≡ k → C) → ((i ≡ k → ⊥) → C) → C
-equal-or-not i k f g = ⊎-elim (λ l. g (λ e. omega arith)) (λ l. ⊎-elim (λ r. g (λ e. omega arith)) (λ r. f (omega arith)) (lt-or-le k i)) (lt-or-le i k)
+-- n slots, of which k are filled; A tests a filled slot, B another; d stands for a slot that is not there
+pub record Filled {X : Type 0} (A B : X → Bool) (d : X) (n k : ℕ) (l : List X) : Type 0 where
+  pub long : length l ≡ n
+  pub slot : (i : ℕ) → i < n → T (cond (ltb i k) (A (getD l i d)) (B (getD l i d)))
 
--- slot i of l, of which k are filled
-abbrev pub SlotFormed : {X : Type 0} → (X → Bool) → (X → Bool) → X → List X → ℕ → ℕ → Type 0
-SlotFormed A B d l k i = T (cond (ltb i k) (A (getD l i d)) (B (getD l i d)))
+pub fill-none : {X : Type 0} (A B : X → Bool) (d : X) (n : ℕ) (x : X) → T (B x) → Filled A B d n 0 (replicate n x)
+fill-none A B d n x h = record { long = length-replicate n x; slot = λ i p. rw (le-ltb i 0 zero-le, getD-replicate n i x d p) h }
 
-module _ {X : Type 0} (A B : X → Bool) (d : X) (l : List X) (n : ℕ) (long : length l ≡ n) where
-  -- slot k is filled anew
-  pub slot-put : (k m : ℕ) (x : X) → k < m → k < n → T (A x) → ((i : ℕ) → i < n → SlotFormed A B d l m i) → (i : ℕ) → i < n → SlotFormed A B d (set l k x) m i
-  slot-put k m x p q a h i r =
-      equal-or-not i k
-      (λ e. let s : i < m = omega arith in
-      let g : getD (set l k x) i d ≡ x = ap (λ (j : ℕ). getD (set l k x) j d) e ∙ getD-set-same l k x d (omega arith) in
-      rw (lt-ltb i m s, g) a)
-      (λ e. rw (getD-set-other l k i x d e) (h i r))
+module _ {X : Type 0} {A B : X → Bool} {d : X} {n k : ℕ} {l : List X} (f : Filled A B d n k l) where
+  at-put : (j : ℕ) (x : X) (i : ℕ) → i < n → i ≡ j → getD (set l j x) i d ≡ x
+  at-put j x i p e = ap (λ (h : ℕ). getD (set l j x) h d) e ∙ getD-set-same l j x d (omega (arith, f .long))
 
-  -- slot k counts as filled
-  pub slot-count : (k : ℕ) → T (A (getD l k d)) → ((i : ℕ) → i < n → SlotFormed A B d l k i) → (i : ℕ) → i < n → SlotFormed A B d l (k + 1) i
-  slot-count k a h i r =
-      ⊎-elim
-      (λ s. let u : i < k + 1 = omega arith in
-      rw (lt-ltb i (k + 1) u) (rw (lt-ltb i k s) at (h i r)))
-      (λ s. equal-or-not i k
-      (λ e. let u : i < k + 1 = omega arith in
-      let v : T (A (getD l i d)) = subst (λ (j : ℕ). T (A (getD l j d))) (sym e) a in
-      rw (lt-ltb i (k + 1) u) v)
-      (λ e. let u : k + 1 ≤ i = omega arith in
-      rw (le-ltb i (k + 1) u) (rw (le-ltb i k s) at (h i r))))
-      (lt-or-le i k)
+  -- a filled slot is filled anew
+  pub fill-again : (j : ℕ) (x : X) → j < k → T (A x) → Filled A B d n k (set l j x)
+  fill-again j x q a = record { long = length-set l j x ∙ f .long; slot = slot }
+    where
+      slot : (i : ℕ) → i < n → T (cond (ltb i k) (A (getD (set l j x) i d)) (B (getD (set l j x) i d)))
+      slot i p =
+          three-ways i j
+          (λ s. rw (getD-set-other l j i x d (λ e. omega arith)) (f .slot i p))
+          (λ e. let s : i < k = omega arith in rw (lt-ltb i k s, at-put j x i p e) a)
+          (λ s. rw (getD-set-other l j i x d (λ e. omega arith)) (f .slot i p))
 
-  -- slot k is filled next
-  pub slot-next : (k : ℕ) (x : X) → k < n → T (A x) → ((i : ℕ) → i < n → SlotFormed A B d l k i) → (i : ℕ) → i < n → SlotFormed A B d (set l k x) (k + 1) i
-  slot-next k x q a h i r =
-      ⊎-elim
-      (λ s. let u : i < k + 1 = omega arith in
-      rw (lt-ltb i (k + 1) u, getD-set-other l k i x d (λ e. omega arith)) (rw (lt-ltb i k s) at (h i r)))
-      (λ s. equal-or-not i k
-      (λ e. let u : i < k + 1 = omega arith in
-      let g : getD (set l k x) i d ≡ x = ap (λ (j : ℕ). getD (set l k x) j d) e ∙ getD-set-same l k x d (omega arith) in
-      rw (lt-ltb i (k + 1) u, g) a)
-      (λ e. let u : k + 1 ≤ i = omega arith in
-      rw (le-ltb i (k + 1) u, getD-set-other l k i x d e) (rw (le-ltb i k s) at (h i r))))
-      (lt-or-le i k)
+  -- the next slot is filled, or counts as filled as it is
+  pub fill-next : (x : X) → T (A x) → Filled A B d n (k + 1) (set l k x)
+  fill-next x a = record { long = length-set l k x ∙ f .long; slot = slot }
+    where
+      slot : (i : ℕ) → i < n → T (cond (ltb i (k + 1)) (A (getD (set l k x) i d)) (B (getD (set l k x) i d)))
+      slot i p =
+          three-ways i k
+          (λ s. let u : i < k + 1 = omega arith in
+          rw (lt-ltb i (k + 1) u, getD-set-other l k i x d (λ e. omega arith)) (rw (lt-ltb i k s) at (f .slot i p)))
+          (λ e. let u : i < k + 1 = omega arith in rw (lt-ltb i (k + 1) u, at-put k x i p e) a)
+          (λ s. let u : k + 1 ≤ i = omega arith in
+          let w : k ≤ i = omega arith in
+          rw (le-ltb i (k + 1) u, getD-set-other l k i x d (λ e. omega arith)) (rw (le-ltb i k w) at (f .slot i p)))
+
+  pub fill-count : T (A (getD l k d)) → Filled A B d n (k + 1) l
+  fill-count a = record { long = f .long; slot = slot }
+    where
+      slot : (i : ℕ) → i < n → T (cond (ltb i (k + 1)) (A (getD l i d)) (B (getD l i d)))
+      slot i p =
+          three-ways i k
+          (λ s. let u : i < k + 1 = omega arith in rw (lt-ltb i (k + 1) u) (rw (lt-ltb i k s) at (f .slot i p)))
+          (λ e. let u : i < k + 1 = omega arith in rw (lt-ltb i (k + 1) u) (subst (λ (j : ℕ). T (A (getD l j d))) (sym e) a))
+          (λ s. let u : k + 1 ≤ i = omega arith in
+          let w : k ≤ i = omega arith in
+          rw (le-ltb i (k + 1) u) (rw (le-ltb i k w) at (f .slot i p)))
 
 -- where no slot is filled, the first test does not matter
-pub slot-none : {X : Type 0} (A A′ B : X → Bool) (d : X) (l : List X) (i : ℕ) → SlotFormed A B d l 0 i → SlotFormed A′ B d l 0 i
-slot-none A A′ B d l i h = rw (le-ltb i 0 zero-le) (rw (le-ltb i 0 zero-le) at h)
+pub fill-other : {X : Type 0} {A B : X → Bool} {d : X} {n : ℕ} {l : List X} (A′ : X → Bool) → Filled A B d n 0 l → Filled A′ B d n 0 l
+fill-other A′ f = record { long = f .long; slot = λ i p. rw (le-ltb i 0 zero-le) (rw (le-ltb i 0 zero-le) at (f .slot i p)) }
+
+-- ---- a slot that is not there is put nowhere
+pub put-is : {X : Type 0} (l : List X) (k n : ℕ) (x : X) → length l ≡ n → cond (ltb k n) (set l k x) l ≡ set l k x
+put-is {X} l k n x long = go (ltb k n) refl
+  where
+    go : (b : Bool) → ltb k n ≡ b → cond b (set l k x) l ≡ set l k x
+    go true e = refl
+    go false e = sym (set-out l k x (omega (arith, ltb-false k n e)))
