@@ -13,19 +13,16 @@ use Rattle.text.specs.declared.bytes.Faults.{Faults}
 use Rattle.model.specs.declared.Model.{Model}
 use Rattle.text.specs.lines.Progress.{Progress, advanced, refused, tried, readLine}
 use Rattle.text.specs.lines.Sequence.{inTurn}
+use Rattle.text.proofs.lines.Settling.{no-fault}
 
 -- P holds of the model, unless the reading was refused
 abbrev pub Good : (Model → Type 0) → Progress → Type 0
 Good P p = p .number ≡ 0 → P (p .model)
 
-fault-of : (b : Bool) (f : Faults) → lineNumber b f ≡ 0 → faultNumber f ≡ 0
-unfolding lineNumber
-fault-of true f h = h
-fault-of false f h = absurd (omega arith)
-
 -- a line that turns a model with P into one with Q
 pub line-keeps : (P Q : Model → Type 0) (key : List ℕ) (faults : Model → List ℕ → Faults) (store : Model → List ℕ → Model)
-    → ((m : Model) (v : List ℕ) → P m → faultNumber (faults m v) ≡ 0 → Q (store m v)) → (p : Progress) → Good P p → Good Q (readLine key faults store p)
+    → ((m : Model) (v : List ℕ) → P m → faultNumber (faults m v) ≡ 0 → Q (store m v))
+    → (p : Progress) → Good P p → Good Q (readLine key faults store p)
 unfolding readLine
 line-keeps P Q key faults store keeps p good = go (eqb (p .number) 0) refl
   where
@@ -36,7 +33,7 @@ line-keeps P Q key faults store keeps p good = go (eqb (p .number) 0) refl
     n = lineNumber (isDue key (p .rest)) (faults (p .model) v)
 
     one : p .number ≡ 0 → (b : Bool) → eqb n 0 ≡ b → Good Q (cond b (advanced (store (p .model) v) p) (refused n p))
-    one z true e h = keeps (p .model) v (good z) (fault-of (isDue key (p .rest)) (faults (p .model) v) (eqb-true n 0 e))
+    one z true e h = keeps (p .model) v (good z) (no-fault (isDue key (p .rest)) (faults (p .model) v) e .1)
     one z false e h = absurd (eqb-false n 0 e h)
 
     go : (b : Bool) → eqb (p .number) 0 ≡ b → Good Q (cond b (tried n (store (p .model) v) p) p)
@@ -44,7 +41,10 @@ line-keeps P Q key faults store keeps p good = go (eqb (p .number) 0) refl
     go false e = λ h. absurd (eqb-false (p .number) 0 e h)
 
 -- lines in turn
-pub turns-keep : (P : ℕ → Model → Type 0) (f : ℕ → Progress → Progress) (n : ℕ) → ((i : ℕ) → i < n → (p : Progress) → Good (P i) p → Good (P (i + 1)) (f i p)) → (p : Progress) → Good (P 0) p → Good (P n) (inTurn f n p)
+pub turns-keep : (P : ℕ → Model → Type 0) (f : ℕ → Progress → Progress) (n : ℕ)
+    → ((i : ℕ) → i < n → (p : Progress) → Good (P i) p → Good (P (i + 1)) (f i p)) → (p : Progress) → Good (P 0) p → Good (P n) (inTurn f n p)
 unfolding inTurn
-turns-keep P f zero keeps p good = good
-turns-keep P f (suc n) keeps p good = λ h. subst (λ (k : ℕ). P k (f n (inTurn f n p) .model)) (add-one n) (keeps n (omega arith) (inTurn f n p) (turns-keep P f n (λ i l. keeps i (omega arith)) p good) h)
+turns-keep P f zero keeps p good h = good h
+turns-keep P f (suc n) keeps p good h =
+    let before = turns-keep P f n (λ i l. keeps i (omega arith)) p good in
+    subst (λ (k : ℕ). P k (f n (inTurn f n p) .model)) (add-one n) (keeps n (omega arith) (inTurn f n p) before h)

@@ -22,6 +22,14 @@ pub record Filled {X : Type 0} (A B : X → Bool) (d : X) (n k : ℕ) (l : List 
 pub fill-none : {X : Type 0} (A B : X → Bool) (d : X) (n : ℕ) (x : X) → T (B x) → Filled A B d n 0 (replicate n x)
 fill-none A B d n x h = record { long = length-replicate n x; slot = λ i p. rw (le-ltb i 0 zero-le, getD-replicate n i x d p) h }
 
+-- slots that pass both tests, whichever count as filled
+pub fill-both : {X : Type 0} (A B : X → Bool) (d : X) (n k : ℕ) (x : X) → T (A x) → T (B x) → Filled A B d n k (replicate n x)
+fill-both A B d n k x a b = record { long = length-replicate n x; slot = λ i p. rw (getD-replicate n i x d p) (go (ltb i k)) }
+  where
+    go : (t : Bool) → T (cond t (A x) (B x))
+    go true = a
+    go false = b
+
 module _ {X : Type 0} {A B : X → Bool} {d : X} {n k : ℕ} {l : List X} (f : Filled A B d n k l) where
   at-put : (j : ℕ) (x : X) (i : ℕ) → i < n → i ≡ j → getD (set l j x) i d ≡ x
   at-put j x i p e = ap (λ (h : ℕ). getD (set l j x) h d) e ∙ getD-set-same l j x d (omega (arith, f .long))

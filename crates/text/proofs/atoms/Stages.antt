@@ -10,7 +10,7 @@ use lib.Seq.{set-at}
 use lib.Dec.{ltb, leb, eqb}
 use borrow.Author.Tests.{lt-ltb, le-ltb, leb-true, leb-false, ltb-false, eqb-true}
 use Rattle.text.specs.bytes.Faulty.{faultNumber, anyOf}
-use Rattle.text.proofs.bytes.Flags.{flag, unflagged, any-head, any-tail, same-faults, passed}
+use Rattle.text.proofs.bytes.Flags.{flag, unflagged, any-head, any-tail, same-faults, passed, if-faultless}
 use Rattle.model.specs.declared.AtomSlot.{AtomSlot}
 use Rattle.model.specs.Record.{blankAtom}
 use Rattle.text.specs.declared.atoms.AtomRead.{AtomRead}
@@ -83,8 +83,6 @@ module _ (clocks vars : ℕ) (p : clocks < 256) (q : vars < 256) where
 
   pub by-stages : (items : List AtomRead) → collected (foldl (absorbed clocks vars) noAtoms items) ≡ atomValue clocks vars items
   unfolding collected atomValue
-  by-stages items = rw (faults-are clocks vars items) (λ i. record { faults = atomFaults clocks vars items; atoms = go (eqb (faultNumber (atomFaults clocks vars items)) 0) refl i })
-    where
-      go : (b : Bool) → eqb (faultNumber (atomFaults clocks vars items)) 0 ≡ b → cond b (foldl (absorbed clocks vars) noAtoms items .atoms) (replicate 4 blankAtom) ≡ cond b (atomSlots items) (replicate 4 blankAtom)
-      go true e = filled items (eqb-true _ _ e)
-      go false e = refl
+  by-stages items =
+      let f = atomFaults clocks vars items in
+      rw (faults-are clocks vars items) (λ i. record { faults = f; atoms = if-faultless f (replicate 4 blankAtom) (filled items) i })

@@ -5,7 +5,7 @@ use mathlib.Core.List.{List, [], _∷_, map, foldl}
 use mathlib.Core.Bool.{Bool, true, false, not, cond, _&&_, _||_, or-assoc, or-false, false≢true}
 use native.Mathlib.Omega.{arith}
 use lib.Dec.{ltb, leb, eqb}
-use borrow.Author.Tests.{lt-ltb, le-ltb, leb-true, leb-false}
+use borrow.Author.Tests.{lt-ltb, le-ltb, leb-true, leb-false, eqb-true}
 use Rattle.text.specs.declared.bytes.Faults.{Faults}
 use Rattle.text.specs.declared.bytes.LineFault.{LineFault}
 use Rattle.text.specs.declared.bytes.LineFault.the-variants.{NoFault, NotDue, NotOfItsForm, TooManyItems, OutOfRange, NotDeclared, NotRising}
@@ -37,22 +37,23 @@ module _ {S A : Type 0} (step : S → A → S) where
       go true e = rw (le-ltb (key a) (least s) (leb-true (least s) (key a) e))
       go false e = rw (lt-ltb (key a) (least s) (leb-false (least s) (key a) e))
 
+-- ---- two tests of which none fails
+pub or-left : (a b : Bool) → (a || b) ≡ false → a ≡ false
+or-left true b h = h
+or-left false b h = refl
+
+pub or-right : (a b : Bool) → (a || b) ≡ false → b ≡ false
+or-right true b h = absurd (false≢true (sym h))
+or-right false b h = h
+
 -- ---- an item of a list of which none fails a test
 pub any-head : {A : Type 0} (f : A → Bool) (a : A) (l : List A) → anyOf f (a ∷ l) ≡ false → f a ≡ false
 unfolding anyOf
-any-head f a l h = go (f a) h
-  where
-    go : (b : Bool) → (b || anyOf f l) ≡ false → b ≡ false
-    go true h = h
-    go false h = refl
+any-head f a l h = or-left (f a) (anyOf f l) h
 
 pub any-tail : {A : Type 0} (f : A → Bool) (a : A) (l : List A) → anyOf f (a ∷ l) ≡ false → anyOf f l ≡ false
 unfolding anyOf
-any-tail f a l h = go (f a) h
-  where
-    go : (b : Bool) → (b || anyOf f l) ≡ false → anyOf f l ≡ false
-    go true h = absurd (false≢true (sym h))
-    go false h = h
+any-tail f a l h = or-right (f a) (anyOf f l) h
 
 -- ---- faults that agree flag by flag
 pub same-faults : (f : Faults) {a b c d e : Bool} → f .malformed ≡ a → f .crowded ≡ b → f .outside ≡ c → f .undeclared ≡ d → f .unordered ≡ e
@@ -80,6 +81,15 @@ passed f h =
     go false false false true e h = absurd (omega arith)
     go false false false false true h = absurd (omega arith)
     go false false false false false h = (refl, refl, refl, refl, refl)
+
+-- what a value without faults shows, and else z
+pub if-faultless : {X : Type 0} (f : Faults) {x y : X} (z : X) → (faultNumber f ≡ 0 → x ≡ y)
+    → cond (eqb (faultNumber f) 0) x z ≡ cond (eqb (faultNumber f) 0) y z
+if-faultless {X} f {x} {y} z h = go (eqb (faultNumber f) 0) refl
+  where
+    go : (b : Bool) → eqb (faultNumber f) 0 ≡ b → cond b x z ≡ cond b y z
+    go true e = h (eqb-true (faultNumber f) 0 e)
+    go false e = refl
 
 pub no-fault-number : (k : LineFault) → eqb (lineTold k) 0 ≡ isNoFault k
 no-fault-number NoFault = refl

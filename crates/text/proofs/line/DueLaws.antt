@@ -13,7 +13,7 @@ use Rattle.text.specs.bytes.Bytes.{firstAt, startsWith, isDue, valueOf, 
 use Rattle.text.specs.bytes.Faulty.{faultNumber}
 use Rattle.text.specs.declared.bytes.NumberRead.{NumberRead}
 use Rattle.text.specs.declared.bytes.NumberRead.the-variants.{Malformed, Number}
-use Rattle.text.proofs.bytes.Flags.{passed}
+use Rattle.text.proofs.bytes.Flags.{or-left, or-right, passed}
 use Rattle.text.specs.declared.line.Due.{Due}
 use Rattle.text.specs.line.Values.{greatestOf, initialOf, liesOutside, isUndeclared, numberFaults, referenceFaults, counterFaults}
 use Rattle.text.specs.line.DueLines.{dueAt, DueLine, valueIn}
@@ -105,14 +105,6 @@ module _ (key t : List ℕ) (at : ℕ) (d : Due) (is : d ≡ dueAt key t at) whe
 -- ---- numbers that pass their tests fit a byte
 narrowed-is : (n : NumberRead) → numberIn n < 256 → byteIn n ≡ numberIn n
 narrowed-is n h = rw (lt-ltb (numberIn n) 256 h)
-
-or-right : (a b : Bool) → (a || b) ≡ false → b ≡ false
-or-right true b h = absurd (false≢true (sym h))
-or-right false b h = h
-
-or-left : (a b : Bool) → (a || b) ≡ false → a ≡ false
-or-left true b h = absurd (false≢true (sym h))
-or-left false b h = refl
 
 pub number-inside : (least greatest : ℕ) (n : NumberRead) → faultNumber (numberFaults least greatest n) ≡ 0 → (least ≤ numberIn n) × (numberIn n ≤ greatest)
 unfolding numberFaults

@@ -36,7 +36,7 @@ abbrev refusedAt : Reading → ℕ → Told
 refusedAt r n = record { number = n; line = r .line; at = r .at; model = r .model }
 
 -- a line without a fault is the due one, and its value has none
-no-fault : (b : Bool) (f : Faults) → eqb (lineNumber b f) 0 ≡ true → (b ≡ true) × (faultNumber f ≡ 0)
+pub no-fault : (b : Bool) (f : Faults) → eqb (lineNumber b f) 0 ≡ true → (b ≡ true) × (faultNumber f ≡ 0)
 unfolding lineNumber
 no-fault true f h = (refl, eqb-true (faultNumber f) 0 h)
 no-fault false f h = absurd (false≢true h)

@@ -9,6 +9,7 @@ use lib.Seq.{set-out}
 use lib.Dec.{ltb}
 use borrow.Author.Tests.{ltb-false}
 use Rattle.text.proofs.bytes.Flags.{flag, unflagged, unrising, same-faults}
+use Rattle.text.proofs.Laws.Slots.{put-is}
 use Rattle.model.specs.declared.ClockUpdate.{ClockUpdate}
 use Rattle.model.specs.declared.ClockSlot.{ClockSlot}
 use Rattle.model.specs.Record.{blankReset}
@@ -28,19 +29,11 @@ faults-are clocks items =
     (flag step (λ s. s .faults .undeclared) (isUndeclared clocks) (λ s a. refl) items noResets)
     (unrising step (λ s. s .faults .unordered) (λ s. s .least) clockOf (λ s a. refl) (λ s a. refl) items noResets)
 
-put-is : (slots : List ClockSlot) (k : ℕ) (x : ClockUpdate) → length slots ≡ 4 → put slots k x ≡ set slots k (record { update = x })
-unfolding put
-put-is slots k x n = go (ltb k 4) refl
-  where
-    go : (b : Bool) → ltb k 4 ≡ b → cond b (set slots k (record { update = x })) slots ≡ set slots k (record { update = x })
-    go true e = refl
-    go false e = sym (set-out slots k (record { update = x }) (omega (arith, ltb-false k 4 e)))
-
 slots-are : (clocks : ℕ) (l : List ResetRead) (s : ResetsRead) (slots : List ClockSlot) → length slots ≡ 4 → s .resets ≡ slots → foldl (absorbed clocks) s l .resets ≡ foldl placed slots l
-unfolding absorbed
+unfolding absorbed put
 slots-are clocks [] s slots n e = e
 slots-are clocks (a ∷ l) s slots n e =
-    slots-are clocks l (absorbed clocks s a) (placed slots a) (length-set slots (clockOf a) (record { update = updateIn a }) ∙ n) (rw e (put-is slots (clockOf a) (updateIn a) n))
+    slots-are clocks l (absorbed clocks s a) (placed slots a) (length-set slots (clockOf a) (record { update = updateIn a }) ∙ n) (rw e (put-is slots (clockOf a) 4 _ n))
 
 filled : (clocks : ℕ) (items : List ResetRead) → foldl (absorbed clocks) noResets items .resets ≡ resetSlots items
 unfolding resetSlots noResets

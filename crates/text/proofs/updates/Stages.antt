@@ -9,7 +9,8 @@ use lib.Seq.{set-out}
 use lib.Dec.{ltb, leb, eqb}
 use borrow.Author.Tests.{lt-ltb, leb-false, ltb-false, eqb-true}
 use Rattle.text.specs.bytes.Faulty.{faultNumber, anyOf}
-use Rattle.text.proofs.bytes.Flags.{flag, unflagged, unrising, any-head, any-tail, same-faults, passed}
+use Rattle.text.proofs.bytes.Flags.{flag, unflagged, unrising, or-right, any-head, any-tail, same-faults, passed, if-faultless}
+use Rattle.text.proofs.Laws.Slots.{put-is}
 use Rattle.model.specs.declared.Update.{Update}
 use Rattle.model.specs.declared.UpdateSlot.{UpdateSlot}
 use Rattle.model.specs.Record.{blankUpdate}
@@ -30,38 +31,19 @@ faults-are vars items =
     (flag step (λ s. s .faults .undeclared) (isUndeclared vars) (λ s a. refl) items noSets)
     (unrising step (λ s. s .faults .unordered) (λ s. s .least) counterOf (λ s a. refl) (λ s a. refl) items noSets)
 
-pub or-false-left : (a b : Bool) → (a || b) ≡ false → a ≡ false
-or-false-left true b h = h
-or-false-left false b h = refl
-
-pub or-false-right : (a b : Bool) → (a || b) ≡ false → b ≡ false
-or-false-right true b h = absurd (omega (arith, absurd-true h))
-  where
-    absurd-true : true ≡ false → _≡_ {A = ℕ} 0 1
-    absurd-true e = cc
-or-false-right false b h = h
-
 module _ (vars : ℕ) (p : vars < 256) where
   stored-is : (a : SetRead) → isOutside a ≡ false → isUndeclared vars a ≡ false → storedUpdate a ≡ updateIn a
   stored-is Malformed o u = refl
   stored-is (ToConstant v c) o u = rw (lt-ltb c 256 (omega (arith, ltb-false 31 c o)))
-  stored-is (ToSum v w negative n) o u = rw (lt-ltb w 256 (omega (arith, leb-false vars w (or-false-right (leb vars v) (leb vars w) u))), o)
-
-  put-is : (slots : List UpdateSlot) (k : ℕ) (x : Update) → length slots ≡ 4 → put slots k x ≡ set slots k (record { update = x })
-  unfolding put
-  put-is slots k x n = go (ltb k 4) refl
-    where
-      go : (b : Bool) → ltb k 4 ≡ b → cond b (set slots k (record { update = x })) slots ≡ set slots k (record { update = x })
-      go true e = refl
-      go false e = sym (set-out slots k (record { update = x }) (omega (arith, ltb-false k 4 e)))
+  stored-is (ToSum v w negative n) o u = rw (lt-ltb w 256 (omega (arith, leb-false vars w (or-right (leb vars v) (leb vars w) u))), o)
 
   slots-are : (l : List SetRead) (s : SetsRead) (slots : List UpdateSlot) → length slots ≡ 4 → s .updates ≡ slots → anyOf isOutside l ≡ false → anyOf (isUndeclared vars) l ≡ false
       → foldl (absorbed vars) s l .updates ≡ foldl placed slots l
-  unfolding absorbed
+  unfolding absorbed put
   slots-are [] s slots n e o u = e
   slots-are (a ∷ l) s slots n e o u =
       slots-are l (absorbed vars s a) (placed slots a) (length-set slots (counterOf a) (record { update = updateIn a }) ∙ n)
-      (rw (e, stored-is a (any-head isOutside a l o) (any-head (isUndeclared vars) a l u)) (put-is slots (counterOf a) (updateIn a) n))
+      (rw (e, stored-is a (any-head isOutside a l o) (any-head (isUndeclared vars) a l u)) (put-is slots (counterOf a) 4 _ n))
       (any-tail isOutside a l o)
       (any-tail (isUndeclared vars) a l u)
 
@@ -71,8 +53,6 @@ module _ (vars : ℕ) (p : vars < 256) where
 
   pub by-stages : (items : List SetRead) → collected (foldl (absorbed vars) noSets items) ≡ setValue vars items
   unfolding collected setValue
-  by-stages items = rw (faults-are vars items) (λ i. record { faults = setFaults vars items; updates = go (eqb (faultNumber (setFaults vars items)) 0) refl i })
-    where
-      go : (b : Bool) → eqb (faultNumber (setFaults vars items)) 0 ≡ b → cond b (foldl (absorbed vars) noSets items .updates) (replicate 4 blankUpdate) ≡ cond b (updateSlots items) (replicate 4 blankUpdate)
-      go true e = filled items (eqb-true _ _ e)
-      go false e = refl
+  by-stages items =
+      let f = setFaults vars items in
+      rw (faults-are vars items) (λ i. record { faults = f; updates = if-faultless f (replicate 4 blankUpdate) (filled items) i })
