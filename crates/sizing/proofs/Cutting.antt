@@ -8,12 +8,11 @@ use lib.Dec.{eqb, ltb}
 use lib.ListN.{length, take, drop, length-take, length-drop}
 use lib.Seq.{take-all}
 use borrow.Author.Tests.{lt-ltb, ltb-true, ltb-false}
-use Rattle.scan.specs.Ascii.{ascii}
-use Rattle.scan.specs.Bytes.{firstAt, startsWith, isDue, valueOf, numberOf}
-use Rattle.scan.specs.declared.NumberRead.{NumberRead}
-use Rattle.scan.specs.declared.NumberRead.the-variants.{Malformed, Number}
-use Rattle.scan.proofs.Bytewise.{numberOf-none}
-use Rattle.scan.proofs.Pieces.{firstAt-le}
+use Rattle.text.specs.bytes.Ascii.{ascii}
+use Rattle.text.specs.bytes.Bytes.{firstAt, startsWith, isDue, valueOf, numberOf}
+use Rattle.text.specs.declared.bytes.NumberRead.{NumberRead}
+use Rattle.text.specs.declared.bytes.NumberRead.the-variants.{Malformed, Number}
+use Rattle.text.proofs.Laws.Bytewise.{firstAt-le, numberOf-none}
 use Rattle.text.specs.Bound.{BoundReport, boundRefused, boundIn, boundReport, ifBound}
 use Rattle.text.specs.Text.{ReadReport, readReport, readRefused}
 use Rattle.sizing.specs.SizeCall.{refusedSizes, textSizes, boundSizes, sizeReport}

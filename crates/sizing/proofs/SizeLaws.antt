@@ -8,10 +8,10 @@ use lib.Dec.{ltb}
 use lib.IntN.{ℤ}
 use lib.ListN.{length, drop}
 use borrow.Author.Tests.{ltb-true}
-use Rattle.scan.specs.Ascii.{ascii}
-use Rattle.scan.specs.Bytes.{firstAt, isDue, valueOf, numberOf}
-use Rattle.scan.specs.declared.NumberRead.{NumberRead}
-use Rattle.scan.specs.declared.NumberRead.the-variants.{Malformed, Number}
+use Rattle.text.specs.bytes.Ascii.{ascii}
+use Rattle.text.specs.bytes.Bytes.{firstAt, isDue, valueOf, numberOf}
+use Rattle.text.specs.declared.bytes.NumberRead.{NumberRead}
+use Rattle.text.specs.declared.bytes.NumberRead.the-variants.{Malformed, Number}
 use Rattle.model.specs.declared.Model.{Model}
 use Rattle.text.specs.Bound.{BoundReport, boundRefused, boundAccepted, boundIn, boundReport, boundTold}
 use Rattle.text.specs.Text.{ReadReport, readReport, readTold, outcomeNumber, outcomeLine}

@@ -80,7 +80,7 @@ pub fn sizes_of(input: &[u8], out: &mut [i32]) -> SizeAnswer
 {
     let first = read_bound(input);
     match first {
-        BoundRead::NotABound => refused(9, 0),
+        BoundRead::NotABound => refused(first.number(), 0),
         BoundRead::Bound { bound, next } => text_sizes(&input[next..], bound as usize, out),
     }
 }

@@ -8,18 +8,18 @@ use native.Mathlib.Nat.{zero-add}
 use lib.ListN.{length, drop, length-drop}
 use lib.Dec.{eqb}
 use borrow.Author.Tests.{lt-ltb, le-ltb}
-use Rattle.scan.specs.Ascii.{ascii}
-use Rattle.scan.specs.Bytes.{firstAt, numberOf}
-use Rattle.scan.specs.Faulty.{lineTold, isNoFault}
-use Rattle.scan.specs.declared.NumberRead.{NumberRead}
-use Rattle.scan.proofs.Flags.{no-fault-number}
+use Rattle.text.specs.bytes.Ascii.{ascii}
+use Rattle.text.specs.bytes.Bytes.{firstAt, numberOf}
+use Rattle.text.specs.bytes.Faulty.{lineTold, isNoFault}
+use Rattle.text.specs.declared.bytes.NumberRead.{NumberRead}
+use Rattle.text.proofs.bytes.Flags.{no-fault-number}
 use Rattle.model.specs.Record.{blankModel}
-use Rattle.lines.specs.declared.Reading.{Reading}
-use Rattle.lines.specs.Place.{progress}
-use Rattle.due.specs.declared.Due.{Due}
-use Rattle.due.specs.Place.{DueLine, valueIn}
-use Rattle.due.proofs.DueLaws.{found-is, line-end, value-is}
-use Rattle.sequence.specs.Place.{ReadsFrom}
+use Rattle.text.specs.declared.lines.Reading.{Reading}
+use Rattle.text.specs.lines.Readings.{progress}
+use Rattle.text.specs.declared.line.Due.{Due}
+use Rattle.text.specs.line.DueLines.{DueLine, valueIn}
+use Rattle.text.proofs.line.DueLaws.{found-is, line-end, value-is}
+use Rattle.text.specs.lines.Readings.{ReadsFrom}
 use Rattle.text.specs.declared.ReadOutcome.{ReadOutcome}
 use Rattle.text.specs.declared.ReadOutcome.the-variants.{Read, TooLong, BytesLeft}
 use Rattle.text.specs.declared.ReadAnswer.{ReadAnswer}

@@ -3,10 +3,10 @@ use Prim.Native.Nat.{ℕ, _+_}
 use mathlib.Core.List.{List}
 use mathlib.Core.Bool.{cond}
 use lib.Dec.{eqb}
-use Rattle.scan.specs.Ascii.{ascii}
-use Rattle.scan.specs.Bytes.{firstAt, isDue, valueOf, numberOf}
-use Rattle.scan.specs.declared.NumberRead.{NumberRead}
-use Rattle.scan.specs.declared.NumberRead.the-variants.{Malformed, Number}
+use Rattle.text.specs.bytes.Ascii.{ascii}
+use Rattle.text.specs.bytes.Bytes.{firstAt, isDue, valueOf, numberOf}
+use Rattle.text.specs.declared.bytes.NumberRead.{NumberRead}
+use Rattle.text.specs.declared.bytes.NumberRead.the-variants.{Malformed, Number}
 use Rattle.text.specs.declared.BoundRead.{BoundRead}
 use Rattle.text.specs.declared.BoundRead.the-variants.{NotABound, Bound}
 

@@ -7,10 +7,10 @@ use lib.Dec.{ltb, eqb}
 use lib.ListN.{length}
 use Rattle.model.specs.declared.Model.{Model}
 use Rattle.model.specs.Record.{blankModel}
-use Rattle.lines.specs.Progress.{Progress}
-use Rattle.lines.specs.Sequence.{readLines}
-use Rattle.scan.specs.Faulty.{lineTold, isNoFault}
-use Rattle.scan.specs.declared.LineFault.{LineFault}
+use Rattle.text.specs.lines.Progress.{Progress}
+use Rattle.text.specs.lines.Sequence.{readLines}
+use Rattle.text.specs.bytes.Faulty.{lineTold, isNoFault}
+use Rattle.text.specs.declared.bytes.LineFault.{LineFault}
 use Rattle.text.specs.declared.ReadOutcome.{ReadOutcome}
 use Rattle.text.specs.declared.ReadOutcome.the-variants.{Read, TooLong, NotDue, NotOfItsForm, TooManyItems, OutOfRange, NotDeclared, NotRising, BytesLeft}
 use Rattle.text.specs.declared.ReadAnswer.{ReadAnswer}

@@ -1,13 +1,24 @@
 // The model text: what it says, or why it is refused.
-use lines::Reading;
+use crate::bytes::LineFault;
+use crate::bytes::NumberRead;
+use crate::lines::Reading;
 use model::Model;
-use scan::LineFault;
-use scan::NumberRead;
 ghost use mathlib.Core.Path.{_≡_};
 ghost use Rattle.model.specs.Record.{blankModel};
-ghost use Rattle.lines.specs.Place.{progress};
+ghost use Rattle.text.specs.lines.Readings.{progress};
 ghost use Rattle.text.specs.Text.{readEnded, readReport, readTold, Outcome, outcomeNumber, outcomeLine};
 ghost use Rattle.text.specs.Bound.{boundIn, boundReport, boundTold};
+
+mod atoms;
+mod bytes;
+mod edges;
+mod head;
+mod line;
+mod lines;
+mod reader;
+mod resets;
+mod sequence;
+mod updates;
 
 // What became of a text. A line is counted from 1.
 pub enum ReadOutcome {
@@ -122,6 +133,17 @@ impl ReadOutcome {
     }
 }
 
+impl BoundRead {
+    pub fn number(self) -> u8
+        ensures { λ n. ⌜ n ≡ boundTold self .number ⌝ }
+    {
+        match self {
+            BoundRead::NotABound => 9,
+            BoundRead::Bound { bound: _, next: _ } => 0,
+        }
+    }
+}
+
 fn bound_in(n: NumberRead, next: usize) -> BoundRead
     ensures { λ b. ⌜ boundTold b ≡ boundIn n next ⌝ }
 {
@@ -135,11 +157,11 @@ fn bound_in(n: NumberRead, next: usize) -> BoundRead
 pub fn read_bound(text: &[u8]) -> BoundRead
     ensures { λ b. ⌜ boundTold b ≡ boundReport (now (text .entry)) ⌝ }
 {
-    let d = due::due_at(text, 0, b"bound=");
+    let d = line::due_at(text, 0, b"bound=");
     if !d.found {
         return BoundRead::NotABound;
     }
     let start = d.start;
     let end = d.end;
-    bound_in(scan::number(&text[start..end]), end + 1)
+    bound_in(bytes::number(&text[start..end]), end + 1)
 }

@@ -1,15 +1,15 @@
 -- Every worked text is read as its row says, by evaluation.
 use mathlib.Core.Path.{refl}
-use Rattle.scan.specs.Bytes.{firstAt, startsWith, isDue, valueOf, numberOf, digitsOf, splitOn, isHyphen, itemsOf}
-use Rattle.scan.specs.Faulty.{faultNumber, lineNumber, anyOf, risesFrom}
-use Rattle.guards.specs.Atoms.{relationAt, atomOf, atomFaults, atomSlots, invItems, whenItems}
-use Rattle.updates.specs.Sets.{sumOf, setTo, setOf, setFaults, updateSlots, setItems}
-use Rattle.resets.specs.Resets.{resetOf, resetFaults, resetSlots, resetItems}
-use Rattle.due.specs.Values.{numberFaults, referenceFaults, counterFaults}
-use Rattle.lines.specs.Store.{withLocations, withInitial, withTarget, withClocks, withVars, withUsed, withCounter, withInvariant, withEdge, withSource, withEdgeTarget, withGuard, withUpdates, withResets}
-use Rattle.lines.specs.Progress.{readLine}
-use Rattle.lines.specs.Lines.{locationsLine, initLine, targetLine, clocksLine, varsLine, varLine, invLine, edgesLine, fromLine, toLine, whenLine, setLine, resetLine}
-use Rattle.lines.specs.Sequence.{inTurn, readHead, readCounters, readInvariants, readEdge, readEdges, readLines}
+use Rattle.text.specs.bytes.Bytes.{firstAt, startsWith, isDue, valueOf, numberOf, digitsOf, splitOn, isHyphen, itemsOf}
+use Rattle.text.specs.bytes.Faulty.{faultNumber, lineNumber, anyOf, risesFrom}
+use Rattle.text.specs.atoms.Atoms.{relationAt, atomOf, atomFaults, atomSlots, invItems, whenItems}
+use Rattle.text.specs.updates.Sets.{sumOf, setTo, setOf, setFaults, updateSlots, setItems}
+use Rattle.text.specs.resets.Resets.{resetOf, resetFaults, resetSlots, resetItems}
+use Rattle.text.specs.line.Values.{numberFaults, referenceFaults, counterFaults}
+use Rattle.text.specs.lines.Store.{withLocations, withInitial, withTarget, withClocks, withVars, withUsed, withCounter, withInvariant, withEdge, withSource, withEdgeTarget, withGuard, withUpdates, withResets}
+use Rattle.text.specs.lines.Progress.{readLine}
+use Rattle.text.specs.lines.Lines.{locationsLine, initLine, targetLine, clocksLine, varsLine, varLine, invLine, edgesLine, fromLine, toLine, whenLine, setLine, resetLine}
+use Rattle.text.specs.lines.Sequence.{inTurn, readHead, readCounters, readInvariants, readEdge, readEdges, readLines}
 use Rattle.text.specs.Text.{readEnded, readReport}
 use Rattle.text.specs.Bound.{boundReport}
 use Rattle.samples.specs.Models.{modelA, modelB}

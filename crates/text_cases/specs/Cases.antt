@@ -2,7 +2,7 @@
 use mathlib.Core.Path.{_≡_}
 use mathlib.Core.List.{List, [], _∷_}
 use Prim.Native.String.{String}
-use Rattle.scan.specs.Ascii.{ascii}
+use Rattle.text.specs.bytes.Ascii.{ascii}
 use Rattle.text.specs.Text.{ReadReport, readRefused, readAccepted, readReport}
 use Rattle.text.specs.Bound.{BoundReport, boundRefused, boundAccepted, boundReport}
 use Rattle.samples.specs.Models.{modelA, modelB}

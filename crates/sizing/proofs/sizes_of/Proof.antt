@@ -1,5 +1,5 @@
 use Rattle.sizing.proofs.SizeLaws.{next-within, accepted-is, bound-refused, bound-accepted}
-use Rattle.scan.proofs.Bytewise.{part-to-end}
+use Rattle.text.proofs.Laws.Bytewise.{part-to-end}
 use denote.Ref.{now}
 use borrow.Author.Needs.{needs}
 use Rattle.sizing.proofs.sizes_of.Statement.{statement}

@@ -2,17 +2,8 @@ use borrow.Author.Needs.{needs}
 use Rattle.text.proofs.bound_in.Statement.{statement}
 use Rattle.text.proofs.bound_in.Tie as tie
 
-enum-told : tie.Need-enum-told
-enum-told c = search needs
-
-enum-known-n : tie.Need-enum-known-n
-enum-known-n c = search needs
-
-returns : tie.Need-returns
-returns c = search needs
-
 returns-2 : tie.Need-returns-2
 returns-2 c = rw (c .before .n .given .1)
 
 pub bound-in-spec : {M : Type 1} → statement M
-bound-in-spec = tie.close (tie.spec enum-told enum-known-n returns returns-2)
+bound-in-spec = tie.close (tie.spec (search needs) (search needs) (λ c. search needs) returns-2)

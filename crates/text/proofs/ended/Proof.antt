@@ -4,20 +4,8 @@ use borrow.Author.Needs.{needs}
 use Rattle.text.proofs.ended.Statement.{statement}
 use Rattle.text.proofs.ended.Tie as tie
 
-is-none-requires : tie.Need-is-none-requires
-is-none-requires c κs = search needs
-
-outcome-requires : tie.Need-outcome-requires
-outcome-requires c κs = search needs
-
-refused-requires : tie.Need-refused-requires
-refused-requires c κs = search needs
-
 returns : tie.Need-returns
 returns c = ended-refused _ (c .before .before .before .before .before .args .r) (c .before .before .before .is-none .ensures) (not-true _ (c .before .before .if1 .taken)) (c .before .outcome .result) (c .before .outcome .ensures) (c .refused .ensures)
-
-refused-requires-2 : tie.Need-refused-requires-2
-refused-requires-2 c κs = search needs
 
 returns-2 : tie.Need-returns-2
 returns-2 c = ended-left _ (c .before .before .before .before .before .before .args .r) (c .before .before .before .before .is-none .ensures) (not-false _ (c .before .before .before .if1 .left)) (c .before .if2 .taken) (c .refused2 .ensures)
@@ -29,10 +17,10 @@ pub ended-spec : {M : Type 1} → statement M
 ended-spec =
     tie.close
     (tie.spec
-    is-none-requires
-    outcome-requires
-    refused-requires
+    (search needs)
+    (search needs)
+    (search needs)
     returns
-    refused-requires-2
+    (search needs)
     returns-2
     returns-3)

@@ -3,21 +3,12 @@ use borrow.Author.Needs.{needs}
 use Rattle.text.proofs.read_model.Statement.{statement}
 use Rattle.text.proofs.read_model.Tie as tie
 
-refused-requires : tie.Need-refused-requires
-refused-requires c κs = search needs
-
 returns : tie.Need-returns
 returns c = read-long _ (c .before .if1 .taken) (c .refused .ensures)
-
-read-first-requires : tie.Need-read-first-requires
-read-first-requires c κs = search needs
-
-ended-requires : tie.Need-ended-requires
-ended-requires c κs = search needs
 
 returns-2 : tie.Need-returns-2
 returns-2 c = read-whole _ (c .before .before .if1 .left) (c .before .read-first .result) (c .before .read-first .ensures) (c .ended .ensures)
 
 pub read-model-spec : {M : Type 1} → statement M
 read-model-spec =
-    tie.close (tie.spec refused-requires returns read-first-requires ended-requires returns-2)
+    tie.close (tie.spec (search needs) returns (search needs) (search needs) returns-2)

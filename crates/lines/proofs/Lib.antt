@@ -1,4 +1,0 @@
-pub mod Settling
-pub mod Stores
-pub mod ListLines
-pub mod Turns

@@ -1,5 +1,0 @@
-pub mod Store
-pub mod Progress
-pub mod Lines
-pub mod Sequence
-pub mod Place

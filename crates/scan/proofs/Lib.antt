@@ -1,3 +1,0 @@
-pub mod Bytewise
-pub mod Pieces
-pub mod Flags

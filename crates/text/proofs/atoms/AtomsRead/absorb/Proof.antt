@@ -1,0 +1,20 @@
+use Rattle.text.specs.atoms.OnePass.{absorbed}
+use borrow.Author.Needs.{needs}
+use Rattle.text.proofs.atoms.AtomsRead.absorb.Statement.{statement}
+use Rattle.text.proofs.atoms.AtomsRead.absorb.Tie as tie
+
+returns : tie.Need-returns
+unfolding absorbed
+returns c = rw (c .next-count .ensures, c .before .push .ensures, c .before .before .stored .ensures, c .before .before .before .before .is-undeclared .ensures, c .before .before .before .before .before .before .is-outside .ensures, c .before .before .before .before .before .before .before .before .before .is-malformed .ensures)
+
+pub absorb-spec : {M : Type 1} → statement M
+absorb-spec =
+    tie.close
+    (tie.spec
+    (search needs)
+    (search needs)
+    (search needs)
+    (search needs)
+    (search needs)
+    (search needs)
+    returns)

@@ -1,0 +1,4 @@
+pub mod Settling
+pub mod LineKinds
+pub mod Stores
+pub mod Turns

@@ -1,0 +1,22 @@
+use Rattle.text.specs.resets.OnePass.{absorbed}
+use borrow.Author.Needs.{needs}
+use Rattle.text.proofs.resets.ResetsRead.absorb.Statement.{statement}
+use Rattle.text.proofs.resets.ResetsRead.absorb.Tie as tie
+
+returns : tie.Need-returns
+unfolding absorbed
+returns c = rw (c .put .ensures, c .before .update .ensures, c .before .before .before .before .before .is-undeclared .ensures, c .before .before .before .before .before .before .before .is-malformed .ensures, c .before .before .before .before .before .before .before .before .clock .ensures)
+
+pub absorb-spec : {M : Type 1} → statement M
+absorb-spec =
+    tie.close
+    (tie.spec
+    (search needs)
+    (search needs)
+    (search needs)
+    (search needs)
+    (search needs)
+    (search needs)
+    (search needs)
+    (search needs)
+    returns)

@@ -1,0 +1,9 @@
+use borrow.Author.Needs.{needs}
+use Rattle.text.proofs.updates.assigns.Statement.{statement}
+use Rattle.text.proofs.updates.assigns.Tie as tie
+
+returns : tie.Need-returns
+returns c = rw (c .byte2 .ensures, c .before .byte .ensures)
+
+pub assigns-spec : {M : Type 1} → statement M
+assigns-spec = tie.close (tie.spec (search needs) (search needs) returns)

@@ -1,0 +1,116 @@
+-- The value of a set line: items v0:=5, v0:=v1+3 or v0:=v1-3, the tests of the line, and the slots that an accepted one fills.
+use Prim.Native.Nat.{ℕ}
+use mathlib.Core.List.{List, map, foldl}
+use mathlib.Core.Bool.{Bool, true, false, cond, not, _&&_, _||_}
+use lib.ListN.{getD, drop, set, replicate}
+use lib.Dec.{ltb, leb, eqb}
+use lib.IntN.{ℤ, pos, negℤ}
+use Rattle.text.specs.bytes.Bytes.{numberOf, leading, following, itemsOf}
+use Rattle.text.specs.bytes.Faulty.{faultNumber, anyOf, risesFrom}
+use Rattle.text.specs.declared.bytes.NumberRead.{NumberRead}
+use Rattle.text.specs.declared.bytes.NumberRead.the-variants.{Malformed as NoNumber, Number}
+use Rattle.text.specs.declared.bytes.Faults.{Faults}
+use Rattle.model.specs.declared.Update.{Update}
+use Rattle.model.specs.declared.Update.the-variants.{Keep, Constant, Sum}
+use Rattle.model.specs.declared.UpdateSlot.{UpdateSlot}
+use Rattle.model.specs.Record.{blankUpdate}
+use Rattle.text.specs.declared.updates.SetValue.{SetValue}
+use Rattle.text.specs.declared.updates.SetRead.{SetRead}
+use Rattle.text.specs.declared.updates.SetRead.the-variants.{Malformed, ToConstant, ToSum}
+
+-- ---- one item
+-- + (43) and a number, or - (45) and a number other than 0
+abbrev pub signedSum : ℕ → ℕ → ℕ → ℕ → SetRead
+signedSum v w sign n = cond (eqb sign 43) (ToSum v w false n) (cond (eqb sign 45 && ltb 0 n) (ToSum v w true n) Malformed)
+
+abbrev pub valuedSum : ℕ → ℕ → ℕ → NumberRead → SetRead
+valuedSum v w sign NoNumber = Malformed
+valuedSum v w sign (Number n) = signedSum v w sign n
+
+abbrev pub madeSum : ℕ → NumberRead → ℕ → NumberRead → SetRead
+madeSum v NoNumber sign n = Malformed
+madeSum v (Number w) sign n = valuedSum v w sign n
+
+abbrev pub madeConstant : ℕ → NumberRead → SetRead
+madeConstant v NoNumber = Malformed
+madeConstant v (Number c) = ToConstant v c
+
+-- what counter v is set to: v (118), a number, a sign and a number; or a number
+unfoldable pub sumOf : ℕ → List ℕ → SetRead
+sumOf v l = madeSum v (leading (drop 1 l)) (getD (following (drop 1 l)) 0 0) (numberOf (drop 1 (following (drop 1 l))))
+
+unfoldable pub setTo : ℕ → List ℕ → SetRead
+setTo v l = cond (eqb (getD l 0 0) 118) (sumOf v l) (madeConstant v (numberOf l))
+
+abbrev pub setNamed : NumberRead → List ℕ → SetRead
+setNamed NoNumber l = Malformed
+setNamed (Number v) l = setTo v l
+
+-- := (58 61)
+abbrev pub assigns : List ℕ → Bool
+assigns l = eqb (getD l 0 0) 58 && eqb (getD l 1 0) 61
+
+-- v (118), the number of the counter set, :=, and what it is set to
+unfoldable pub setOf : List ℕ → SetRead
+setOf l =
+    cond (eqb (getD l 0 0) 118 && assigns (following (drop 1 l)))
+    (setNamed (leading (drop 1 l)) (drop 2 (following (drop 1 l))))
+    Malformed
+
+-- ---- the tests of the line, each over all items
+abbrev pub isMalformed : SetRead → Bool
+isMalformed Malformed = true
+isMalformed (ToConstant v c) = false
+isMalformed (ToSum v w negative n) = false
+
+-- constant 0 to 31, offset -31 to 31
+abbrev pub isOutside : SetRead → Bool
+isOutside Malformed = false
+isOutside (ToConstant v c) = ltb 31 c
+isOutside (ToSum v w negative n) = ltb 31 n
+
+abbrev pub isUndeclared : ℕ → SetRead → Bool
+isUndeclared vars Malformed = false
+isUndeclared vars (ToConstant v c) = leb vars v
+isUndeclared vars (ToSum v w negative n) = leb vars v || leb vars w
+
+-- the counter set
+abbrev pub counterOf : SetRead → ℕ
+counterOf Malformed = 0
+counterOf (ToConstant v c) = v
+counterOf (ToSum v w negative n) = v
+
+unfoldable pub setFaults : ℕ → List SetRead → Faults
+setFaults vars items = record {
+  malformed = anyOf isMalformed items;
+  crowded = false;
+  outside = anyOf isOutside items;
+  undeclared = anyOf (isUndeclared vars) items;
+  unordered = not (risesFrom 0 (map counterOf items));
+}
+
+-- ---- the slots: each item sets its counter's, the others keep
+abbrev pub offsetOf : Bool → ℕ → ℤ
+offsetOf negative n = cond negative (negℤ (pos n)) (pos n)
+
+abbrev pub updateIn : SetRead → Update
+updateIn Malformed = Keep
+updateIn (ToConstant v c) = Constant c
+updateIn (ToSum v w negative n) = Sum w (offsetOf negative n)
+
+abbrev pub placed : List UpdateSlot → SetRead → List UpdateSlot
+placed slots a = set slots (counterOf a) (record { update = updateIn a })
+
+unfoldable pub updateSlots : List SetRead → List UpdateSlot
+updateSlots items = foldl placed (replicate 4 blankUpdate) items
+
+-- the faults of a value, and the slots where it has none
+unfoldable pub setValue : ℕ → List SetRead → SetValue
+setValue vars items = record {
+  faults = setFaults vars items;
+  updates = cond (eqb (faultNumber (setFaults vars items)) 0) (updateSlots items) (replicate 4 blankUpdate);
+}
+
+-- ---- the items of a set value
+unfoldable pub setItems : List ℕ → List SetRead
+setItems v = map setOf (itemsOf v)
