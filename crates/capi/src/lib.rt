@@ -197,8 +197,8 @@ fn zero_state() -> State
 {
     State {
         location: 0,
-        counters: [0u8; 4],
-        clocks: [0u8; 4],
+        counters: [0u8; Model::COUNTERS],
+        clocks: [0u8; Model::CLOCKS],
     }
 }
 

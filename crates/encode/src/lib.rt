@@ -72,8 +72,8 @@ fn put_group(n: usize, d: usize, out: &mut [u8], at: usize) -> usize
 // The groups of the counters that show `values`.
 fn put_counters(
     vars: u8,
-    counters: [Counter; 4],
-    values: [u8; 4],
+    counters: [Counter; Model::COUNTERS],
+    values: [u8; Model::COUNTERS],
     out: &mut [u8],
     at: usize,
 ) -> usize
@@ -89,7 +89,13 @@ fn put_counters(
 }
 
 // The groups of the clocks that show `values` under the ceiling `top`.
-fn put_clocks(clocks: u8, top: usize, values: [u8; 4], out: &mut [u8], at: usize) -> usize
+fn put_clocks(
+    clocks: u8,
+    top: usize,
+    values: [u8; Model::CLOCKS],
+    out: &mut [u8],
+    at: usize,
+) -> usize
     requires { ⌜ (clocks ≤ 4) × (top ≤ 256) × Room (each clocks (clockBytes top values)) (now out) at ⌝ }
     ensures { λ r. ⌜ Wrote (each clocks (clockBytes top values)) (now (out .entry)) (now (out .exit)) at r ⌝ }
 {

@@ -80,7 +80,7 @@ fn no_gap(before: Atom, after: Atom) -> bool
     }
 }
 
-fn each_formed(atoms: [AtomSlot; 4], clocks: u8, vars: u8) -> bool
+fn each_formed(atoms: [AtomSlot; Model::ATOMS], clocks: u8, vars: u8) -> bool
     ensures { λ r. ⌜ r ≡ eachFormed clocks vars atoms ⌝ }
 {
     for k in 0..Model::ATOMS {
@@ -93,7 +93,7 @@ fn each_formed(atoms: [AtomSlot; 4], clocks: u8, vars: u8) -> bool
     true
 }
 
-fn filled_from_first(atoms: [AtomSlot; 4]) -> bool
+fn filled_from_first(atoms: [AtomSlot; Model::ATOMS]) -> bool
     ensures { λ r. ⌜ r ≡ filledFromFirst atoms ⌝ }
 {
     for k in 0..Model::ATOMS - 1 {
@@ -108,7 +108,7 @@ fn filled_from_first(atoms: [AtomSlot; 4]) -> bool
     true
 }
 
-fn atoms_formed(atoms: [AtomSlot; 4], clocks: u8, vars: u8) -> bool
+fn atoms_formed(atoms: [AtomSlot; Model::ATOMS], clocks: u8, vars: u8) -> bool
     ensures { λ r. ⌜ r ≡ atomsFormed clocks vars atoms ⌝ }
 {
     if !each_formed(atoms, clocks, vars) {
@@ -139,7 +139,7 @@ fn counter_slot_formed(c: Counter, i: usize, vars: u8) -> bool
     }
 }
 
-fn counters_formed(counters: [Counter; 4], vars: u8) -> bool
+fn counters_formed(counters: [Counter; Model::COUNTERS], vars: u8) -> bool
     ensures { λ r. ⌜ r ≡ countersFormed vars counters ⌝ }
 {
     for i in 0..Model::COUNTERS {
@@ -151,7 +151,12 @@ fn counters_formed(counters: [Counter; 4], vars: u8) -> bool
     true
 }
 
-fn invariant_slot_formed(atoms: [AtomSlot; 4], l: usize, locations: u8, clocks: u8) -> bool
+fn invariant_slot_formed(
+    atoms: [AtomSlot; Model::ATOMS],
+    l: usize,
+    locations: u8,
+    clocks: u8,
+) -> bool
     ensures { λ r. ⌜ r ≡ cond (ltb l locations) (atomsFormed clocks 0 atoms) (atomsFormed 0 0 atoms) ⌝ }
 {
     if l < locations as usize {
@@ -209,7 +214,7 @@ fn update_slot_formed(u: Update, i: usize, vars: u8) -> bool
     }
 }
 
-fn updates_formed(slots: [UpdateSlot; 4], vars: u8) -> bool
+fn updates_formed(slots: [UpdateSlot; Model::COUNTERS], vars: u8) -> bool
     ensures { λ r. ⌜ r ≡ updatesFormed vars slots ⌝ }
 {
     for i in 0..Model::COUNTERS {
@@ -241,7 +246,7 @@ fn reset_slot_formed(u: ClockUpdate, i: usize, clocks: u8) -> bool
     }
 }
 
-fn resets_formed(slots: [ClockSlot; 4], clocks: u8) -> bool
+fn resets_formed(slots: [ClockSlot; Model::CLOCKS], clocks: u8) -> bool
     ensures { λ r. ⌜ r ≡ resetsFormed clocks slots ⌝ }
 {
     for i in 0..Model::CLOCKS {
@@ -303,7 +308,7 @@ fn head_formed(m: Model) -> bool
     if m.locations < 1 {
         return false;
     }
-    if m.locations > 16 {
+    if m.locations > Model::LOCATIONS as u8 {
         return false;
     }
     if m.initial >= m.locations {
@@ -312,13 +317,13 @@ fn head_formed(m: Model) -> bool
     if m.target >= m.locations {
         return false;
     }
-    if m.clocks > 4 {
+    if m.clocks > Model::CLOCKS as u8 {
         return false;
     }
-    if m.vars > 4 {
+    if m.vars > Model::COUNTERS as u8 {
         return false;
     }
-    m.used <= 32
+    m.used <= Model::EDGES as u8
 }
 
 // Refusal 20 is for a record of which this is false.
@@ -349,7 +354,7 @@ fn slot_in_group(declared: u8, greatest: usize, v: u8, i: usize) -> bool
     }
 }
 
-fn counters_in_group(s: State, vars: u8, counters: [Counter; 4]) -> bool
+fn counters_in_group(s: State, vars: u8, counters: [Counter; Model::COUNTERS]) -> bool
     ensures { λ r. ⌜ r ≡ countersInGroup vars counters s ⌝ }
 {
     let values = s.counters;

@@ -25,10 +25,14 @@ impl Relation {
 }
 
 // What stands in slot `at`, and 0 past the end.
-pub(crate) fn slot(values: [u8; 4], at: u8) -> u8
+pub(crate) fn slot(values: [u8; Model::COUNTERS], at: u8) -> u8
     ensures { λ r. ⌜ r ≡ getD values at 0 ⌝ }
 {
-    if at < 4 { values[at as usize] } else { 0 }
+    if (at as usize) < Model::COUNTERS {
+        values[at as usize]
+    } else {
+        0
+    }
 }
 
 pub(crate) fn larger(a: u8, b: u8) -> u8
@@ -82,7 +86,7 @@ impl Atom {
     }
 }
 
-pub(crate) fn greatest_constant(atoms: [AtomSlot; 4]) -> u8
+pub(crate) fn greatest_constant(atoms: [AtomSlot; Model::ATOMS]) -> u8
     ensures { λ r. ⌜ r ≡ greatestConstant atoms ⌝ }
 {
     let mut most: u8 = 0;
@@ -94,7 +98,7 @@ pub(crate) fn greatest_constant(atoms: [AtomSlot; 4]) -> u8
     most
 }
 
-pub(crate) fn all_hold(atoms: [AtomSlot; 4], s: State) -> bool
+pub(crate) fn all_hold(atoms: [AtomSlot; Model::ATOMS], s: State) -> bool
     ensures { λ r. ⌜ r ≡ allHold s atoms ⌝ }
 {
     for k in 0..Model::ATOMS {
@@ -113,7 +117,7 @@ impl Model {
         ensures { λ r. ⌜ r ≡ invariantHolds self s ⌝ }
     {
         let at = s.location;
-        if at < 16 {
+        if (at as usize) < Model::LOCATIONS {
             let v = self.invariants[at as usize];
             let atoms = v.atoms;
             all_hold(atoms, s)

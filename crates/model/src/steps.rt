@@ -15,10 +15,10 @@ ghost use Rattle.model.specs.Automaton.{initialState, delayedClock, dela
 ghost use lib.ListN.{getD};
 
 impl Model {
-    fn initial_counters(self) -> [u8; 4]
+    fn initial_counters(self) -> [u8; Model::COUNTERS]
         ensures { λ r. ⌜ r ≡ listBelow (λ i. getD (self .counters) i blankCounter .initial) 4 ⌝ }
     {
-        let mut values = [0u8; 4];
+        let mut values = [0u8; Model::COUNTERS];
         for i in 0..Model::COUNTERS {
             let c = self.counters[i];
             values[i] = c.initial;
@@ -33,14 +33,19 @@ impl Model {
         State {
             location: self.initial,
             counters,
-            clocks: [0u8; 4],
+            clocks: [0u8; Model::CLOCKS],
         }
     }
 }
 
 impl Edge {
     // The new value of counter `i`, where the counters showed `before`.
-    fn next_counter(self, counters: [Counter; 4], before: [u8; 4], i: usize) -> NewValue
+    fn next_counter(
+        self,
+        counters: [Counter; Model::COUNTERS],
+        before: [u8; Model::COUNTERS],
+        i: usize,
+    ) -> NewValue
         requires { ⌜ i < 4 ⌝ }
         ensures { λ r. ⌜ r ≡ newValue (newCounter (λ w. getD before w 0) (getD counters i blankCounter .greatest) (getD before i 0) (updateAt self i)) ⌝ }
     {
@@ -74,7 +79,7 @@ impl State {
     fn delayed(self, clocks: u8, top: u8, d: u8) -> State
         ensures { λ r. ⌜ r ≡ delayed clocks top d self ⌝ }
     {
-        let mut next = [0u8; 4];
+        let mut next = [0u8; Model::CLOCKS];
         for i in 0..Model::CLOCKS {
             next[i] = self.delayed_clock(clocks, top, d, i as u8);
         }
@@ -103,7 +108,7 @@ impl State {
         }
     }
 
-    fn counters_in_range(self, e: Edge, counters: [Counter; 4]) -> bool
+    fn counters_in_range(self, e: Edge, counters: [Counter; Model::COUNTERS]) -> bool
         ensures { λ r. ⌜ r ≡ countersInRange counters e self ⌝ }
     {
         let values = self.counters;
@@ -115,7 +120,7 @@ impl State {
         true
     }
 
-    fn next_counters(self, e: Edge, counters: [Counter; 4]) -> [u8; 4]
+    fn next_counters(self, e: Edge, counters: [Counter; Model::COUNTERS]) -> [u8; Model::COUNTERS]
         ensures { λ r. ⌜ r ≡ listBelow (λ i. orZero (nextCounter counters e self i)) 4 ⌝ }
     {
         let values = self.counters;
@@ -136,17 +141,17 @@ impl State {
         update.next(values[i], values)
     }
 
-    fn next_clocks(self, e: Edge) -> [u8; 4]
+    fn next_clocks(self, e: Edge) -> [u8; Model::CLOCKS]
         ensures { λ r. ⌜ r ≡ listBelow (nextClock e self) 4 ⌝ }
     {
-        let mut next = [0u8; 4];
+        let mut next = [0u8; Model::CLOCKS];
         for i in 0..Model::CLOCKS {
             next[i] = self.next_clock(e, i);
         }
         next
     }
 
-    fn after_edge(self, e: Edge, counters: [Counter; 4]) -> State
+    fn after_edge(self, e: Edge, counters: [Counter; Model::COUNTERS]) -> State
         ensures { λ r. ⌜ r ≡ afterEdge counters e self ⌝ }
     {
         let values = self.next_counters(e, counters);

@@ -46,7 +46,7 @@ impl Model {
     fn counter_size(self, i: usize) -> usize
         ensures { λ r. ⌜ (r ≡ groupSize self (counter i)) × (r ≤ 256) ⌝ }
     {
-        if i < 4 {
+        if i < Model::COUNTERS {
             let c = self.counters[i];
             c.greatest as usize + 1
         } else {

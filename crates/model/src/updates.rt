@@ -1,5 +1,6 @@
 // New values of counters and clocks.
 use crate::ClockUpdate;
+use crate::Model;
 use crate::Update;
 use crate::atoms::slot;
 use new_values::NewValue;
@@ -11,7 +12,7 @@ ghost use lib.ListN.{getD};
 ghost use Rattle.model.specs.Automaton.{newCounter, newClock, newValue};
 
 impl Update {
-    pub(crate) fn next(self, own: u8, before: [u8; 4], greatest: u8) -> NewValue
+    pub(crate) fn next(self, own: u8, before: [u8; Model::COUNTERS], greatest: u8) -> NewValue
         ensures { λ r. ⌜ r ≡ newValue (newCounter (λ w. getD before w 0) greatest own self) ⌝ }
     {
         match self {
@@ -23,7 +24,7 @@ impl Update {
 }
 
 impl ClockUpdate {
-    pub(crate) fn next(self, own: u8, before: [u8; 4]) -> u8
+    pub(crate) fn next(self, own: u8, before: [u8; Model::COUNTERS]) -> u8
         ensures { λ r. ⌜ r ≡ newClock (λ x. getD before x 0) own self ⌝ }
     {
         match self {

@@ -14,10 +14,10 @@ ghost use mathlib.Core.Path.{_≡_};
 ghost use Rattle.samples.specs.Models.{onClock, edge, modelA, waitingA, modelB, fullEdge, fullModel};
 
 // Four slots of which the first holds an atom on a clock.
-pub fn on_clock(clock: u8, relation: Relation, constant: u8) -> [AtomSlot; 4]
+pub fn on_clock(clock: u8, relation: Relation, constant: u8) -> [AtomSlot; Model::ATOMS]
     ensures { λ r. ⌜ r ≡ onClock clock relation constant ⌝ }
 {
-    let mut atoms = [AtomSlot { atom: Atom::Blank }; 4];
+    let mut atoms = [AtomSlot { atom: Atom::Blank }; Model::ATOMS];
     atoms[0] = AtomSlot {
         atom: Atom::OnClock {
             clock,
@@ -32,7 +32,7 @@ pub fn on_clock(clock: u8, relation: Relation, constant: u8) -> [AtomSlot; 4]
 pub fn edge_of(
     source: u8,
     target: u8,
-    guard: [AtomSlot; 4],
+    guard: [AtomSlot; Model::ATOMS],
     update: Update,
     reset: ClockUpdate,
 ) -> Edge
@@ -40,11 +40,11 @@ pub fn edge_of(
 {
     let mut updates = [UpdateSlot {
         update: Update::Keep,
-    }; 4];
+    }; Model::COUNTERS];
     updates[0] = UpdateSlot { update };
     let mut resets = [ClockSlot {
         update: ClockUpdate::Unchanged,
-    }; 4];
+    }; Model::CLOCKS];
     resets[0] = ClockSlot { update: reset };
     Edge {
         source,
@@ -58,7 +58,7 @@ pub fn edge_of(
 pub fn model_a() -> Model
     ensures { λ r. ⌜ r ≡ modelA ⌝ }
 {
-    let none = [AtomSlot { atom: Atom::Blank }; 4];
+    let none = [AtomSlot { atom: Atom::Blank }; Model::ATOMS];
     let mut m = Model::blank();
     m.locations = 2;
     m.target = 1;
@@ -82,7 +82,7 @@ pub fn waiting_a() -> Model
 pub fn model_b() -> Model
     ensures { λ r. ⌜ r ≡ modelB ⌝ }
 {
-    let none = [AtomSlot { atom: Atom::Blank }; 4];
+    let none = [AtomSlot { atom: Atom::Blank }; Model::ATOMS];
     let mut m = Model::blank();
     m.locations = 4;
     m.target = 3;
@@ -116,11 +116,11 @@ fn full_edge() -> Edge
         atom: Atom::OnCounter {
             counter: 3,
             relation: Relation::Equal,
-            constant: 31,
+            constant: Model::COUNTER_VALUE,
         },
     };
     let update = UpdateSlot {
-        update: Update::Constant(31),
+        update: Update::Constant(Model::COUNTER_VALUE),
     };
     let reset = ClockSlot {
         update: ClockUpdate::Reset,
@@ -128,9 +128,9 @@ fn full_edge() -> Edge
     Edge {
         source: 15,
         target: 15,
-        guard: [test; 4],
-        updates: [update; 4],
-        resets: [reset; 4],
+        guard: [test; Model::ATOMS],
+        updates: [update; Model::COUNTERS],
+        resets: [reset; Model::CLOCKS],
     }
 }
 
@@ -142,23 +142,25 @@ pub fn full_model() -> Model
         atom: Atom::OnClock {
             clock: 3,
             relation: Relation::LessEqual,
-            constant: 30,
+            constant: Model::CLOCK_CONSTANT,
         },
     };
     let counter = Counter {
-        greatest: 31,
-        initial: 31,
+        greatest: Model::COUNTER_VALUE,
+        initial: Model::COUNTER_VALUE,
     };
     let edge = full_edge();
     Model {
-        locations: 16,
+        locations: Model::LOCATIONS as u8,
         initial: 15,
         target: 15,
-        clocks: 4,
-        vars: 4,
-        counters: [counter; 4],
-        invariants: [Invariant { atoms: [atom; 4] }; 16],
-        used: 32,
-        edges: [edge; 32],
+        clocks: Model::CLOCKS as u8,
+        vars: Model::COUNTERS as u8,
+        counters: [counter; Model::COUNTERS],
+        invariants: [Invariant {
+            atoms: [atom; Model::ATOMS],
+        }; Model::LOCATIONS],
+        used: Model::EDGES as u8,
+        edges: [edge; Model::EDGES],
     }
 }

@@ -21,6 +21,33 @@ pub enum TotalsAnswer {
     },
 }
 
+impl CeilingAnswer {
+    pub fn number(self) -> u8
+        ensures { λ r. ⌜ r ≡ ceilingTold self .number ⌝ }
+    {
+        match self {
+            CeilingAnswer::NotWellFormed => 20,
+            CeilingAnswer::Ceiling(_) => 0,
+        }
+    }
+}
+
+impl TotalsAnswer {
+    pub fn number(self) -> u8
+        ensures { λ r. ⌜ r ≡ totalsTold self .number ⌝ }
+    {
+        match self {
+            TotalsAnswer::NotWellFormed => 20,
+            TotalsAnswer::BoundTooLarge => 21,
+            TotalsAnswer::Totals {
+                state: _,
+                choices: _,
+                variables: _,
+            } => 0,
+        }
+    }
+}
+
 // M: 20.
 pub fn ceiling_of(m: Model) -> CeilingAnswer
     ensures { λ r. ⌜ ceilingTold r ≡ ceilingReport m ⌝ }

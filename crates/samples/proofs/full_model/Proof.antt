@@ -11,6 +11,18 @@ use Rattle.samples.proofs.full_model.Tie as tie
 full-edge-requires : tie.Need-full-edge-requires
 full-edge-requires c κs = search needs
 
+cast-t6 : tie.Need-cast-t6
+cast-t6 c = search needs
+
+cast-t7 : tie.Need-cast-t7
+cast-t7 c = search needs
+
+cast-t8 : tie.Need-cast-t8
+cast-t8 c = search needs
+
+cast-t13 : tie.Need-cast-t13
+cast-t13 c = search needs
+
 returns : tie.Need-returns
 unfolding fullModel
 returns c =
@@ -27,4 +39,4 @@ returns c =
     }) (c .full-edge .ensures)
 
 pub full-model-spec : {M : Type 1} → statement M
-full-model-spec = tie.close (tie.spec full-edge-requires returns)
+full-model-spec = tie.close (tie.spec full-edge-requires cast-t6 cast-t7 cast-t8 cast-t13 returns)

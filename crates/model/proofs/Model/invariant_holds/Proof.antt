@@ -10,6 +10,9 @@ use borrow.Author.Needs.{needs}
 use Rattle.model.proofs.Model.invariant_holds.Statement.{statement}
 use Rattle.model.proofs.Model.invariant_holds.Tie as tie
 
+cast-if1 : tie.Need-cast-if1
+cast-if1 c = search needs
+
 cast-v : tie.Need-cast-v
 cast-v c = search needs
 
@@ -33,4 +36,4 @@ returns-2 c = let h : length (c .before .args .t1 .invariants) ≤ c .before .ar
 
 pub invariant-holds-spec : {M : Type 1} → statement M
 invariant-holds-spec =
-    tie.close (tie.spec cast-v mul-v element-copy-out-v all-hold-requires returns returns-2)
+    tie.close (tie.spec cast-if1 cast-v mul-v element-copy-out-v all-hold-requires returns returns-2)
