@@ -1,5 +1,5 @@
 use Rattle.decode.specs.DecodeCall.{decodeReport, decodeLeft}
-use Rattle.capi.specs.TextCall.{answerTold}
+use Rattle.wirdoku.specs.TextCall.{answerTold}
 use Rattle.model.specs.Refusal.{refusal}
 use lib.ListN.{length}
 use Rattle.model.specs.declared.Model.{Model}
@@ -8,11 +8,11 @@ use mathlib.Core.Path.{ap, _∙_}
 use denote.Ref.{now}
 use Rattle.text.proofs.Calls.{refused-text, read-text}
 use borrow.Author.Needs.{needs}
-use Rattle.capi.proofs.wirdoku_assignment_to_run.Statement.{statement}
-use Rattle.capi.proofs.wirdoku_assignment_to_run.Tie as tie
-use Rattle.capi.proofs.wirdoku_assignment_to_run.Reads as reads
-use Rattle.capi.proofs.wirdoku_assignment_to_run.Lts as lts
-use Rattle.capi.proofs.told.Reads as told-reads
+use Rattle.wirdoku.proofs.wirdoku_assignment_to_run.Statement.{statement}
+use Rattle.wirdoku.proofs.wirdoku_assignment_to_run.Tie as tie
+use Rattle.wirdoku.proofs.wirdoku_assignment_to_run.Reads as reads
+use Rattle.wirdoku.proofs.wirdoku_assignment_to_run.Lts as lts
+use Rattle.wirdoku.proofs.told.Reads as told-reads
 use Rattle.decode.proofs.DecodeAnswer.number.Reads as DecodeAnswer-number-reads
 use Rattle.decode.proofs.DecodeAnswer.place.Reads as place-reads
 use Rattle.decode.proofs.assignment_to_run.Reads as assignment-to-run-reads

@@ -1,9 +1,9 @@
 use Rattle.model.proofs.FormLaws.{ceiling-of-sizes, state-of-sizes, choices-of-sizes}
 use borrow.Author.Needs.{needs}
-use Rattle.capi.proofs.shape_of.Statement.{statement}
-use Rattle.capi.proofs.shape_of.Tie as tie
-use Rattle.capi.proofs.shape_of.Reads as reads
-use Rattle.capi.proofs.shape_of.Lts as lts
+use Rattle.wirdoku.proofs.shape_of.Statement.{statement}
+use Rattle.wirdoku.proofs.shape_of.Tie as tie
+use Rattle.wirdoku.proofs.shape_of.Reads as reads
+use Rattle.wirdoku.proofs.shape_of.Lts as lts
 use Rattle.model.proofs.Model.sizes.Reads as sizes-reads
 
 sizes-requires : tie.Need-sizes-requires

@@ -1,5 +1,5 @@
 use Rattle.encode.specs.EncodeCall.{encodeReport, encodeLeft}
-use Rattle.capi.specs.TextCall.{answerTold}
+use Rattle.wirdoku.specs.TextCall.{answerTold}
 use Rattle.model.specs.Refusal.{refusal}
 use lib.ListN.{length}
 use Rattle.model.specs.declared.Model.{Model}
@@ -8,11 +8,11 @@ use mathlib.Core.Path.{ap, _∙_}
 use denote.Ref.{now}
 use Rattle.text.proofs.Calls.{refused-text, read-text}
 use borrow.Author.Needs.{needs}
-use Rattle.capi.proofs.wirdoku_run_to_assignment.Statement.{statement}
-use Rattle.capi.proofs.wirdoku_run_to_assignment.Tie as tie
-use Rattle.capi.proofs.wirdoku_run_to_assignment.Reads as reads
-use Rattle.capi.proofs.wirdoku_run_to_assignment.Lts as lts
-use Rattle.capi.proofs.told.Reads as told-reads
+use Rattle.wirdoku.proofs.wirdoku_run_to_assignment.Statement.{statement}
+use Rattle.wirdoku.proofs.wirdoku_run_to_assignment.Tie as tie
+use Rattle.wirdoku.proofs.wirdoku_run_to_assignment.Reads as reads
+use Rattle.wirdoku.proofs.wirdoku_run_to_assignment.Lts as lts
+use Rattle.wirdoku.proofs.told.Reads as told-reads
 use Rattle.encode.proofs.EncodeAnswer.number.Reads as EncodeAnswer-number-reads
 use Rattle.encode.proofs.EncodeAnswer.place.Reads as place-reads
 use Rattle.encode.proofs.run_to_assignment.Reads as run-to-assignment-reads

@@ -1,12 +1,12 @@
 use mathlib.Core.Path.{ap}
 use Rattle.sizing.specs.SizeCall.{sizeTold}
-use Rattle.capi.proofs.CallLaws.{counted-is}
+use Rattle.wirdoku.proofs.CallLaws.{counted-is}
 use borrow.Author.Needs.{needs}
-use Rattle.capi.proofs.counted.Statement.{statement}
-use Rattle.capi.proofs.counted.Tie as tie
-use Rattle.capi.proofs.counted.Reads as reads
-use Rattle.capi.proofs.counted.Lts as lts
-use Rattle.capi.proofs.sizes.Reads as sizes-reads
+use Rattle.wirdoku.proofs.counted.Statement.{statement}
+use Rattle.wirdoku.proofs.counted.Tie as tie
+use Rattle.wirdoku.proofs.counted.Reads as reads
+use Rattle.wirdoku.proofs.counted.Lts as lts
+use Rattle.wirdoku.proofs.sizes.Reads as sizes-reads
 
 enum-told : tie.Need-enum-told
 enum-told c = search needs

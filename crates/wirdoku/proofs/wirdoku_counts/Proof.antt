@@ -1,4 +1,4 @@
-use Rattle.capi.specs.TextCall.{countedSizes}
+use Rattle.wirdoku.specs.TextCall.{countedSizes}
 use Rattle.counts.specs.CountsCall.{listReport}
 use Rattle.sizing.specs.SizeCall.{refusedSizes, sizeTold}
 use Rattle.model.specs.declared.Model.{Model}
@@ -6,12 +6,12 @@ use mathlib.Core.Path.{ap, _∙_}
 use denote.Ref.{now}
 use Rattle.text.proofs.Calls.{refused-text, read-text}
 use borrow.Author.Needs.{needs}
-use Rattle.capi.proofs.wirdoku_counts.Statement.{statement}
-use Rattle.capi.proofs.wirdoku_counts.Tie as tie
-use Rattle.capi.proofs.wirdoku_counts.Reads as reads
-use Rattle.capi.proofs.wirdoku_counts.Lts as lts
-use Rattle.capi.proofs.counted.Reads as counted-reads
-use Rattle.capi.proofs.sizes.Reads as sizes-reads
+use Rattle.wirdoku.proofs.wirdoku_counts.Statement.{statement}
+use Rattle.wirdoku.proofs.wirdoku_counts.Tie as tie
+use Rattle.wirdoku.proofs.wirdoku_counts.Reads as reads
+use Rattle.wirdoku.proofs.wirdoku_counts.Lts as lts
+use Rattle.wirdoku.proofs.counted.Reads as counted-reads
+use Rattle.wirdoku.proofs.sizes.Reads as sizes-reads
 use Rattle.counts.proofs.counts_of.Reads as counts-of-reads
 use Rattle.text.proofs.ReadOutcome.line.Reads as line-reads
 use Rattle.text.proofs.ReadOutcome.number.Reads as number-reads

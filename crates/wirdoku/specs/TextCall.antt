@@ -9,9 +9,9 @@ use Rattle.text.specs.Text.{ReadReport}
 use Rattle.walk.specs.StepCall.{StepReport}
 use Rattle.counts.specs.CountsCall.{ListReport}
 use Rattle.sizing.specs.SizeCall.{SizeReport}
-use Rattle.capi.specs.declared.Answer.{Answer}
-use Rattle.capi.specs.declared.Shape.{Shape}
-use Rattle.capi.specs.declared.StateAnswer.{StateAnswer}
+use Rattle.wirdoku.specs.declared.Answer.{Answer}
+use Rattle.wirdoku.specs.declared.Shape.{Shape}
+use Rattle.wirdoku.specs.declared.StateAnswer.{StateAnswer}
 
 -- the number and the place of an answer
 abbrev pub answerTold : Answer → Refusal

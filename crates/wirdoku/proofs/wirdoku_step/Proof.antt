@@ -1,4 +1,4 @@
-use Rattle.capi.specs.TextCall.{stateAnswer, stepAnswer}
+use Rattle.wirdoku.specs.TextCall.{stateAnswer, stepAnswer}
 use Rattle.walk.specs.StepCall.{stepReport}
 use Rattle.model.specs.declared.Model.{Model}
 use Prim.Native.Nat.{ℕ}
@@ -6,11 +6,11 @@ use mathlib.Core.Path.{ap, _∙_}
 use denote.Ref.{now}
 use Rattle.text.proofs.Calls.{refused-text, read-text}
 use borrow.Author.Needs.{needs}
-use Rattle.capi.proofs.wirdoku_step.Statement.{statement}
-use Rattle.capi.proofs.wirdoku_step.Tie as tie
-use Rattle.capi.proofs.wirdoku_step.Reads as reads
-use Rattle.capi.proofs.wirdoku_step.Lts as lts
-use Rattle.capi.proofs.state_answer.Reads as state-answer-reads
+use Rattle.wirdoku.proofs.wirdoku_step.Statement.{statement}
+use Rattle.wirdoku.proofs.wirdoku_step.Tie as tie
+use Rattle.wirdoku.proofs.wirdoku_step.Reads as reads
+use Rattle.wirdoku.proofs.wirdoku_step.Lts as lts
+use Rattle.wirdoku.proofs.state_answer.Reads as state-answer-reads
 use Rattle.text.proofs.ReadOutcome.line.Reads as line-reads
 use Rattle.text.proofs.ReadOutcome.number.Reads as ReadOutcome-number-reads
 use Rattle.text.proofs.read_model.Reads as read-model-reads

@@ -1,4 +1,4 @@
-use Rattle.capi.specs.TextCall.{stateAnswer, zeroState}
+use Rattle.wirdoku.specs.TextCall.{stateAnswer, zeroState}
 use Rattle.model.specs.Automaton.{initialState}
 use Rattle.model.specs.declared.Model.{Model}
 use Prim.Native.Nat.{ℕ}
@@ -6,12 +6,12 @@ use mathlib.Core.Path.{ap, _∙_}
 use denote.Ref.{now}
 use Rattle.text.proofs.Calls.{refused-text, read-text}
 use borrow.Author.Needs.{needs}
-use Rattle.capi.proofs.wirdoku_initial.Statement.{statement}
-use Rattle.capi.proofs.wirdoku_initial.Tie as tie
-use Rattle.capi.proofs.wirdoku_initial.Reads as reads
-use Rattle.capi.proofs.wirdoku_initial.Lts as lts
-use Rattle.capi.proofs.state_answer.Reads as state-answer-reads
-use Rattle.capi.proofs.zero_state.Reads as zero-state-reads
+use Rattle.wirdoku.proofs.wirdoku_initial.Statement.{statement}
+use Rattle.wirdoku.proofs.wirdoku_initial.Tie as tie
+use Rattle.wirdoku.proofs.wirdoku_initial.Reads as reads
+use Rattle.wirdoku.proofs.wirdoku_initial.Lts as lts
+use Rattle.wirdoku.proofs.state_answer.Reads as state-answer-reads
+use Rattle.wirdoku.proofs.zero_state.Reads as zero-state-reads
 use Rattle.model.proofs.Model.initial_state.Reads as initial-state-reads
 use Rattle.text.proofs.ReadOutcome.line.Reads as line-reads
 use Rattle.text.proofs.ReadOutcome.number.Reads as number-reads

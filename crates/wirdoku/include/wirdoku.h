@@ -1,8 +1,8 @@
-/* The calls of the proved library, for C and for every language that calls C. Link with libcapi.a (rt staticlib capi).
+/* The calls of the proved library, for C and for every language that calls C. Link with libwirdoku.a (rt staticlib wirdoku).
  *
  * A slice is a pointer and the number of its elements; an empty one may be NULL and 0. Buffers that one call is lent do not overlap.
  * Every call takes the bytes of a model text and reads it. No call has a precondition; each one returns, keeps nothing, and takes no
- * memory but a stack below 1 MiB. What each answers, and what every lent buffer holds afterwards, is proved: crates/capi/specs says what it is.
+ * memory but a stack below 1 MiB. What each answers, and what every lent buffer holds afterwards, is proved: crates/wirdoku/specs says what it is.
  *
  * `number` is 0, or the number of a refusal; `line` is the line of the text, from 1, for refusals 2 to 8, else 0.
  * After a refusal every other number is 0 unless said otherwise, and a lent buffer holds what it held.

@@ -1,16 +1,16 @@
 use Rattle.walk.specs.Walker.{walkReport}
-use Rattle.capi.specs.TextCall.{answerTold}
+use Rattle.wirdoku.specs.TextCall.{answerTold}
 use Rattle.model.specs.Refusal.{refusal}
 use Rattle.model.specs.declared.Model.{Model}
 use mathlib.Core.Path.{ap, _∙_}
 use denote.Ref.{now}
 use Rattle.text.proofs.Calls.{refused-text, read-text}
 use borrow.Author.Needs.{needs}
-use Rattle.capi.proofs.wirdoku_walk.Statement.{statement}
-use Rattle.capi.proofs.wirdoku_walk.Tie as tie
-use Rattle.capi.proofs.wirdoku_walk.Reads as reads
-use Rattle.capi.proofs.wirdoku_walk.Lts as lts
-use Rattle.capi.proofs.told.Reads as told-reads
+use Rattle.wirdoku.proofs.wirdoku_walk.Statement.{statement}
+use Rattle.wirdoku.proofs.wirdoku_walk.Tie as tie
+use Rattle.wirdoku.proofs.wirdoku_walk.Reads as reads
+use Rattle.wirdoku.proofs.wirdoku_walk.Lts as lts
+use Rattle.wirdoku.proofs.told.Reads as told-reads
 use Rattle.text.proofs.ReadOutcome.line.Reads as line-reads
 use Rattle.text.proofs.ReadOutcome.number.Reads as ReadOutcome-number-reads
 use Rattle.text.proofs.read_model.Reads as read-model-reads

@@ -1,14 +1,14 @@
-use Rattle.capi.specs.TextCall.{shapeOf, refusedShape}
+use Rattle.wirdoku.specs.TextCall.{shapeOf, refusedShape}
 use mathlib.Core.Path.{_∙_}
 use denote.Ref.{now}
 use Rattle.text.proofs.Calls.{refused-text, read-text}
 use borrow.Author.Needs.{needs}
-use Rattle.capi.proofs.wirdoku_shape.Statement.{statement}
-use Rattle.capi.proofs.wirdoku_shape.Tie as tie
-use Rattle.capi.proofs.wirdoku_shape.Reads as reads
-use Rattle.capi.proofs.wirdoku_shape.Lts as lts
-use Rattle.capi.proofs.refused_shape.Reads as refused-shape-reads
-use Rattle.capi.proofs.shape_of.Reads as shape-of-reads
+use Rattle.wirdoku.proofs.wirdoku_shape.Statement.{statement}
+use Rattle.wirdoku.proofs.wirdoku_shape.Tie as tie
+use Rattle.wirdoku.proofs.wirdoku_shape.Reads as reads
+use Rattle.wirdoku.proofs.wirdoku_shape.Lts as lts
+use Rattle.wirdoku.proofs.refused_shape.Reads as refused-shape-reads
+use Rattle.wirdoku.proofs.shape_of.Reads as shape-of-reads
 use Rattle.text.proofs.ReadOutcome.line.Reads as line-reads
 use Rattle.text.proofs.ReadOutcome.number.Reads as number-reads
 use Rattle.text.proofs.read_model.Reads as read-model-reads

@@ -22,7 +22,7 @@ ghost use Rattle.encode.specs.EncodeCall.{encodeReport, encodeLeft};
 ghost use Rattle.decode.specs.DecodeCall.{decodeReport, decodeLeft};
 ghost use Rattle.counts.specs.CountsCall.{listReport, listTold};
 ghost use Rattle.sizing.specs.SizeCall.{refusedSizes, textSizes, textLeft, sizeReport, sizeLeft, sizeTold};
-ghost use Rattle.capi.specs.TextCall.{answerTold, textReport, countedSizes, shapeOf, refusedShape, stateAnswer, zeroState, stepAnswer};
+ghost use Rattle.wirdoku.specs.TextCall.{answerTold, textReport, countedSizes, shapeOf, refusedShape, stateAnswer, zeroState, stepAnswer};
 
 // The number of the refusal, or 0, and its place.
 #[repr(C)]

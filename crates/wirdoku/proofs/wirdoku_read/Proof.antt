@@ -1,12 +1,12 @@
-use Rattle.capi.specs.TextCall.{textReport, answerTold}
+use Rattle.wirdoku.specs.TextCall.{textReport, answerTold}
 use Rattle.model.specs.Refusal.{refusal}
 use mathlib.Core.Path.{ap, _∙_}
 use borrow.Author.Needs.{needs}
-use Rattle.capi.proofs.wirdoku_read.Statement.{statement}
-use Rattle.capi.proofs.wirdoku_read.Tie as tie
-use Rattle.capi.proofs.wirdoku_read.Reads as reads
-use Rattle.capi.proofs.wirdoku_read.Lts as lts
-use Rattle.capi.proofs.told.Reads as told-reads
+use Rattle.wirdoku.proofs.wirdoku_read.Statement.{statement}
+use Rattle.wirdoku.proofs.wirdoku_read.Tie as tie
+use Rattle.wirdoku.proofs.wirdoku_read.Reads as reads
+use Rattle.wirdoku.proofs.wirdoku_read.Lts as lts
+use Rattle.wirdoku.proofs.told.Reads as told-reads
 use Rattle.text.proofs.ReadOutcome.line.Reads as line-reads
 use Rattle.text.proofs.ReadOutcome.number.Reads as number-reads
 use Rattle.text.proofs.read_model.Reads as read-model-reads
