@@ -4,7 +4,7 @@ import subprocess
 import sys
 
 ROOT = os.path.normpath(os.path.join(os.path.dirname(os.path.abspath(__file__)), ".."))
-RELEASE = os.path.join(ROOT, "reference", "target", "release")
+RELEASE = os.path.join(ROOT, "rust-target", "release")
 REFERENCE = os.path.join(RELEASE, "reference")
 SIZE = os.path.join(ROOT, "target", "bin", "size")
 

@@ -1,3 +1,4 @@
+# shellcheck shell=sh
 # Sourced by the scripts that count tests, at the top of the repository: `passed` and `failed`, and what adds to them.
 passed=0
 failed=0
@@ -38,18 +39,18 @@ counted() {
     esac
 }
 
-# cargo_tests FOLDER: cargo's own tests of a package, counted one by one
+# cargo_tests PACKAGE: cargo's own tests of a package, counted one by one
 cargo_tests() {
-    (cd "$1" && cargo test --release --offline --locked) >"$logs/cargo" 2>&1
+    cargo test --release --offline --locked -p "$1" >"$logs/cargo" 2>&1
     status=$?
     grep -v '^running\|^$' "$logs/cargo" | grep 'FAILED\|failed\|panicked\|^error\|test result' || cat "$logs/cargo"
-    awk -v status=$status '/^test result:/ { p += $4; f += $6 } END { if (status != 0 && f == 0) f = 1; print p + 0 " passed, " f + 0 " failed" }' "$logs/cargo"
-    return $status
+    awk -v status="$status" '/^test result:/ { p += $4; f += $6 } END { if (status != 0 && f == 0) f = 1; print p + 0 " passed, " f + 0 " failed" }' "$logs/cargo"
+    return "$status"
 }
 
-# built FOLDER: builds a package
+# built PACKAGE: builds a package
 built() {
-    cargo build --quiet --release --offline --locked --manifest-path "$1/Cargo.toml"
+    cargo build --quiet --release --offline --locked -p "$1"
 }
 
 # due NAME COMMAND..: what the tests after it need; they are not run if it fails

@@ -16,30 +16,14 @@ use crate::table::{Row, Work};
 
 /// All calls on a model for a bound; those that need a run only if it has one.
 pub fn rows(input: &Subject, bound: usize) -> Result<Vec<Row>, String> {
-    let mut rows = vec![
-        reading(input),
-        totals(input, bound)?,
-        emission(input, bound)?,
-    ];
+    let mut rows = vec![reading(input), totals(input, bound)?, emission(input, bound)?];
     rows.extend(search(input, bound)?);
     rows.extend(runs(input, bound)?);
     Ok(rows)
 }
 
-fn row(
-    input: &Subject,
-    call: &'static str,
-    bound: Option<usize>,
-    work: Work,
-    rounds: Rounds,
-) -> Row {
-    Row {
-        call,
-        model: input.name.clone(),
-        bound,
-        work,
-        rounds,
-    }
+fn row(input: &Subject, call: &'static str, bound: Option<usize>, work: Work, rounds: Rounds) -> Row {
+    Row { call, model: input.name.clone(), bound, work, rounds }
 }
 
 /// A buffer for each side that writes.
@@ -65,13 +49,8 @@ fn totals(input: &Subject, bound: usize) -> Result<Row, String> {
     let (text, model) = (input.text.as_slice(), &input.model);
     let told = library::counts(text, bound);
     let counted = list::totals(model, bound).map_err(|refusal| format!("{refusal:?}"))?;
-    let numbers = (
-        counted.variables as usize,
-        counted.clauses as usize,
-        counted.words as usize,
-    );
-    let agreed = (told.variables, told.clauses, told.words) == numbers
-        && plain::totals(model, bound) == Some(numbers);
+    let numbers = (counted.variables as usize, counted.clauses as usize, counted.words as usize);
+    let agreed = (told.variables, told.clauses, told.words) == numbers && plain::totals(model, bound) == Some(numbers);
     agree(input, "counts", agreed)?;
     let rounds = Rounds::of(&mut [
         &mut || keep(library::counts(text, bound)),
@@ -80,13 +59,7 @@ fn totals(input: &Subject, bound: usize) -> Result<Row, String> {
         &mut || keep(plain::totals(model, bound)),
         &mut || keep(library::read(text)),
     ]);
-    Ok(row(
-        input,
-        "counts",
-        Some(bound),
-        vec![(1, "calls")],
-        rounds,
-    ))
+    Ok(row(input, "counts", Some(bound), vec![(1, "calls")], rounds))
 }
 
 pub fn emission(input: &Subject, bound: usize) -> Result<Row, String> {
@@ -101,18 +74,8 @@ pub fn emission(input: &Subject, bound: usize) -> Result<Row, String> {
         &mut || keep(plain::emit(model, bound, d)),
         &mut || keep(library::read(text)),
     ]);
-    agree(
-        input,
-        "emit",
-        buffers.windows(2).all(|pair| pair[0] == pair[1]),
-    )?;
-    Ok(row(
-        input,
-        "emit",
-        Some(bound),
-        vec![(words, "words")],
-        rounds,
-    ))
+    agree(input, "emit", buffers.windows(2).all(|pair| pair[0] == pair[1]))?;
+    Ok(row(input, "emit", Some(bound), vec![(words, "words")], rounds))
 }
 
 /// The search for a false clause in a list that has none, and the run.
@@ -131,37 +94,22 @@ pub fn search(input: &Subject, bound: usize) -> Result<Option<Row>, String> {
         &mut || keep(plain::decode(model, bound, &assignment, d)),
         &mut || keep(library::read(text)),
     ]);
-    agree(
-        input,
-        "assignment_to_run",
-        buffers.iter().all(|written| *written == run),
-    )?;
+    agree(input, "assignment_to_run", buffers.iter().all(|written| *written == run))?;
     let clauses = library::counts(text, bound).clauses;
-    Ok(Some(row(
-        input,
-        "assignment_to_run",
-        Some(bound),
-        vec![(clauses, "clauses"), (assignment.len(), "bytes")],
-        rounds,
-    )))
+    Ok(Some(row(input, "assignment_to_run", Some(bound), vec![(clauses, "clauses"), (assignment.len(), "bytes")], rounds)))
 }
 
 /// The walker and the conversion of a run.
 fn runs(input: &Subject, bound: usize) -> Result<Vec<Row>, String> {
     match input::run(input, bound) {
-        Some((run, assignment)) => Ok(vec![
-            walking(input, &run)?,
-            encoding(input, &run, &assignment)?,
-        ]),
+        Some((run, assignment)) => Ok(vec![walking(input, &run)?, encoding(input, &run, &assignment)?]),
         None => Ok(Vec::new()),
     }
 }
 
 fn walking(input: &Subject, run: &[u8]) -> Result<Row, String> {
     let (text, model) = (input.text.as_slice(), &input.model);
-    let accepted = library::walk(text, run).number == 0
-        && step::walk(model, run) == (0, 0)
-        && plain::walk(model, run).is_some();
+    let accepted = library::walk(text, run).number == 0 && step::walk(model, run) == (0, 0) && plain::walk(model, run).is_some();
     agree(input, "walk", accepted)?;
     let rounds = Rounds::of(&mut [
         &mut || keep(library::walk(text, run)),
@@ -171,13 +119,7 @@ fn walking(input: &Subject, run: &[u8]) -> Result<Row, String> {
         &mut || keep(library::read(text)),
     ]);
     let steps = run.len();
-    Ok(row(
-        input,
-        "walk",
-        Some(steps),
-        vec![(steps, "steps")],
-        rounds,
-    ))
+    Ok(row(input, "walk", Some(steps), vec![(steps, "steps")], rounds))
 }
 
 fn encoding(input: &Subject, run: &[u8], assignment: &[u8]) -> Result<Row, String> {
@@ -195,11 +137,5 @@ fn encoding(input: &Subject, run: &[u8], assignment: &[u8]) -> Result<Row, Strin
     let agreed = buffers.iter().all(|written| written == assignment);
     agree(input, "run_to_assignment", agreed)?;
     let work = vec![(length, "bytes")];
-    Ok(row(
-        input,
-        "run_to_assignment",
-        Some(run.len()),
-        work,
-        rounds,
-    ))
+    Ok(row(input, "run_to_assignment", Some(run.len()), work, rounds))
 }

@@ -23,12 +23,7 @@ pub trait Visitor {
 }
 
 /// Tells the whole list for a bound.
-pub fn visit<V: Visitor>(
-    model: &Model,
-    layout: &Layout,
-    bound: usize,
-    visitor: &mut V,
-) -> Result<(), V::End> {
+pub fn visit<V: Visitor>(model: &Model, layout: &Layout, bound: usize, visitor: &mut V) -> Result<(), V::End> {
     state(model, layout, 0, visitor)?;
     visitor.unit(usize::from(model.init))?;
     for (group, counter) in layout.counters().iter().zip(model.used_counters()) {
@@ -54,12 +49,7 @@ fn group<V: Visitor>(group: Group, visitor: &mut V) -> Result<(), V::End> {
     Ok(())
 }
 
-fn state<V: Visitor>(
-    model: &Model,
-    layout: &Layout,
-    block: usize,
-    visitor: &mut V,
-) -> Result<(), V::End> {
+fn state<V: Visitor>(model: &Model, layout: &Layout, block: usize, visitor: &mut V) -> Result<(), V::End> {
     for part in layout.groups() {
         group(part.at(block), visitor)?;
     }
@@ -71,13 +61,7 @@ fn state<V: Visitor>(
 }
 
 /// For each atom and each value that fails it: not `condition`, not that value.
-fn failing<V: Visitor>(
-    layout: &Layout,
-    block: usize,
-    condition: usize,
-    atoms: &Atoms,
-    visitor: &mut V,
-) -> Result<(), V::End> {
+fn failing<V: Visitor>(layout: &Layout, block: usize, condition: usize, atoms: &Atoms, visitor: &mut V) -> Result<(), V::End> {
     for atom in atoms {
         let (group, comparison) = match atom {
             Atom::Blank => continue,
@@ -94,21 +78,10 @@ fn failing<V: Visitor>(
 }
 
 /// A step from the state block that begins at `block`.
-fn step<V: Visitor>(
-    model: &Model,
-    layout: &Layout,
-    block: usize,
-    visitor: &mut V,
-) -> Result<(), V::End> {
+fn step<V: Visitor>(model: &Model, layout: &Layout, block: usize, visitor: &mut V) -> Result<(), V::End> {
     let choice = block + layout.state;
     let next = block + layout.step();
-    group(
-        Group {
-            first: choice,
-            length: layout.choices,
-        },
-        visitor,
-    )?;
+    group(Group { first: choice, length: layout.choices }, visitor)?;
     for ticks in 0..=layout.ceiling {
         delay(layout, block, choice + ticks, ticks, visitor)?;
     }
@@ -119,13 +92,7 @@ fn step<V: Visitor>(
     state(model, layout, next, visitor)
 }
 
-fn delay<V: Visitor>(
-    layout: &Layout,
-    block: usize,
-    choice: usize,
-    ticks: usize,
-    visitor: &mut V,
-) -> Result<(), V::End> {
+fn delay<V: Visitor>(layout: &Layout, block: usize, choice: usize, ticks: usize, visitor: &mut V) -> Result<(), V::End> {
     let next = block + layout.step();
     kept(layout.locations(), block, next, choice, visitor)?;
     for group in layout.counters() {
@@ -141,13 +108,7 @@ fn delay<V: Visitor>(
     Ok(())
 }
 
-fn kept<V: Visitor>(
-    group: Group,
-    block: usize,
-    next: usize,
-    choice: usize,
-    visitor: &mut V,
-) -> Result<(), V::End> {
+fn kept<V: Visitor>(group: Group, block: usize, next: usize, choice: usize, visitor: &mut V) -> Result<(), V::End> {
     let (before, after) = (block + group.first, next + group.first);
     for value in 0..group.length {
         visitor.both_imply(choice, before + value, after + value)?;
@@ -155,13 +116,7 @@ fn kept<V: Visitor>(
     Ok(())
 }
 
-fn edge<V: Visitor>(
-    layout: &Layout,
-    block: usize,
-    choice: usize,
-    edge: &Edge,
-    visitor: &mut V,
-) -> Result<(), V::End> {
+fn edge<V: Visitor>(layout: &Layout, block: usize, choice: usize, edge: &Edge, visitor: &mut V) -> Result<(), V::End> {
     let next = block + layout.step();
     visitor.implies(choice, block + usize::from(edge.source))?;
     visitor.implies(choice, next + usize::from(edge.target))?;
@@ -188,12 +143,7 @@ fn edge<V: Visitor>(
     Ok(())
 }
 
-fn constant_update<V: Visitor>(
-    after: Group,
-    choice: usize,
-    constant: usize,
-    visitor: &mut V,
-) -> Result<(), V::End> {
+fn constant_update<V: Visitor>(after: Group, choice: usize, constant: usize, visitor: &mut V) -> Result<(), V::End> {
     if constant < after.length {
         visitor.implies(choice, after.first + constant)
     } else {
@@ -201,13 +151,7 @@ fn constant_update<V: Visitor>(
     }
 }
 
-fn sum_update<V: Visitor>(
-    before: Group,
-    after: Group,
-    choice: usize,
-    offset: isize,
-    visitor: &mut V,
-) -> Result<(), V::End> {
+fn sum_update<V: Visitor>(before: Group, after: Group, choice: usize, offset: isize, visitor: &mut V) -> Result<(), V::End> {
     for value in 0..before.length {
         let result = value as isize + offset;
         if (0..after.length as isize).contains(&result) {

@@ -13,10 +13,7 @@ pub const GROWTH: [usize; 4] = [8, 16, 32, MAX_BOUND];
 /// The model with the greatest list, which has no run, and one at every limit
 /// that has runs.
 pub fn at_the_limits() -> Result<[Subject; 2], String> {
-    Ok([
-        Subject::new("largest", models::largest())?,
-        Subject::new("full", models::full())?,
-    ])
+    Ok([Subject::new("largest", models::largest())?, Subject::new("full", models::full())?])
 }
 
 /// A run of `bound` steps and its assignment, from a fixed seed; none if

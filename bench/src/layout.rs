@@ -13,10 +13,7 @@ pub struct Group {
 impl Group {
     /// The same group in the block that begins at `block`.
     pub fn at(self, block: usize) -> Group {
-        Group {
-            first: block + self.first,
-            length: self.length,
-        }
+        Group { first: block + self.first, length: self.length }
     }
 }
 

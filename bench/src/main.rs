@@ -51,9 +51,6 @@ fn run() -> Result<(), String> {
     for input in [&greatest, &full].into_iter().chain(&shipped) {
         memory::on_a_small_stack(input)?;
     }
-    println!(
-        "\nEvery call on every model above also ran on a thread with a stack of {} bytes.",
-        memory::STACK
-    );
+    println!("\nEvery call on every model above also ran on a thread with a stack of {} bytes.", memory::STACK);
     Ok(())
 }

@@ -22,10 +22,7 @@ const TURN: f64 = 4e6;
 
 /// Nanoseconds on a processor so far.
 fn now() -> f64 {
-    let mut time = Timespec {
-        seconds: 0,
-        nanoseconds: 0,
-    };
+    let mut time = Timespec { seconds: 0, nanoseconds: 0 };
     // SAFETY: the structure is Linux' timespec and lives through the call.
     let status = unsafe { clock_gettime(THREAD_TIME, &mut time) };
     assert_eq!(status, 0, "no clock of processor time");
@@ -67,9 +64,7 @@ impl Rounds {
             let turns = sides.iter_mut().zip(&times);
             turns.map(|(side, times)| one_call(*side, *times)).collect()
         };
-        Rounds {
-            rounds: (0..ROUNDS).map(|_| round()).collect(),
-        }
+        Rounds { rounds: (0..ROUNDS).map(|_| round()).collect() }
     }
 
     pub fn sides(&self) -> usize {

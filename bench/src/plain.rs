@@ -119,10 +119,7 @@ pub fn totals(model: &Model, bound: usize) -> Option<Totals> {
     }
     let layout = Layout::of(model);
     let counted = |bound| {
-        let mut counter = Counter {
-            clauses: 0,
-            words: 0,
-        };
+        let mut counter = Counter { clauses: 0, words: 0 };
         let _ = visit(model, &layout, bound, &mut counter);
         counter
     };
@@ -207,10 +204,7 @@ pub fn decode(model: &Model, bound: usize, assignment: &[u8], run: &mut [u8]) ->
         return None;
     }
     let layout = Layout::of(model);
-    let mut reader = Reader {
-        assignment,
-        index: 0,
-    };
+    let mut reader = Reader { assignment, index: 0 };
     visit(model, &layout, bound, &mut reader).ok()?;
     for (step, byte) in run[..bound].iter_mut().enumerate() {
         let choice = step * layout.step() + layout.state;

@@ -10,11 +10,8 @@ pub fn text(text: &[u8]) -> String {
     while let Some(&byte) = rest.first() {
         let equal = rest.iter().take_while(|other| **other == byte).count();
         let one = [byte].escape_ascii().to_string();
-        if equal > 8 {
-            shown += &format!("{one}<{equal} times>");
-        } else {
-            shown += &one.repeat(equal);
-        }
+        let run = if equal > 8 { format!("{one}<{equal} times>") } else { one.repeat(equal) };
+        shown.push_str(&run);
         rest = &rest[equal..];
     }
     format!("\"{shown}\"")

@@ -3,9 +3,7 @@
 use crate::list::{visit_clauses, Flow};
 use crate::model::{test_record_and_bound, variables, Model};
 use crate::numbering::{Group, Numbering};
-use crate::refusal::{
-    number_and_place, Refusal, ASSIGNMENT_SHORT, FALSE_CLAUSE, RUN_SHORT, WRONG_BYTE, WRONG_LENGTH,
-};
+use crate::refusal::{number_and_place, Refusal, ASSIGNMENT_SHORT, FALSE_CLAUSE, RUN_SHORT, WRONG_BYTE, WRONG_LENGTH};
 use crate::state::State;
 use crate::step::states_of_run;
 
@@ -25,12 +23,7 @@ pub fn run_of(model: &Model, bound: usize, assignment: &[u8]) -> Result<Vec<u8>,
     tested_run(model, bound, assignment, bound)
 }
 
-fn tested_run(
-    model: &Model,
-    bound: usize,
-    assignment: &[u8],
-    room: usize,
-) -> Result<Vec<u8>, Refusal> {
+fn tested_run(model: &Model, bound: usize, assignment: &[u8], room: usize) -> Result<Vec<u8>, Refusal> {
     test_record_and_bound(model, bound)?;
     if assignment.len() != variables(model, bound) as usize {
         return Err(Refusal::plain(WRONG_LENGTH));
@@ -46,17 +39,11 @@ fn tested_run(
     }
     let numbering = Numbering::of(model);
     let steps = 1..=bound as u32;
-    Ok(steps
-        .map(|t| true_member(numbering.choices(t), assignment))
-        .collect())
+    Ok(steps.map(|t| true_member(numbering.choices(t), assignment)).collect())
 }
 
 /// The index from 0 of the first clause without a true literal.
-fn first_false_clause(
-    model: &Model,
-    bound: usize,
-    assignment: &[u8],
-) -> Result<Option<u32>, Refusal> {
+fn first_false_clause(model: &Model, bound: usize, assignment: &[u8]) -> Result<Option<u32>, Refusal> {
     let mut index = 0;
     let flow = visit_clauses(model, bound, &mut |clause| {
         if !clause.iter().any(|literal| is_true(*literal, assignment)) {
@@ -76,10 +63,7 @@ pub fn is_true(literal: i32, assignment: &[u8]) -> bool {
 
 /// The place from 0 of the true member of a group.
 fn true_member(group: Group, assignment: &[u8]) -> u8 {
-    let place = group
-        .members()
-        .take_while(|member| !is_true(*member, assignment))
-        .count();
+    let place = group.members().take_while(|member| !is_true(*member, assignment)).count();
     place as u8
 }
 
@@ -118,11 +102,7 @@ pub fn assignment_of(model: &Model, run: &[u8]) -> Result<Vec<u8>, Refusal> {
 fn set_state(model: &Model, numbering: &Numbering, t: u32, state: &State, assignment: &mut [u8]) {
     set(numbering.locations(t), state.location, assignment);
     for index in 0..usize::from(model.counters) {
-        set(
-            numbering.counter(t, index),
-            state.counters[index],
-            assignment,
-        );
+        set(numbering.counter(t, index), state.counters[index], assignment);
     }
     for index in 0..usize::from(model.clocks) {
         set(numbering.clock(t, index), state.clocks[index], assignment);

@@ -95,9 +95,7 @@ pub fn perform(arguments: &[String], out: &mut dyn Write) -> Done {
         ["answers", seed, count] => show_scripts(number(seed)?, number(count)?, |s| s.answers, out),
         ["gen", seed, count, kind] => show_cases(number(seed)?, number(count)?, kind, out),
         ["help"] => show_help(out),
-        _ => Err(Failure::Usage(
-            "unknown command or wrong number of arguments".to_string(),
-        )),
+        _ => Err(Failure::Usage("unknown command or wrong number of arguments".to_string())),
     }
 }
 
@@ -108,8 +106,7 @@ fn input() -> Result<Vec<u8>, Failure> {
 }
 
 fn number<T: std::str::FromStr>(word: &str) -> Result<T, Failure> {
-    word.parse()
-        .map_err(|_| Failure::Usage(format!("{word} is not a number here")))
+    word.parse().map_err(|_| Failure::Usage(format!("{word} is not a number here")))
 }
 
 fn bytes(words: &[&str]) -> Result<Vec<u8>, Failure> {
@@ -125,20 +122,12 @@ fn model() -> Result<Result<Model, Refusal>, Failure> {
 fn with_model(out: &mut dyn Write, show: impl FnOnce(&Model, &mut dyn Write) -> Done) -> Done {
     match model()? {
         Ok(model) => show(&model, out),
-        Err(refusal) => Ok(writeln!(
-            out,
-            "refusal={}\nline={}",
-            refusal.number, refusal.place
-        )?),
+        Err(refusal) => Ok(writeln!(out, "refusal={}\nline={}", refusal.number, refusal.place)?),
     }
 }
 
 /// Shows an accepted answer, or the refusal of a call.
-fn with_answer<T>(
-    answer: Result<T, Refusal>,
-    out: &mut dyn Write,
-    show: impl FnOnce(T, &mut dyn Write) -> Done,
-) -> Done {
+fn with_answer<T>(answer: Result<T, Refusal>, out: &mut dyn Write, show: impl FnOnce(T, &mut dyn Write) -> Done) -> Done {
     match answer {
         Ok(value) => show(value, out),
         Err(refusal) => show_refusal((refusal.number, refusal.place), out),
@@ -150,11 +139,7 @@ fn show_refusal((number, place): (u32, u32), out: &mut dyn Write) -> Done {
 }
 
 fn spaced<T: fmt::Display>(numbers: &[T]) -> String {
-    numbers
-        .iter()
-        .map(T::to_string)
-        .collect::<Vec<String>>()
-        .join(" ")
+    numbers.iter().map(T::to_string).collect::<Vec<String>>().join(" ")
 }
 
 fn go_on_if(condition: bool) -> Flow {
@@ -168,11 +153,7 @@ fn go_on_if(condition: bool) -> Flow {
 fn show_totals(bound: usize, out: &mut dyn Write) -> Done {
     with_model(out, |model, out| {
         with_answer(totals(model, bound), out, |t, out| {
-            Ok(writeln!(
-                out,
-                "variables={}\nclauses={}\nwords={}",
-                t.variables, t.clauses, t.words
-            )?)
+            Ok(writeln!(out, "variables={}\nclauses={}\nwords={}", t.variables, t.clauses, t.words)?)
         })
     })
 }
@@ -202,11 +183,7 @@ fn show_clauses(model: &Model, bound: usize, out: &mut dyn Write) -> Done {
 }
 
 fn show_digest(bound: usize, out: &mut dyn Write) -> Done {
-    with_model(out, |model, out| {
-        with_answer(digest(model, bound), out, |digest, out| {
-            Ok(writeln!(out, "digest={digest:016x}")?)
-        })
-    })
+    with_model(out, |model, out| with_answer(digest(model, bound), out, |digest, out| Ok(writeln!(out, "digest={digest:016x}")?)))
 }
 
 fn show_emission(bound: usize, room: usize, out: &mut dyn Write) -> Done {
@@ -214,11 +191,7 @@ fn show_emission(bound: usize, room: usize, out: &mut dyn Write) -> Done {
         let mut buffer = vec![0; room];
         let emission = emit(model, bound, &mut buffer);
         let t = emission.totals;
-        writeln!(
-            out,
-            "refusal={}\nvariables={}\nclauses={}\nwords={}",
-            emission.refusal, t.variables, t.clauses, t.words
-        )?;
+        writeln!(out, "refusal={}\nvariables={}\nclauses={}\nwords={}", emission.refusal, t.variables, t.clauses, t.words)?;
         if emission.refusal == 0 {
             writeln!(out, "list={}", spaced(&buffer[..t.words as usize]))?;
         }
@@ -229,24 +202,12 @@ fn show_emission(bound: usize, room: usize, out: &mut dyn Write) -> Done {
 fn show_step(numbers: &[u8], out: &mut dyn Write) -> Done {
     let (location, v0, v1, v2, v3, x0, x1, x2, x3, byte) = match *numbers {
         [l, v0, v1, v2, v3, x0, x1, x2, x3, b] => (l, v0, v1, v2, v3, x0, x1, x2, x3, b),
-        _ => {
-            return Err(Failure::Usage(
-                "step takes nine numbers of a state and a byte".to_string(),
-            ))
-        }
+        _ => return Err(Failure::Usage("step takes nine numbers of a state and a byte".to_string())),
     };
-    let state = State {
-        location,
-        counters: [v0, v1, v2, v3],
-        clocks: [x0, x1, x2, x3],
-    };
+    let state = State { location, counters: [v0, v1, v2, v3], clocks: [x0, x1, x2, x3] };
     with_model(out, |model, out| {
         let (refusal, after) = step_call(model, state, byte);
-        Ok(writeln!(
-            out,
-            "refusal={refusal}\nstate={}",
-            spaced(&after.numbers())
-        )?)
+        Ok(writeln!(out, "refusal={refusal}\nstate={}", spaced(&after.numbers()))?)
     })
 }
 
@@ -301,28 +262,20 @@ fn show_runs(bound: usize, out: &mut dyn Write) -> Done {
 
 fn show_count(bound: usize, out: &mut dyn Write) -> Done {
     with_model(out, |model, out| {
-        with_answer(
-            count_runs(model, bound, STATE_LIMIT),
-            out,
-            |count, out| match count {
-                Some(count) => Ok(writeln!(out, "runs={count}")?),
-                None => Ok(writeln!(out, "runs=unknown")?),
-            },
-        )
+        with_answer(count_runs(model, bound, STATE_LIMIT), out, |count, out| match count {
+            Some(count) => Ok(writeln!(out, "runs={count}")?),
+            None => Ok(writeln!(out, "runs=unknown")?),
+        })
     })
 }
 
 fn show_shortest(out: &mut dyn Write) -> Done {
     with_model(out, |model, out| {
-        with_answer(
-            shortest(model, STATE_LIMIT),
-            out,
-            |found, out| match found {
-                Shortest::Steps(steps) => Ok(writeln!(out, "shortest={steps}")?),
-                Shortest::None => Ok(writeln!(out, "shortest=none")?),
-                Shortest::Unknown => Ok(writeln!(out, "shortest=unknown")?),
-            },
-        )
+        with_answer(shortest(model, STATE_LIMIT), out, |found, out| match found {
+            Shortest::Steps(steps) => Ok(writeln!(out, "shortest={steps}")?),
+            Shortest::None => Ok(writeln!(out, "shortest=none")?),
+            Shortest::Unknown => Ok(writeln!(out, "shortest=unknown")?),
+        })
     })
 }
 

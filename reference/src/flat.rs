@@ -13,13 +13,7 @@ use crate::model::{Atom, Atoms, Comparison, Edge, Model, Relation, Update};
 
 /// The bytes of a record.
 pub fn bytes(model: &Model) -> Vec<u8> {
-    let mut bytes = vec![
-        model.locations,
-        model.init,
-        model.target,
-        model.clocks,
-        model.counters,
-    ];
+    let mut bytes = vec![model.locations, model.init, model.target, model.clocks, model.counters];
     for counter in &model.counter {
         bytes.extend([counter.greatest, counter.initial]);
     }
@@ -125,11 +119,7 @@ impl Source<'_> {
         let index = self.byte()?;
         let relation = *Relation::ALL.get(usize::from(self.byte()?))?;
         let constant = self.byte()?;
-        let comparison = Comparison {
-            index,
-            relation,
-            constant,
-        };
+        let comparison = Comparison { index, relation, constant };
         match sort {
             0 => Some(Atom::Blank),
             1 => Some(Atom::Clock(comparison)),
@@ -143,10 +133,7 @@ impl Source<'_> {
         match sort {
             0 => Some(Update::Keep),
             1 => Some(Update::Constant(first)),
-            2 => Some(Update::Sum {
-                source: first,
-                offset: second as i8,
-            }),
+            2 => Some(Update::Sum { source: first, offset: second as i8 }),
             _ => None,
         }
     }

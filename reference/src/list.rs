@@ -22,18 +22,10 @@ pub struct Totals {
 }
 
 /// Shows each clause in order to `visit`, without holding the list.
-pub fn visit_clauses(
-    model: &Model,
-    bound: usize,
-    visit: &mut dyn FnMut(&[i32]) -> Flow,
-) -> Result<Flow, Refusal> {
+pub fn visit_clauses(model: &Model, bound: usize, visit: &mut dyn FnMut(&[i32]) -> Flow) -> Result<Flow, Refusal> {
     test_record_and_bound(model, bound)?;
     let numbering = Numbering::of(model);
-    let mut lister = Lister {
-        model,
-        numbering,
-        visit,
-    };
+    let mut lister = Lister { model, numbering, visit };
     Ok(lister.list(bound as u32))
 }
 
@@ -66,11 +58,7 @@ pub fn totals(model: &Model, bound: usize) -> Result<Totals, Refusal> {
         words += clause.len() as u32 + 1;
         Flow::Continue(())
     })?;
-    Ok(Totals {
-        variables: variables(model, bound),
-        clauses,
-        words,
-    })
+    Ok(Totals { variables: variables(model, bound), clauses, words })
 }
 
 /// A digest of the words, to compare lists without carrying them: 64-bit
@@ -78,11 +66,7 @@ pub fn totals(model: &Model, bound: usize) -> Result<Totals, Refusal> {
 pub fn digest(model: &Model, bound: usize) -> Result<u64, Refusal> {
     let mut digest = 0xcbf2_9ce4_8422_2325_u64;
     let _ = visit_clauses(model, bound, &mut |clause| {
-        for byte in clause
-            .iter()
-            .chain(&[0])
-            .flat_map(|word| word.to_le_bytes())
-        {
+        for byte in clause.iter().chain(&[0]).flat_map(|word| word.to_le_bytes()) {
             digest = (digest ^ u64::from(byte)).wrapping_mul(0x0000_0100_0000_01b3);
         }
         Flow::Continue(())
@@ -110,20 +94,11 @@ pub fn emit(model: &Model, bound: usize, buffer: &mut [i32]) -> Emission {
 }
 
 fn tested_words(model: &Model, bound: usize, room: usize) -> Result<(Totals, Vec<i32>), Emission> {
-    let refused = |refusal: Refusal| Emission {
-        refusal: refusal.number,
-        totals: Totals::default(),
-    };
+    let refused = |refusal: Refusal| Emission { refusal: refusal.number, totals: Totals::default() };
     let totals = totals(model, bound).map_err(refused)?;
     if room < totals.words as usize {
-        let needed = Totals {
-            words: totals.words,
-            ..Totals::default()
-        };
-        return Err(Emission {
-            refusal: WORDS_SHORT,
-            totals: needed,
-        });
+        let needed = Totals { words: totals.words, ..Totals::default() };
+        return Err(Emission { refusal: WORDS_SHORT, totals: needed });
     }
     let words = words(model, bound).map_err(refused)?;
     Ok((totals, words))
@@ -152,16 +127,10 @@ impl Lister<'_> {
     /// Start: state clauses of state 0, then the initial values.
     fn start(&mut self) -> Flow {
         self.state(0)?;
-        let location = self
-            .numbering
-            .locations(0)
-            .member(u32::from(self.model.init));
+        let location = self.numbering.locations(0).member(u32::from(self.model.init));
         self.clause(&[location])?;
         for (index, counter) in self.model.used_counters().iter().enumerate() {
-            let initial = self
-                .numbering
-                .counter(0, index)
-                .member(u32::from(counter.initial));
+            let initial = self.numbering.counter(0, index).member(u32::from(counter.initial));
             self.clause(&[initial])?;
         }
         for index in 0..usize::from(self.model.clocks) {
@@ -185,10 +154,7 @@ impl Lister<'_> {
 
     /// End: the target location in state k.
     fn end(&mut self, bound: u32) -> Flow {
-        let target = self
-            .numbering
-            .locations(bound)
-            .member(u32::from(self.model.target));
+        let target = self.numbering.locations(bound).member(u32::from(self.model.target));
         self.clause(&[target])
     }
 
@@ -237,23 +203,12 @@ impl Lister<'_> {
     /// successor in state t.
     fn delay(&mut self, t: u32, ticks: u32) -> Flow {
         let delay = self.numbering.delay(t, ticks);
-        self.kept(
-            delay,
-            self.numbering.locations(t - 1),
-            self.numbering.locations(t),
-        )?;
+        self.kept(delay, self.numbering.locations(t - 1), self.numbering.locations(t))?;
         for index in 0..usize::from(self.model.counters) {
-            self.kept(
-                delay,
-                self.numbering.counter(t - 1, index),
-                self.numbering.counter(t, index),
-            )?;
+            self.kept(delay, self.numbering.counter(t - 1, index), self.numbering.counter(t, index))?;
         }
         for index in 0..usize::from(self.model.clocks) {
-            let (before, after) = (
-                self.numbering.clock(t - 1, index),
-                self.numbering.clock(t, index),
-            );
+            let (before, after) = (self.numbering.clock(t - 1, index), self.numbering.clock(t, index));
             for value in before.values() {
                 let later = (value + ticks).min(self.numbering.ceiling);
                 self.clause(&[-delay, -before.member(value), after.member(later)])?;
@@ -272,10 +227,7 @@ impl Lister<'_> {
 
     /// Source, target, guard, counters, clocks of one edge in step t.
     fn edge(&mut self, t: u32, choice: i32, edge: &Edge) -> Flow {
-        let source = self
-            .numbering
-            .locations(t - 1)
-            .member(u32::from(edge.source));
+        let source = self.numbering.locations(t - 1).member(u32::from(edge.source));
         self.clause(&[-choice, source])?;
         let target = self.numbering.locations(t).member(u32::from(edge.target));
         self.clause(&[-choice, target])?;

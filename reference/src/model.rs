@@ -34,14 +34,8 @@ pub enum Relation {
 }
 
 impl Relation {
-    pub const ALL: [Relation; 6] = [
-        Relation::Less,
-        Relation::LessEqual,
-        Relation::Equal,
-        Relation::GreaterEqual,
-        Relation::Greater,
-        Relation::NotEqual,
-    ];
+    pub const ALL: [Relation; 6] =
+        [Relation::Less, Relation::LessEqual, Relation::Equal, Relation::GreaterEqual, Relation::Greater, Relation::NotEqual];
 
     pub fn holds(self, value: u32, constant: u32) -> bool {
         match self {
@@ -91,19 +85,11 @@ pub enum Atom {
 
 impl Atom {
     pub const fn clock(index: u8, relation: Relation, constant: u8) -> Atom {
-        Atom::Clock(Comparison {
-            index,
-            relation,
-            constant,
-        })
+        Atom::Clock(Comparison { index, relation, constant })
     }
 
     pub const fn counter(index: u8, relation: Relation, constant: u8) -> Atom {
-        Atom::Counter(Comparison {
-            index,
-            relation,
-            constant,
-        })
+        Atom::Counter(Comparison { index, relation, constant })
     }
 }
 
@@ -137,13 +123,8 @@ pub struct Edge {
 
 impl Edge {
     /// The content of an unused edge slot.
-    pub const BLANK: Edge = Edge {
-        source: 0,
-        target: 0,
-        guard: NO_ATOMS,
-        updates: [Update::Keep; MAX_COUNTERS],
-        resets: [false; MAX_CLOCKS],
-    };
+    pub const BLANK: Edge =
+        Edge { source: 0, target: 0, guard: NO_ATOMS, updates: [Update::Keep; MAX_COUNTERS], resets: [false; MAX_CLOCKS] };
 }
 
 /// A counter's range and initial value; the least value is 0.
@@ -155,10 +136,7 @@ pub struct Counter {
 
 impl Counter {
     /// The content of an unused counter slot.
-    pub const BLANK: Counter = Counter {
-        greatest: 0,
-        initial: 0,
-    };
+    pub const BLANK: Counter = Counter { greatest: 0, initial: 0 };
 }
 
 /// The model record. Slots from the declared number on are unused.
@@ -214,10 +192,7 @@ fn unused<T>(slots: &[T], count: u8) -> &[T] {
 /// is declared, fills atom slots from the first, and its unused slots are blank
 /// (number 0, no atom, keep, no reset)."
 pub fn well_formed(model: &Model) -> bool {
-    numbers_well_formed(model)
-        && counters_well_formed(model)
-        && invariants_well_formed(model)
-        && edges_well_formed(model)
+    numbers_well_formed(model) && counters_well_formed(model) && invariants_well_formed(model) && edges_well_formed(model)
 }
 
 fn numbers_well_formed(model: &Model) -> bool {
@@ -232,30 +207,19 @@ fn numbers_well_formed(model: &Model) -> bool {
 fn counters_well_formed(model: &Model) -> bool {
     let in_limits = |c: &Counter| c.greatest <= MAX_COUNTER_VALUE && c.initial <= c.greatest;
     used(&model.counter, model.counters).iter().all(in_limits)
-        && unused(&model.counter, model.counters)
-            .iter()
-            .all(|c| *c == Counter::BLANK)
+        && unused(&model.counter, model.counters).iter().all(|c| *c == Counter::BLANK)
 }
 
 fn invariants_well_formed(model: &Model) -> bool {
-    let is_invariant = |atoms: &Atoms| {
-        filled_from_the_first(atoms) && atoms.iter().all(|a| invariant_atom_well_formed(model, *a))
-    };
-    used(&model.invariant, model.locations)
-        .iter()
-        .all(is_invariant)
-        && unused(&model.invariant, model.locations)
-            .iter()
-            .all(|atoms| *atoms == NO_ATOMS)
+    let is_invariant =
+        |atoms: &Atoms| filled_from_the_first(atoms) && atoms.iter().all(|a| invariant_atom_well_formed(model, *a));
+    used(&model.invariant, model.locations).iter().all(is_invariant)
+        && unused(&model.invariant, model.locations).iter().all(|atoms| *atoms == NO_ATOMS)
 }
 
 fn edges_well_formed(model: &Model) -> bool {
-    used(&model.edge, model.edges)
-        .iter()
-        .all(|e| edge_well_formed(model, e))
-        && unused(&model.edge, model.edges)
-            .iter()
-            .all(|e| *e == Edge::BLANK)
+    used(&model.edge, model.edges).iter().all(|e| edge_well_formed(model, e))
+        && unused(&model.edge, model.edges).iter().all(|e| *e == Edge::BLANK)
 }
 
 fn edge_well_formed(model: &Model, edge: &Edge) -> bool {
@@ -263,22 +227,14 @@ fn edge_well_formed(model: &Model, edge: &Edge) -> bool {
         && edge.target < model.locations
         && filled_from_the_first(&edge.guard)
         && edge.guard.iter().all(|a| guard_atom_well_formed(model, *a))
-        && used(&edge.updates, model.counters)
-            .iter()
-            .all(|u| update_well_formed(model, *u))
-        && unused(&edge.updates, model.counters)
-            .iter()
-            .all(|u| *u == Update::Keep)
-        && unused(&edge.resets, model.clocks)
-            .iter()
-            .all(|reset| !reset)
+        && used(&edge.updates, model.counters).iter().all(|u| update_well_formed(model, *u))
+        && unused(&edge.updates, model.counters).iter().all(|u| *u == Update::Keep)
+        && unused(&edge.resets, model.clocks).iter().all(|reset| !reset)
 }
 
 /// No atom stands after a blank slot.
 fn filled_from_the_first(atoms: &Atoms) -> bool {
-    atoms
-        .windows(2)
-        .all(|pair| pair[0] != Atom::Blank || pair[1] == Atom::Blank)
+    atoms.windows(2).all(|pair| pair[0] != Atom::Blank || pair[1] == Atom::Blank)
 }
 
 fn invariant_atom_well_formed(model: &Model, atom: Atom) -> bool {
@@ -298,18 +254,14 @@ fn guard_atom_well_formed(model: &Model, atom: Atom) -> bool {
 }
 
 fn clock_comparison_well_formed(model: &Model, comparison: Comparison) -> bool {
-    comparison.index < model.clocks
-        && comparison.constant <= MAX_CLOCK_CONSTANT
-        && comparison.relation != Relation::NotEqual
+    comparison.index < model.clocks && comparison.constant <= MAX_CLOCK_CONSTANT && comparison.relation != Relation::NotEqual
 }
 
 fn update_well_formed(model: &Model, update: Update) -> bool {
     match update {
         Update::Keep => true,
         Update::Constant(constant) => constant <= MAX_COUNTER_VALUE,
-        Update::Sum { source, offset } => {
-            source < model.counters && (-MAX_OFFSET..=MAX_OFFSET).contains(&offset)
-        }
+        Update::Sum { source, offset } => source < model.counters && (-MAX_OFFSET..=MAX_OFFSET).contains(&offset),
     }
 }
 
@@ -345,11 +297,7 @@ pub fn ceiling(model: &Model) -> u32 {
 
 /// S: the locations, each counter (greatest+1), each clock (M+1).
 pub fn state_length(model: &Model) -> u32 {
-    let counters: u32 = model
-        .used_counters()
-        .iter()
-        .map(|c| u32::from(c.greatest) + 1)
-        .sum();
+    let counters: u32 = model.used_counters().iter().map(|c| u32::from(c.greatest) + 1).sum();
     u32::from(model.locations) + counters + u32::from(model.clocks) * (ceiling(model) + 1)
 }
 

@@ -42,12 +42,7 @@ impl Numbering {
     pub fn of(model: &Model) -> Numbering {
         let ceiling = ceiling(model);
         let mut group_lengths = vec![u32::from(model.locations)];
-        group_lengths.extend(
-            model
-                .used_counters()
-                .iter()
-                .map(|c| u32::from(c.greatest) + 1),
-        );
+        group_lengths.extend(model.used_counters().iter().map(|c| u32::from(c.greatest) + 1));
         group_lengths.extend((0..model.clocks).map(|_| ceiling + 1));
         Numbering {
             ceiling,
@@ -60,18 +55,13 @@ impl Numbering {
 
     /// The groups of state t in block order.
     pub fn state(&self, t: u32) -> Vec<Group> {
-        (0..self.group_lengths.len())
-            .map(|index| self.state_group(t, index))
-            .collect()
+        (0..self.group_lengths.len()).map(|index| self.state_group(t, index)).collect()
     }
 
     fn state_group(&self, t: u32, index: usize) -> Group {
         let before: u32 = self.group_lengths[..index].iter().sum();
         let block = t * (self.state_length + self.choice_length);
-        Group {
-            first: (1 + block + before) as i32,
-            length: self.group_lengths[index],
-        }
+        Group { first: (1 + block + before) as i32, length: self.group_lengths[index] }
     }
 
     /// The locations of state t.
@@ -92,10 +82,7 @@ impl Numbering {
     /// The choice block of step t, from 1: delays 0 to M, then edges.
     pub fn choices(&self, t: u32) -> Group {
         let block = (t - 1) * (self.state_length + self.choice_length);
-        Group {
-            first: (1 + block + self.state_length) as i32,
-            length: self.choice_length,
-        }
+        Group { first: (1 + block + self.state_length) as i32, length: self.choice_length }
     }
 
     /// The variable of delay d in step t.

@@ -58,11 +58,7 @@ pub fn next_level(model: &Model, level: &HashSet<State>) -> HashSet<State> {
 
 /// The number of runs of exactly `bound` steps. None if it does not fit the
 /// number type or if more than `state_limit` states are reached in one step.
-pub fn count_runs(
-    model: &Model,
-    bound: usize,
-    state_limit: usize,
-) -> Result<Option<u128>, Refusal> {
+pub fn count_runs(model: &Model, bound: usize, state_limit: usize) -> Result<Option<u128>, Refusal> {
     test_record_and_bound(model, bound)?;
     let mut ways: HashMap<State, u128> = start(model).into_iter().map(|state| (state, 1)).collect();
     for _ in 0..bound {
@@ -71,12 +67,8 @@ pub fn count_runs(
             _ => return Ok(None),
         }
     }
-    let at_target = ways
-        .iter()
-        .filter(|(state, _)| state.location == model.target);
-    Ok(at_target
-        .map(|(_, count)| *count)
-        .try_fold(0, u128::checked_add))
+    let at_target = ways.iter().filter(|(state, _)| state.location == model.target);
+    Ok(at_target.map(|(_, count)| *count).try_fold(0, u128::checked_add))
 }
 
 /// In how many ways each state is reached one step later.
@@ -95,11 +87,7 @@ fn next_ways(model: &Model, ways: &HashMap<State, u128>) -> Option<HashMap<State
 pub type Flow = ControlFlow<()>;
 
 /// Shows every run of exactly `bound` steps to `visit`, in rising order of bytes.
-pub fn visit_runs(
-    model: &Model,
-    bound: usize,
-    visit: &mut dyn FnMut(&[u8]) -> Flow,
-) -> Result<Flow, Refusal> {
+pub fn visit_runs(model: &Model, bound: usize, visit: &mut dyn FnMut(&[u8]) -> Flow) -> Result<Flow, Refusal> {
     test_record_and_bound(model, bound)?;
     Ok(match start(model) {
         Some(state) => extend(model, bound, state, &mut Vec::new(), visit),
@@ -108,19 +96,9 @@ pub fn visit_runs(
 }
 
 /// Goes on from a walk's end with every allowed step, up to `bound` steps.
-fn extend(
-    model: &Model,
-    bound: usize,
-    state: State,
-    run: &mut Vec<u8>,
-    visit: &mut dyn FnMut(&[u8]) -> Flow,
-) -> Flow {
+fn extend(model: &Model, bound: usize, state: State, run: &mut Vec<u8>, visit: &mut dyn FnMut(&[u8]) -> Flow) -> Flow {
     if run.len() == bound {
-        return if state.location == model.target {
-            visit(run)
-        } else {
-            Flow::Continue(())
-        };
+        return if state.location == model.target { visit(run) } else { Flow::Continue(()) };
     }
     for (byte, after) in successors(model, state) {
         run.push(byte);

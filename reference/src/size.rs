@@ -17,11 +17,7 @@ pub struct Sizes {
 
 impl Sizes {
     fn refused(refusal: Refusal) -> Sizes {
-        Sizes {
-            refusal: refusal.number,
-            line: refusal.place,
-            totals: Totals::default(),
-        }
+        Sizes { refusal: refusal.number, line: refusal.place, totals: Totals::default() }
     }
 
     /// The five lines.
@@ -39,21 +35,10 @@ pub fn sizes(input: &[u8]) -> Sizes {
     match accepted_totals(input) {
         Err(refusal) => Sizes::refused(refusal),
         Ok(totals) if totals.words > LENT_WORDS => {
-            let needed = Totals {
-                words: totals.words,
-                ..Totals::default()
-            };
-            Sizes {
-                refusal: WORDS_SHORT,
-                line: 0,
-                totals: needed,
-            }
+            let needed = Totals { words: totals.words, ..Totals::default() };
+            Sizes { refusal: WORDS_SHORT, line: 0, totals: needed }
         }
-        Ok(totals) => Sizes {
-            refusal: 0,
-            line: 0,
-            totals,
-        },
+        Ok(totals) => Sizes { refusal: 0, line: 0, totals },
     }
 }
 

@@ -6,12 +6,8 @@ use crate::assign::is_true;
 /// All satisfying assignments, in falling order of their bytes. None if there
 /// are more than `limit`.
 pub fn all_solutions(clauses: &[Vec<i32>], variables: usize, limit: usize) -> Option<Vec<Vec<u8>>> {
-    let mut search = Search {
-        due: clauses_by_last_variable(clauses, variables),
-        assignment: Vec::new(),
-        found: Vec::new(),
-        limit,
-    };
+    let mut search =
+        Search { due: clauses_by_last_variable(clauses, variables), assignment: Vec::new(), found: Vec::new(), limit };
     if search.due[0].is_empty() {
         search.extend(variables);
     }
@@ -23,10 +19,7 @@ pub fn all_solutions(clauses: &[Vec<i32>], variables: usize, limit: usize) -> Op
 fn clauses_by_last_variable(clauses: &[Vec<i32>], variables: usize) -> Vec<Vec<&[i32]>> {
     let mut due = vec![Vec::new(); variables + 1];
     for clause in clauses {
-        let last = clause
-            .iter()
-            .map(|literal| literal.unsigned_abs() as usize)
-            .max();
+        let last = clause.iter().map(|literal| literal.unsigned_abs() as usize).max();
         due[last.unwrap_or(0)].push(clause.as_slice());
     }
     due
@@ -59,8 +52,6 @@ impl Search<'_> {
 
     fn due_clauses_hold(&self) -> bool {
         let assignment = &self.assignment;
-        self.due[assignment.len()]
-            .iter()
-            .all(|clause| clause.iter().any(|literal| is_true(*literal, assignment)))
+        self.due[assignment.len()].iter().all(|clause| clause.iter().any(|literal| is_true(*literal, assignment)))
     }
 }

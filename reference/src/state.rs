@@ -18,11 +18,7 @@ impl State {
         for (value, counter) in counters.iter_mut().zip(model.used_counters()) {
             *value = counter.initial;
         }
-        State {
-            location: model.init,
-            counters,
-            clocks: [0; MAX_CLOCKS],
-        }
+        State { location: model.init, counters, clocks: [0; MAX_CLOCKS] }
     }
 
     /// The nine numbers: location, counters, clocks.
@@ -33,17 +29,12 @@ impl State {
     /// Whether refusal 10 stays away: every number lies in its group, and the
     /// unused slots are 0. The invariant is not looked at.
     pub fn in_groups(&self, model: &Model) -> bool {
-        self.location < model.locations
-            && self.counters_in_groups(model)
-            && self.clocks_in_groups(model)
+        self.location < model.locations && self.counters_in_groups(model) && self.clocks_in_groups(model)
     }
 
     fn counters_in_groups(&self, model: &Model) -> bool {
         self.counters.iter().enumerate().all(|(index, value)| {
-            let greatest = model
-                .used_counters()
-                .get(index)
-                .map_or(0, |counter| counter.greatest);
+            let greatest = model.used_counters().get(index).map_or(0, |counter| counter.greatest);
             *value <= greatest
         })
     }
@@ -51,11 +42,7 @@ impl State {
     fn clocks_in_groups(&self, model: &Model) -> bool {
         let ceiling = ceiling(model);
         self.clocks.iter().enumerate().all(|(index, value)| {
-            let greatest = if index < usize::from(model.clocks) {
-                ceiling
-            } else {
-                0
-            };
+            let greatest = if index < usize::from(model.clocks) { ceiling } else { 0 };
             u32::from(*value) <= greatest
         })
     }

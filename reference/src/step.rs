@@ -1,12 +1,7 @@
 //! Steps and runs ("Steps", "Run"): delay and edge, the step call, the walker.
 
-use crate::model::{
-    ceiling, choice_length, test_record, test_record_and_bound, Edge, Model, Update,
-};
-use crate::refusal::{
-    number_and_place, Refusal, INITIAL_INVARIANT, NOT_ALLOWED, NOT_TARGET, NO_SUCH_STEP,
-    WRONG_STATE,
-};
+use crate::model::{ceiling, choice_length, test_record, test_record_and_bound, Edge, Model, Update};
+use crate::refusal::{number_and_place, Refusal, INITIAL_INVARIANT, NOT_ALLOWED, NOT_TARGET, NO_SUCH_STEP, WRONG_STATE};
 use crate::state::State;
 
 /// What a run byte stands for: d for delay d, M+1+e for edge e.
@@ -69,9 +64,7 @@ fn updated(before: &State, index: usize, update: Update) -> i32 {
     match update {
         Update::Keep => i32::from(before.counters[index]),
         Update::Constant(constant) => i32::from(constant),
-        Update::Sum { source, offset } => {
-            i32::from(before.counters[usize::from(source)]) + i32::from(offset)
-        }
+        Update::Sum { source, offset } => i32::from(before.counters[usize::from(source)]) + i32::from(offset),
     }
 }
 

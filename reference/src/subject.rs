@@ -20,11 +20,7 @@ impl Subject {
     pub fn new(name: impl Into<String>, model: Model) -> Result<Subject, String> {
         let name = name.into();
         let text = write(&model).map_err(|refusal| format!("{name}: {refusal:?}"))?;
-        Ok(Subject {
-            name,
-            model,
-            text: text.into_bytes(),
-        })
+        Ok(Subject { name, model, text: text.into_bytes() })
     }
 
     /// A file with a model text that must be accepted; it has the file's name.
@@ -33,11 +29,7 @@ impl Subject {
         let text = fs::read(path).map_err(|error| format!("{place}: {error}"))?;
         let model = read_whole(&text).map_err(|refusal| format!("{place}: {refusal:?}"))?;
         let name = path.file_name().unwrap_or_default().to_string_lossy();
-        Ok(Subject {
-            name: name.into_owned(),
-            model,
-            text,
-        })
+        Ok(Subject { name: name.into_owned(), model, text })
     }
 }
 

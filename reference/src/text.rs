@@ -8,13 +8,12 @@
 use std::ops::RangeInclusive;
 
 use crate::model::{
-    test_record, Atom, Atoms, Counter, Edge, Model, Relation, Update, MAX_ATOMS, MAX_CLOCKS,
-    MAX_CLOCK_CONSTANT, MAX_COUNTERS, MAX_COUNTER_VALUE, MAX_EDGES, MAX_LOCATIONS, MAX_OFFSET,
-    NO_ATOMS,
+    test_record, Atom, Atoms, Counter, Edge, Model, Relation, Update, MAX_ATOMS, MAX_CLOCKS, MAX_CLOCK_CONSTANT, MAX_COUNTERS,
+    MAX_COUNTER_VALUE, MAX_EDGES, MAX_LOCATIONS, MAX_OFFSET, NO_ATOMS,
 };
 use crate::refusal::{
-    Refusal, BYTES_LEFT, NOT_DECLARED, NOT_RISING, OUT_OF_RANGE, TEXT_TOO_LONG, TOO_MANY_ITEMS,
-    WRONG_BOUND_LINE, WRONG_FORM, WRONG_LINE,
+    Refusal, BYTES_LEFT, NOT_DECLARED, NOT_RISING, OUT_OF_RANGE, TEXT_TOO_LONG, TOO_MANY_ITEMS, WRONG_BOUND_LINE, WRONG_FORM,
+    WRONG_LINE,
 };
 
 /// Most bytes of a model text.
@@ -32,16 +31,8 @@ pub struct Reading {
 /// Reads a whole model text.
 pub fn read(text: &[u8]) -> Reading {
     match read_whole(text) {
-        Ok(model) => Reading {
-            refusal: 0,
-            line: 0,
-            model,
-        },
-        Err(refusal) => Reading {
-            refusal: refusal.number,
-            line: refusal.place,
-            model: Model::blank(),
-        },
+        Ok(model) => Reading { refusal: 0, line: 0, model },
+        Err(refusal) => Reading { refusal: refusal.number, line: refusal.place, model: Model::blank() },
     }
 }
 
@@ -51,11 +42,7 @@ pub fn read_whole(text: &[u8]) -> Result<Model, Refusal> {
     if text.len() > MAX_TEXT {
         return Err(Refusal::plain(TEXT_TOO_LONG));
     }
-    let mut reader = Reader {
-        text,
-        position: 0,
-        line: 0,
-    };
+    let mut reader = Reader { text, position: 0, line: 0 };
     let model = reader.model()?;
     if reader.position < text.len() {
         return Err(Refusal::at(BYTES_LEFT, reader.line + 1));
@@ -67,10 +54,7 @@ pub fn read_whole(text: &[u8]) -> Result<Model, Refusal> {
 /// bound is any number of the text's form, 0 to 999.
 pub fn read_bound_line(input: &[u8]) -> Result<(u32, &[u8]), Refusal> {
     let refusal = Refusal::plain(WRONG_BOUND_LINE);
-    let end = input
-        .iter()
-        .position(|byte| *byte == b'\n')
-        .ok_or(refusal)?;
+    let end = input.iter().position(|byte| *byte == b'\n').ok_or(refusal)?;
     let value = input[..end].strip_prefix(b"bound=").ok_or(refusal)?;
     let bound = whole_number(value).ok_or(refusal)?;
     Ok((bound, &input[end + 1..]))
@@ -128,7 +112,7 @@ impl<'a> Reader<'a> {
 
     /// What is there, or a refusal in the present line.
     fn need<T>(&self, found: Option<T>, number: u32) -> Result<T, Refusal> {
-        found.ok_or(Refusal::at(number, self.line))
+        found.ok_or_else(|| Refusal::at(number, self.line))
     }
 
     /// A refusal in the present line unless the condition holds.
@@ -158,10 +142,7 @@ impl<'a> Reader<'a> {
         let (greatest, initial) = self.need(counter_form(value), WRONG_FORM)?;
         self.test(greatest <= u32::from(MAX_COUNTER_VALUE), OUT_OF_RANGE)?;
         self.test(initial <= greatest, OUT_OF_RANGE)?;
-        Ok(Counter {
-            greatest: greatest as u8,
-            initial: initial as u8,
-        })
+        Ok(Counter { greatest: greatest as u8, initial: initial as u8 })
     }
 
     /// An invariant (`inv`, clock atoms alone) or a guard (`when`): 2, 3, 7, 4, 5.
@@ -186,12 +167,7 @@ impl<'a> Reader<'a> {
         let found = self.need(items(value, set_form), WRONG_FORM)?;
         self.test(found.iter().all(SetItem::in_range), OUT_OF_RANGE)?;
         self.test(found.iter().all(|item| item.declared(model)), NOT_DECLARED)?;
-        self.test(
-            found
-                .windows(2)
-                .all(|pair| pair[0].counter < pair[1].counter),
-            NOT_RISING,
-        )?;
+        self.test(found.windows(2).all(|pair| pair[0].counter < pair[1].counter), NOT_RISING)?;
         let mut updates = [Update::Keep; MAX_COUNTERS];
         for item in &found {
             updates[item.counter as usize] = item.update();
@@ -203,10 +179,7 @@ impl<'a> Reader<'a> {
     fn reset_line(&mut self, model: &Model) -> Result<[bool; MAX_CLOCKS], Refusal> {
         let value = self.due_line("reset")?;
         let found = self.need(items(value, reset_form), WRONG_FORM)?;
-        self.test(
-            found.iter().all(|clock| *clock < u32::from(model.clocks)),
-            NOT_DECLARED,
-        )?;
+        self.test(found.iter().all(|clock| *clock < u32::from(model.clocks)), NOT_DECLARED)?;
         self.test(found.windows(2).all(|pair| pair[0] < pair[1]), NOT_RISING)?;
         let mut resets = [false; MAX_CLOCKS];
         for clock in &found {
@@ -226,20 +199,12 @@ struct AtomItem {
 
 impl AtomItem {
     fn in_range(&self) -> bool {
-        let greatest = if self.on_clock {
-            MAX_CLOCK_CONSTANT
-        } else {
-            MAX_COUNTER_VALUE
-        };
+        let greatest = if self.on_clock { MAX_CLOCK_CONSTANT } else { MAX_COUNTER_VALUE };
         self.constant <= u32::from(greatest)
     }
 
     fn declared(&self, model: &Model) -> bool {
-        let declared = if self.on_clock {
-            model.clocks
-        } else {
-            model.counters
-        };
+        let declared = if self.on_clock { model.clocks } else { model.counters };
         self.index < u32::from(declared)
     }
 
@@ -261,11 +226,7 @@ struct SetItem {
 
 enum SetValue {
     Constant(u32),
-    Sum {
-        source: u32,
-        negative: bool,
-        offset: u32,
-    },
+    Sum { source: u32, negative: bool, offset: u32 },
 }
 
 impl SetItem {
@@ -288,20 +249,9 @@ impl SetItem {
     fn update(&self) -> Update {
         match self.value {
             SetValue::Constant(constant) => Update::Constant(constant as u8),
-            SetValue::Sum {
-                source,
-                negative,
-                offset,
-            } => {
-                let offset = if negative {
-                    -(offset as i8)
-                } else {
-                    offset as i8
-                };
-                Update::Sum {
-                    source: source as u8,
-                    offset,
-                }
+            SetValue::Sum { source, negative, offset } => {
+                let offset = if negative { -(offset as i8) } else { offset as i8 };
+                Update::Sum { source: source as u8, offset }
             }
         }
     }
@@ -337,17 +287,8 @@ fn atom_form(item: &[u8], counters_too: bool) -> Option<AtomItem> {
     let relation = scan.relation()?;
     let constant = scan.number()?;
     scan.end()?;
-    let allowed = if on_clock {
-        relation != Relation::NotEqual
-    } else {
-        counters_too
-    };
-    allowed.then_some(AtomItem {
-        on_clock,
-        index,
-        relation,
-        constant,
-    })
+    let allowed = if on_clock { relation != Relation::NotEqual } else { counters_too };
+    allowed.then_some(AtomItem { on_clock, index, relation, constant })
 }
 
 /// `v0:=5`, `v0:=v1+3` or `v0:=v1-3`; `-0` is not of the form.
@@ -356,11 +297,7 @@ fn set_form(item: &[u8]) -> Option<SetItem> {
     scan.sign("v")?;
     let counter = scan.number()?;
     scan.sign(":=")?;
-    let value = if scan.sign("v").is_some() {
-        scan.sum()?
-    } else {
-        SetValue::Constant(scan.number()?)
-    };
+    let value = if scan.sign("v").is_some() { scan.sum()? } else { SetValue::Constant(scan.number()?) };
     scan.end()?;
     Some(SetItem { counter, value })
 }
@@ -396,37 +333,21 @@ impl Scan<'_> {
 
     /// Takes a number: 1 to 3 digits, no leading zero except 0 itself.
     fn number(&mut self) -> Option<u32> {
-        let length = self
-            .rest
-            .iter()
-            .take_while(|byte| byte.is_ascii_digit())
-            .count();
+        let length = self.rest.iter().take_while(|byte| byte.is_ascii_digit()).count();
         let (digits, rest) = self.rest.split_at(length);
         let leading_zero = length > 1 && digits[0] == b'0';
         if length == 0 || length > 3 || leading_zero {
             return None;
         }
         self.rest = rest;
-        Some(
-            digits
-                .iter()
-                .fold(0, |number, digit| number * 10 + u32::from(digit - b'0')),
-        )
+        Some(digits.iter().fold(0, |number, digit| number * 10 + u32::from(digit - b'0')))
     }
 
     /// Takes a relation; the two-byte signs are tried first.
     fn relation(&mut self) -> Option<Relation> {
-        let by_length = [
-            Relation::LessEqual,
-            Relation::GreaterEqual,
-            Relation::NotEqual,
-            Relation::Less,
-            Relation::Equal,
-            Relation::Greater,
-        ];
-        by_length
-            .into_iter()
-            .find(|relation| self.sign(relation.sign()).is_some())
+        let by_length =
+            [Relation::LessEqual, Relation::GreaterEqual, Relation::NotEqual, Relation::Less, Relation::Equal, Relation::Greater];
+        by_length.into_iter().find(|relation| self.sign(relation.sign()).is_some())
     }
 
     /// Takes the rest of a sum after its `v`: index, sign and offset.
@@ -438,11 +359,7 @@ impl Scan<'_> {
         }
         let offset = self.number()?;
         let minus_zero = negative && offset == 0;
-        (!minus_zero).then_some(SetValue::Sum {
-            source,
-            negative,
-            offset,
-        })
+        (!minus_zero).then_some(SetValue::Sum { source, negative, offset })
     }
 
     /// Nothing may be left.
@@ -454,24 +371,28 @@ impl Scan<'_> {
 /// Writes the text of a well-formed record; reading it gives the record back.
 pub fn write(model: &Model) -> Result<String, Refusal> {
     test_record(model)?;
-    let mut text = format!(
-        "locations={}\ninit={}\ntarget={}\nclocks={}\nvars={}\n",
-        model.locations, model.init, model.target, model.clocks, model.counters
-    );
+    let mut lines = vec![
+        format!("locations={}", model.locations),
+        format!("init={}", model.init),
+        format!("target={}", model.target),
+        format!("clocks={}", model.clocks),
+        format!("vars={}", model.counters),
+    ];
     for counter in model.used_counters() {
-        text += &format!("var={},{}\n", counter.greatest, counter.initial);
+        lines.push(format!("var={},{}", counter.greatest, counter.initial));
     }
     for atoms in &model.invariant[..usize::from(model.locations)] {
-        text += &format!("inv={}\n", written_atoms(atoms));
+        lines.push(format!("inv={}", written_atoms(atoms)));
     }
-    text += &format!("edges={}\n", model.edges);
+    lines.push(format!("edges={}", model.edges));
     for edge in model.used_edges() {
-        text += &format!("from={}\nto={}\n", edge.source, edge.target);
-        text += &format!("when={}\n", written_atoms(&edge.guard));
-        text += &format!("set={}\n", written_updates(&edge.updates));
-        text += &format!("reset={}\n", written_resets(&edge.resets));
+        lines.push(format!("from={}", edge.source));
+        lines.push(format!("to={}", edge.target));
+        lines.push(format!("when={}", written_atoms(&edge.guard)));
+        lines.push(format!("set={}", written_updates(&edge.updates)));
+        lines.push(format!("reset={}", written_resets(&edge.resets)));
     }
-    Ok(text)
+    Ok(lines.join("\n") + "\n")
 }
 
 fn written_atoms(atoms: &Atoms) -> String {
@@ -483,16 +404,11 @@ fn written_atoms(atoms: &Atoms) -> String {
 }
 
 fn written_updates(updates: &[Update]) -> String {
-    written_items(
-        updates
-            .iter()
-            .enumerate()
-            .filter_map(|(index, update)| match update {
-                Update::Keep => None,
-                Update::Constant(constant) => Some(format!("v{index}:={constant}")),
-                Update::Sum { source, offset } => Some(format!("v{index}:=v{source}{offset:+}")),
-            }),
-    )
+    written_items(updates.iter().enumerate().filter_map(|(index, update)| match update {
+        Update::Keep => None,
+        Update::Constant(constant) => Some(format!("v{index}:={constant}")),
+        Update::Sum { source, offset } => Some(format!("v{index}:=v{source}{offset:+}")),
+    }))
 }
 
 fn written_resets(resets: &[bool]) -> String {

@@ -12,11 +12,7 @@ use reference::state::State;
 use reference::step::{step_call, walk};
 
 fn state(location: u8, counter: u8, clock: u8) -> State {
-    State {
-        location,
-        counters: [counter, 0, 0, 0],
-        clocks: [clock, 0, 0, 0],
-    }
+    State { location, counters: [counter, 0, 0, 0], clocks: [clock, 0, 0, 0] }
 }
 
 /// Model A with an edge back, a clock and an invariant of the target.
@@ -89,16 +85,8 @@ fn edges_block_out_of_range_counters_and_failing_guards() {
 #[test]
 fn updates_read_the_values_from_before() {
     let swap = model(&with_line(PAIR, 14, "set=v0:=v1+0,v1:=v0+0"));
-    let before = State {
-        location: 0,
-        counters: [1, 3, 0, 0],
-        clocks: [1, 1, 0, 0],
-    };
-    let after = State {
-        location: 1,
-        counters: [3, 1, 0, 0],
-        clocks: [1, 1, 0, 0],
-    };
+    let before = State { location: 0, counters: [1, 3, 0, 0], clocks: [1, 1, 0, 0] };
+    let after = State { location: 1, counters: [3, 1, 0, 0], clocks: [1, 1, 0, 0] };
     assert_eq!(step_call(&swap, before, 2), (0, after));
 }
 
@@ -152,24 +140,14 @@ fn refusal_22_words_at_both_sides() {
     for bound in [0, 1, 2, 7] {
         let list = words(&b, bound).unwrap();
         let mut room = vec![77; list.len() + 3];
-        assert_eq!(
-            emit(&b, bound, &mut room).totals,
-            totals(&b, bound).unwrap()
-        );
+        assert_eq!(emit(&b, bound, &mut room).totals, totals(&b, bound).unwrap());
         assert_eq!(room[..list.len()], list);
         assert_eq!(room[list.len()..], [77; 3]);
         let mut short = vec![77; list.len() - 1];
         let refused = emit(&b, bound, &mut short);
         assert_eq!(refused.refusal, 22);
         let needed = list.len() as u32;
-        assert_eq!(
-            refused.totals,
-            Totals {
-                variables: 0,
-                clauses: 0,
-                words: needed
-            }
-        );
+        assert_eq!(refused.totals, Totals { variables: 0, clauses: 0, words: needed });
         assert!(short.iter().all(|word| *word == 77));
     }
 }

@@ -27,14 +27,7 @@ fn texts_of_a_and_b_are_the_records() {
 #[test]
 fn p1_model_a_at_0() {
     let a = model(MODEL_A);
-    assert_eq!(
-        totals(&a, 0),
-        Ok(Totals {
-            variables: 2,
-            clauses: 4,
-            words: 10
-        })
-    );
+    assert_eq!(totals(&a, 0), Ok(Totals { variables: 2, clauses: 4, words: 10 }));
     assert_eq!(words(&a, 0), Ok(vec![1, 2, 0, -1, -2, 0, 1, 0, 2, 0]));
     assert_eq!(all_solutions(&clauses(&a, 0).unwrap(), 2, 10), Some(vec![]));
     assert_eq!(all_runs(&a, 0), Ok(vec![]));
@@ -62,24 +55,14 @@ fn p2_model_a_at_1_clauses_in_order() {
     ];
     let a = model(MODEL_A);
     assert_eq!(clauses(&a, 1), Ok(expected));
-    assert_eq!(
-        totals(&a, 1),
-        Ok(Totals {
-            variables: 7,
-            clauses: 16,
-            words: 51
-        })
-    );
+    assert_eq!(totals(&a, 1), Ok(Totals { variables: 7, clauses: 16, words: 51 }));
 }
 
 #[test]
 fn p3_the_one_assignment_of_model_a_at_1() {
     let a = model(MODEL_A);
     let only = vec![1, 0, 0, 0, 1, 0, 1];
-    assert_eq!(
-        all_solutions(&clauses(&a, 1).unwrap(), 7, 10),
-        Some(vec![only.clone()])
-    );
+    assert_eq!(all_solutions(&clauses(&a, 1).unwrap(), 7, 10), Some(vec![only.clone()]));
     assert_eq!(run_of(&a, 1, &only), Ok(vec![2]));
     assert_eq!(assignment_of(&a, &[2]), Ok(only));
 }
@@ -87,49 +70,27 @@ fn p3_the_one_assignment_of_model_a_at_1() {
 #[test]
 fn p4_a_false_clause() {
     let mut run = [9];
-    assert_eq!(
-        decode(&model(MODEL_A), 1, &[1, 0, 1, 0, 0, 1, 0], &mut run),
-        (26, 15)
-    );
+    assert_eq!(decode(&model(MODEL_A), 1, &[1, 0, 1, 0, 0, 1, 0], &mut run), (26, 15));
     assert_eq!(run, [9]);
 }
 
 #[test]
 fn p5_model_a_at_2() {
     let a = model(MODEL_A);
-    assert_eq!(
-        totals(&a, 2),
-        Ok(Totals {
-            variables: 12,
-            clauses: 28,
-            words: 92
-        })
-    );
-    assert_eq!(
-        all_runs(&a, 2),
-        Ok(vec![vec![0, 2], vec![1, 2], vec![2, 0], vec![2, 1]])
-    );
+    assert_eq!(totals(&a, 2), Ok(Totals { variables: 12, clauses: 28, words: 92 }));
+    assert_eq!(all_runs(&a, 2), Ok(vec![vec![0, 2], vec![1, 2], vec![2, 0], vec![2, 1]]));
     assert_eq!(count_runs(&a, 2, STATES), Ok(Some(4)));
-    assert_eq!(
-        all_solutions(&clauses(&a, 2).unwrap(), 12, 10).map(|s| s.len()),
-        Some(4)
-    );
+    assert_eq!(all_solutions(&clauses(&a, 2).unwrap(), 12, 10).map(|s| s.len()), Some(4));
 }
 
 #[test]
 fn p6_model_b() {
     let b = model(MODEL_B);
-    assert_eq!(
-        (ceiling(&b), state_length(&b), choice_length(&b)),
-        (4, 11, 8)
-    );
+    assert_eq!((ceiling(&b), state_length(&b), choice_length(&b)), (4, 11, 8));
     assert_eq!(variables(&b, 3), 68);
     assert_eq!(all_runs(&b, 3), Ok(vec![vec![5, 3, 7]]));
     let solutions = all_solutions(&clauses(&b, 3).unwrap(), 68, 10);
-    assert_eq!(
-        solutions,
-        Some(vec![assignment_of(&b, &[5, 3, 7]).unwrap()])
-    );
+    assert_eq!(solutions, Some(vec![assignment_of(&b, &[5, 3, 7]).unwrap()]));
     for fewer in 0..3 {
         assert_eq!(all_runs(&b, fewer), Ok(vec![]));
     }
@@ -167,14 +128,7 @@ fn words_of_model_a_at_1_suffice_or_not() {
     let mut short = [7; 50];
     let emission = emit(&a, 1, &mut short);
     assert_eq!(emission.refusal, 22);
-    assert_eq!(
-        emission.totals,
-        Totals {
-            variables: 0,
-            clauses: 0,
-            words: 51
-        }
-    );
+    assert_eq!(emission.totals, Totals { variables: 0, clauses: 0, words: 51 });
     assert_eq!(short, [7; 50]);
 }
 
@@ -184,23 +138,10 @@ fn light_switch() {
     assert_eq!(shortest(&light, STATES), Ok(Shortest::Steps(2)));
     assert_eq!(all_runs(&light, 1), Ok(vec![]));
     assert_eq!(all_runs(&light, 2), Ok(vec![vec![5, 7]]));
-    assert_eq!(
-        totals(&light, 2),
-        Ok(Totals {
-            variables: 42,
-            clauses: 260,
-            words: 913
-        })
-    );
-    assert_eq!(
-        all_solutions(&clauses(&light, 1).unwrap(), 25, 10),
-        Some(vec![])
-    );
+    assert_eq!(totals(&light, 2), Ok(Totals { variables: 42, clauses: 260, words: 913 }));
+    assert_eq!(all_solutions(&clauses(&light, 1).unwrap(), 25, 10), Some(vec![]));
     let solutions = all_solutions(&clauses(&light, 2).unwrap(), 42, 10);
-    assert_eq!(
-        solutions,
-        Some(vec![assignment_of(&light, &[5, 7]).unwrap()])
-    );
+    assert_eq!(solutions, Some(vec![assignment_of(&light, &[5, 7]).unwrap()]));
 }
 
 #[test]

@@ -19,14 +19,7 @@ use reference::text::{read, write};
 fn the_generator_of_random_numbers_is_splitmix64() {
     let mut rng = Rng::new(1234567);
     let first = [rng.next_u64(), rng.next_u64(), rng.next_u64()];
-    assert_eq!(
-        first,
-        [
-            6457827717110365317,
-            3203168211198807973,
-            9817491932198370423
-        ]
-    );
+    assert_eq!(first, [6457827717110365317, 3203168211198807973, 9817491932198370423]);
 }
 
 #[test]
@@ -72,9 +65,7 @@ fn damaged_texts_meet_every_refusal() {
 
 #[test]
 fn size_inputs_meet_every_refusal() {
-    let met: BTreeSet<u32> = (0..20_000)
-        .map(|seed| sizes(&texts::size_input(&mut Rng::new(seed))).refusal)
-        .collect();
+    let met: BTreeSet<u32> = (0..20_000).map(|seed| sizes(&texts::size_input(&mut Rng::new(seed))).refusal).collect();
     assert_eq!(met, [0, 1, 2, 3, 4, 5, 6, 7, 8, 9, 21, 22].into());
 }
 
@@ -89,14 +80,8 @@ fn damaged_records_never_stop_a_call() {
         let bound = rng.below(3);
         assert_eq!(totals(&model, bound).is_err(), refused);
         assert_eq!(walk(&model, &[0]).0 == 20, refused);
-        assert_eq!(
-            emit(&model, bound, &mut []).refusal,
-            if refused { 20 } else { 22 }
-        );
-        assert_eq!(
-            decode(&model, bound, &[], &mut []).0,
-            if refused { 20 } else { 23 }
-        );
+        assert_eq!(emit(&model, bound, &mut []).refusal, if refused { 20 } else { 22 });
+        assert_eq!(decode(&model, bound, &[], &mut []).0, if refused { 20 } else { 23 });
         assert_eq!(encode(&model, &[], &mut []).0 == 20, refused);
         assert_eq!(flat::record(&flat::bytes(&model)), Some(model));
     }
@@ -110,11 +95,7 @@ fn states_meet_every_refusal_of_the_step_call() {
         let mut rng = Rng::new(seed);
         let sound = models::any_model(&mut rng);
         let state = records::state(&mut rng, &sound);
-        let model = if rng.one_in(8) {
-            records::record(&mut rng)
-        } else {
-            sound
-        };
+        let model = if rng.one_in(8) { records::record(&mut rng) } else { sound };
         let (refusal, after) = step_call(&model, state, rng.below(70) as u8);
         met.insert(refusal);
         if refusal == 0 {
@@ -147,11 +128,7 @@ fn assignments_meet_every_refusal() {
     for seed in 0..3_000 {
         let mut rng = Rng::new(seed);
         let (model, bound, assignment) = runs::model_and_assignment(&mut rng, 4);
-        let room = if rng.one_in(8) {
-            bound.saturating_sub(1)
-        } else {
-            bound
-        };
+        let room = if rng.one_in(8) { bound.saturating_sub(1) } else { bound };
         let mut run = vec![7; room];
         let (refusal, _) = decode(&model, bound, &assignment, &mut run);
         met.insert(refusal);

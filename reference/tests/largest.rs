@@ -6,9 +6,7 @@ use common::fnv;
 use reference::gen::models::{largest, model, Size};
 use reference::gen::rng::Rng;
 use reference::list::{digest, emit, totals, visit_clauses, Flow, Totals};
-use reference::model::{
-    ceiling, choice_length, state_length, well_formed, Atom, Counter, Edge, Model, Relation, Update,
-};
+use reference::model::{ceiling, choice_length, state_length, well_formed, Atom, Counter, Edge, Model, Relation, Update};
 use reference::numbering::Numbering;
 use reference::text::{read, write};
 
@@ -16,15 +14,8 @@ use reference::text::{read, write};
 fn the_largest_model_attains_the_greatest_totals() {
     let model = largest();
     assert!(well_formed(&model));
-    assert_eq!(
-        (ceiling(&model), state_length(&model), choice_length(&model)),
-        (31, 272, 64)
-    );
-    let expected = Totals {
-        variables: 21_776,
-        clauses: 1_876_043,
-        words: 6_729_941,
-    };
+    assert_eq!((ceiling(&model), state_length(&model), choice_length(&model)), (31, 272, 64));
+    let expected = Totals { variables: 21_776, clauses: 1_876_043, words: 6_729_941 };
     assert_eq!(totals(&model, 64), Ok(expected));
 }
 
@@ -36,11 +27,7 @@ fn equality_atoms_give_slightly_less() {
     for edge in &mut model.edge {
         edge.guard = [equal; 4];
     }
-    let expected = Totals {
-        variables: 21_776,
-        clauses: 1_863_755,
-        words: 6_693_077,
-    };
+    let expected = Totals { variables: 21_776, clauses: 1_863_755, words: 6_693_077 };
     assert_eq!(totals(&model, 64), Ok(expected));
 }
 
@@ -50,10 +37,7 @@ fn the_largest_list_is_emitted_into_just_enough_words() {
     let emission = emit(&largest(), 64, &mut buffer);
     assert_eq!((emission.refusal, emission.totals.words), (0, 6_729_941));
     assert_eq!(buffer.last(), Some(&0));
-    assert_eq!(
-        buffer.iter().map(|word| word.unsigned_abs()).max(),
-        Some(21_776)
-    );
+    assert_eq!(buffer.iter().map(|word| word.unsigned_abs()).max(), Some(21_776));
     assert_eq!(digest(&largest(), 64), Ok(fnv(&buffer)));
 }
 
@@ -63,10 +47,7 @@ fn dimacs_sizes(model: &Model, bound: usize) -> (usize, usize) {
     let mut bytes = format!("p cnf {} {}\n", totals.variables, totals.clauses).len();
     let mut longest = bytes;
     let _ = visit_clauses(model, bound, &mut |clause| {
-        let literals: usize = clause
-            .iter()
-            .map(|literal| literal.to_string().len() + 1)
-            .sum();
+        let literals: usize = clause.iter().map(|literal| literal.to_string().len() + 1).sum();
         let line = literals + "0\n".len();
         bytes += line;
         longest = longest.max(line);
@@ -91,27 +72,15 @@ fn fewest_digits() -> Model {
 fn at_the_last_location(atom: Atom, update: Update, reset: bool) -> Model {
     let mut model = largest();
     (model.init, model.target) = (15, 15);
-    model.counter = [Counter {
-        greatest: 31,
-        initial: 31,
-    }; 4];
+    model.counter = [Counter { greatest: 31, initial: 31 }; 4];
     model.invariant = [[atom; 4]; 16];
-    model.edge = [Edge {
-        source: 15,
-        target: 15,
-        guard: [atom; 4],
-        updates: [update; 4],
-        resets: [reset; 4],
-    }; 32];
+    model.edge = [Edge { source: 15, target: 15, guard: [atom; 4], updates: [update; 4], resets: [reset; 4] }; 32];
     model
 }
 
 /// The largest model naming the last clock, counter and location throughout.
 fn most_digits() -> Model {
-    let sum = Update::Sum {
-        source: 3,
-        offset: 0,
-    };
+    let sum = Update::Sum { source: 3, offset: 0 };
     let mut model = at_the_last_location(Atom::clock(3, Relation::Less, 0), sum, false);
     model.edge[0].guard[0] = Atom::clock(3, Relation::Greater, 30);
     model
@@ -149,10 +118,7 @@ fn no_model_is_larger() {
 
 /// A record whose every item is as long as it can be written.
 fn longest_text() -> Model {
-    let sum = Update::Sum {
-        source: 0,
-        offset: 31,
-    };
+    let sum = Update::Sum { source: 0, offset: 31 };
     at_the_last_location(Atom::clock(0, Relation::LessEqual, 30), sum, true)
 }
 

@@ -74,11 +74,7 @@ fn cut_assignments_satisfy_exactly_in_the_target() {
         for (j, state) in states.iter().enumerate() {
             let cut = &assignment[..variables(&model, j) as usize];
             let satisfied = run_of(&model, j, cut);
-            assert_eq!(
-                satisfied.is_ok(),
-                state.location == model.target,
-                "seed {seed} step {j}"
-            );
+            assert_eq!(satisfied.is_ok(), state.location == model.target, "seed {seed} step {j}");
             match satisfied {
                 Ok(found) => {
                     assert_eq!(found, run[..j]);

@@ -24,41 +24,20 @@ type Assignments = BTreeSet<Vec<u8>>;
 /// The assignments of all runs of `bound` steps.
 fn of_runs(model: &Model, bound: usize) -> Assignments {
     let runs = all_runs(model, bound).unwrap();
-    let assignments: Assignments = runs
-        .iter()
-        .map(|run| assignment_of(model, run).unwrap())
-        .collect();
-    assert_eq!(
-        assignments.len(),
-        runs.len(),
-        "two runs with one assignment"
-    );
-    assert_eq!(
-        count_runs(model, bound, STATES),
-        Ok(Some(runs.len() as u128))
-    );
+    let assignments: Assignments = runs.iter().map(|run| assignment_of(model, run).unwrap()).collect();
+    assert_eq!(assignments.len(), runs.len(), "two runs with one assignment");
+    assert_eq!(count_runs(model, bound, STATES), Ok(Some(runs.len() as u128)));
     for run in &runs {
-        assert_eq!(
-            run_of(model, bound, &assignment_of(model, run).unwrap()).as_ref(),
-            Ok(run)
-        );
+        assert_eq!(run_of(model, bound, &assignment_of(model, run).unwrap()).as_ref(), Ok(run));
     }
     assignments
 }
 
 /// The satisfying ones of all 2^N assignments.
 fn by_trying_all(clauses: &[Vec<i32>], variables: usize) -> Assignments {
-    let assignment =
-        |bits: u32| -> Vec<u8> { (0..variables).map(|v| (bits >> v & 1) as u8).collect() };
-    let satisfies = |a: &Vec<u8>| {
-        clauses
-            .iter()
-            .all(|clause| clause.iter().any(|literal| is_true(*literal, a)))
-    };
-    (0..1 << variables)
-        .map(assignment)
-        .filter(satisfies)
-        .collect()
+    let assignment = |bits: u32| -> Vec<u8> { (0..variables).map(|v| (bits >> v & 1) as u8).collect() };
+    let satisfies = |a: &Vec<u8>| clauses.iter().all(|clause| clause.iter().any(|literal| is_true(*literal, a)));
+    (0..1 << variables).map(assignment).filter(satisfies).collect()
 }
 
 #[test]
@@ -74,10 +53,7 @@ fn all_assignments_of_small_lists() {
             let list = clauses(&model, bound).unwrap();
             let found = by_trying_all(&list, n);
             assert_eq!(found, of_runs(&model, bound), "seed {seed} bound {bound}");
-            let solved: Assignments = all_solutions(&list, n, SOLUTIONS)
-                .unwrap()
-                .into_iter()
-                .collect();
+            let solved: Assignments = all_solutions(&list, n, SOLUTIONS).unwrap().into_iter().collect();
             assert_eq!(found, solved);
             compared += 1;
         }
@@ -103,9 +79,7 @@ fn all_solutions_of_tiny_models() {
     let mut compared = 0;
     for seed in 1_000..1_500 {
         let model = models::model(&mut Rng::new(seed), Size::Tiny);
-        compared += (0..=4)
-            .filter(|bound| compare_by_backtracking(&model, *bound))
-            .count();
+        compared += (0..=4).filter(|bound| compare_by_backtracking(&model, *bound)).count();
     }
     assert!(compared >= 2_000, "{compared}");
 }
@@ -115,9 +89,7 @@ fn all_solutions_of_medium_models() {
     let mut compared = 0;
     for seed in 2_000..2_150 {
         let model = models::model(&mut Rng::new(seed), Size::Medium);
-        compared += (0..=2)
-            .filter(|bound| compare_by_backtracking(&model, *bound))
-            .count();
+        compared += (0..=2).filter(|bound| compare_by_backtracking(&model, *bound)).count();
     }
     assert!(compared >= 400, "{compared}");
 }
@@ -149,15 +121,8 @@ fn walks_up_to_64_steps_go_there_and_back() {
             continue;
         }
         let assignment = assignment_of(&model, &run).unwrap();
-        assert_eq!(
-            assignment.len() as u32,
-            totals(&model, run.len()).unwrap().variables
-        );
-        assert_eq!(
-            run_of(&model, run.len(), &assignment).as_ref(),
-            Ok(&run),
-            "seed {seed}"
-        );
+        assert_eq!(assignment.len() as u32, totals(&model, run.len()).unwrap().variables);
+        assert_eq!(run_of(&model, run.len(), &assignment).as_ref(), Ok(&run), "seed {seed}");
         runs += 1;
     }
     assert!(runs >= 200, "{runs}");
@@ -173,19 +138,11 @@ fn the_first_false_clause_is_the_list_s_first() {
             continue;
         }
         let list = clauses(&model, bound).unwrap();
-        let is_false =
-            |clause: &Vec<i32>| !clause.iter().any(|literal| is_true(*literal, &assignment));
-        match (
-            list.iter().position(is_false),
-            run_of(&model, bound, &assignment),
-        ) {
+        let is_false = |clause: &Vec<i32>| !clause.iter().any(|literal| is_true(*literal, &assignment));
+        match (list.iter().position(is_false), run_of(&model, bound, &assignment)) {
             (None, Ok(run)) => assert_eq!(walk(&model, &run), (0, 0)),
             (Some(index), Err(refusal)) => {
-                assert_eq!(
-                    (refusal.number, refusal.place as usize),
-                    (26, index),
-                    "seed {seed}"
-                );
+                assert_eq!((refusal.number, refusal.place as usize), (26, index), "seed {seed}");
                 refused += 1;
             }
             other => panic!("seed {seed}: {other:?}"),

@@ -32,50 +32,26 @@ fn output(arguments: &str, input: &str) -> String {
 fn size() {
     let expected = "refusal=0\nline=0\nvariables=7\nclauses=16\nwords=51\n";
     assert_eq!(output("size", &format!("bound=1\n{MODEL_A}")), expected);
-    assert_eq!(
-        output("size", ""),
-        "refusal=9\nline=0\nvariables=0\nclauses=0\nwords=0\n"
-    );
+    assert_eq!(output("size", ""), "refusal=9\nline=0\nvariables=0\nclauses=0\nwords=0\n");
 }
 
 #[test]
 fn lists() {
     assert_eq!(output("words 0", MODEL_A), "1 2 0\n-1 -2 0\n1 0\n2 0\n");
-    assert_eq!(
-        output("dimacs 0", MODEL_A),
-        "p cnf 2 4\n1 2 0\n-1 -2 0\n1 0\n2 0\n"
-    );
-    assert_eq!(
-        output("totals 2", LIGHT),
-        "variables=42\nclauses=260\nwords=913\n"
-    );
-    assert_eq!(
-        output("digest 0", MODEL_A),
-        format!("digest={:016x}\n", fnv(&[1, 2, 0, -1, -2, 0, 1, 0, 2, 0]))
-    );
+    assert_eq!(output("dimacs 0", MODEL_A), "p cnf 2 4\n1 2 0\n-1 -2 0\n1 0\n2 0\n");
+    assert_eq!(output("totals 2", LIGHT), "variables=42\nclauses=260\nwords=913\n");
+    assert_eq!(output("digest 0", MODEL_A), format!("digest={:016x}\n", fnv(&[1, 2, 0, -1, -2, 0, 1, 0, 2, 0])));
     assert_eq!(output("totals 65", LIGHT), "refusal=21\nplace=0\n");
     assert_eq!(output("dimacs 65", LIGHT), "refusal=21\nplace=0\n");
     assert_eq!(output("words 1", "locations=17\n"), "refusal=4\nline=1\n");
-    assert_eq!(
-        output("emit 0 10", MODEL_A),
-        "refusal=0\nvariables=2\nclauses=4\nwords=10\nlist=1 2 0 -1 -2 0 1 0 2 0\n"
-    );
-    assert_eq!(
-        output("emit 0 9", MODEL_A),
-        "refusal=22\nvariables=0\nclauses=0\nwords=10\n"
-    );
+    assert_eq!(output("emit 0 10", MODEL_A), "refusal=0\nvariables=2\nclauses=4\nwords=10\nlist=1 2 0 -1 -2 0 1 0 2 0\n");
+    assert_eq!(output("emit 0 9", MODEL_A), "refusal=22\nvariables=0\nclauses=0\nwords=10\n");
 }
 
 #[test]
 fn steps_and_runs() {
-    assert_eq!(
-        output("step 0 1 0 0 0 2 0 0 0 5", MODEL_B),
-        "refusal=0\nstate=1 1 0 0 0 0 0 0 0\n"
-    );
-    assert_eq!(
-        output("step 9 0 0 0 0 0 0 0 0 0", MODEL_B),
-        "refusal=10\nstate=9 0 0 0 0 0 0 0 0\n"
-    );
+    assert_eq!(output("step 0 1 0 0 0 2 0 0 0 5", MODEL_B), "refusal=0\nstate=1 1 0 0 0 0 0 0 0\n");
+    assert_eq!(output("step 9 0 0 0 0 0 0 0 0 0", MODEL_B), "refusal=10\nstate=9 0 0 0 0 0 0 0 0\n");
     assert_eq!(output("walk 5 3 7", MODEL_B), "refusal=0\nplace=0\n");
     assert_eq!(output("walk 5 4 7", MODEL_B), "refusal=28\nplace=2\n");
     assert_eq!(output("walk", MODEL_B), "refusal=30\nplace=0\n");
@@ -83,10 +59,7 @@ fn steps_and_runs() {
     assert_eq!(output("runs 2", MODEL_A), "0 2\n1 2\n2 0\n2 1\n");
     assert_eq!(output("count 4", MODEL_B), "runs=14\n");
     assert_eq!(output("shortest", MODEL_B), "shortest=3\n");
-    assert_eq!(
-        output("shortest", &MODEL_B.replace("when=x0>=3", "when=x0>=4")),
-        "shortest=none\n"
-    );
+    assert_eq!(output("shortest", &MODEL_B.replace("when=x0>=3", "when=x0>=4")), "shortest=none\n");
 }
 
 #[test]
@@ -94,18 +67,9 @@ fn assignments() {
     let encoded = "refusal=0\nplace=0\nassignment=1 0 0 0 1 0 1\n";
     assert_eq!(output("encode 2", MODEL_A), encoded);
     assert_eq!(output("encode 0", MODEL_A), "refusal=30\nplace=0\n");
-    assert_eq!(
-        output("decode 1 1 0 0 0 1 0 1", MODEL_A),
-        "refusal=0\nplace=0\nrun=2\n"
-    );
-    assert_eq!(
-        output("decode 1 1 0 1 0 0 1 0", MODEL_A),
-        "refusal=26\nplace=15\n"
-    );
-    assert_eq!(
-        output("decode 1 1 0 1 0 9 1 0", MODEL_A),
-        "refusal=24\nplace=4\n"
-    );
+    assert_eq!(output("decode 1 1 0 0 0 1 0 1", MODEL_A), "refusal=0\nplace=0\nrun=2\n");
+    assert_eq!(output("decode 1 1 0 1 0 0 1 0", MODEL_A), "refusal=26\nplace=15\n");
+    assert_eq!(output("decode 1 1 0 1 0 9 1 0", MODEL_A), "refusal=24\nplace=4\n");
     assert_eq!(output("decode 65", MODEL_A), "refusal=21\nplace=0\n");
 }
 
@@ -121,15 +85,7 @@ fn generated_models_are_read_back() {
 #[test]
 fn help_and_misuse() {
     assert!(output("help", "").contains("reference shortest"));
-    for wrong in [
-        "",
-        "nothing",
-        "words",
-        "words x",
-        "walk 256",
-        "gen 1 1 nothing",
-        "step 1",
-    ] {
+    for wrong in ["", "nothing", "words", "words x", "walk 256", "gen 1 1 nothing", "step 1"] {
         assert_eq!(start(wrong, MODEL_A).status.code(), Some(2), "{wrong}");
     }
 }

@@ -63,19 +63,13 @@ fn edges_at_every_byte() {
         assert_eq!(after(|m| m.edge[0].target = byte), byte < 2);
         assert_eq!(after(|m| m.edge[1].source = byte), byte == 0);
         assert_eq!(after(|m| m.edge[31].target = byte), byte == 0);
-        assert_eq!(
-            after(|m| m.edge[0].updates[1] = Update::Constant(byte)),
-            byte <= 31
-        );
+        assert_eq!(after(|m| m.edge[0].updates[1] = Update::Constant(byte)), byte <= 31);
         let sum = |source| Update::Sum { source, offset: 0 };
         assert_eq!(after(|m| m.edge[0].updates[1] = sum(byte)), byte < 2);
     }
     for offset in -128..=127 {
         let sum = Update::Sum { source: 0, offset };
-        assert_eq!(
-            after(|m| m.edge[0].updates[0] = sum),
-            (-31..=31).contains(&offset)
-        );
+        assert_eq!(after(|m| m.edge[0].updates[0] = sum), (-31..=31).contains(&offset));
     }
 }
 
@@ -85,23 +79,11 @@ fn atoms_at_every_byte() {
         for relation in Relation::ALL {
             let clock_relation = relation != Relation::NotEqual;
             let clock = Atom::clock(byte, relation, 0);
-            assert_eq!(
-                after(|m| m.invariant[0][0] = clock),
-                byte < 2 && clock_relation
-            );
-            assert_eq!(
-                after(|m| m.edge[0].guard[0] = clock),
-                byte < 2 && clock_relation
-            );
+            assert_eq!(after(|m| m.invariant[0][0] = clock), byte < 2 && clock_relation);
+            assert_eq!(after(|m| m.edge[0].guard[0] = clock), byte < 2 && clock_relation);
             let clock = Atom::clock(1, relation, byte);
-            assert_eq!(
-                after(|m| m.invariant[1][0] = clock),
-                byte <= 30 && clock_relation
-            );
-            assert_eq!(
-                after(|m| m.edge[0].guard[0] = clock),
-                byte <= 30 && clock_relation
-            );
+            assert_eq!(after(|m| m.invariant[1][0] = clock), byte <= 30 && clock_relation);
+            assert_eq!(after(|m| m.edge[0].guard[0] = clock), byte <= 30 && clock_relation);
             let counter = Atom::counter(byte, relation, 31);
             assert_eq!(after(|m| m.edge[0].guard[0] = counter), byte < 2);
             assert!(!after(|m| m.invariant[0][0] = counter));
@@ -140,14 +122,8 @@ fn unused_slots_are_blank() {
     assert!(!after(|m| m.edge[0].resets[2] = true));
     assert!(!after(|m| m.edge[0].resets[3] = true));
     assert!(!after(|m| m.edge[0].updates[2] = Update::Constant(0)));
-    assert!(!after(|m| m.edge[0].updates[3] = Update::Sum {
-        source: 0,
-        offset: 0
-    }));
-    assert!(!after(|m| m.counter[2] = Counter {
-        greatest: 1,
-        initial: 0
-    }));
+    assert!(!after(|m| m.edge[0].updates[3] = Update::Sum { source: 0, offset: 0 }));
+    assert!(!after(|m| m.counter[2] = Counter { greatest: 1, initial: 0 }));
     assert!(after(|m| m.edge[1] = Edge::BLANK));
 }
 
@@ -156,20 +132,13 @@ fn every_call_refuses_a_malformed_record_first() {
     let mut record = model(MODEL_A);
     record.edge[0].target = 2;
     let refusal = Refusal::plain(20);
-    let state = State {
-        location: 200,
-        counters: [9; 4],
-        clocks: [9; 4],
-    };
+    let state = State { location: 200, counters: [9; 4], clocks: [9; 4] };
     assert_eq!(step_call(&record, state, 255), (20, state));
     assert_eq!(walk(&record, &[0; 65]), (20, 0));
     assert_eq!(totals(&record, 65), Err(refusal));
     assert_eq!(clauses(&record, 65), Err(refusal));
     assert_eq!(words(&record, 65), Err(refusal));
-    assert_eq!(
-        visit_clauses(&record, 65, &mut |_| Flow::Continue(())),
-        Err(refusal)
-    );
+    assert_eq!(visit_clauses(&record, 65, &mut |_| Flow::Continue(())), Err(refusal));
     assert_eq!(emit(&record, 65, &mut []).refusal, 20);
     assert_eq!(decode(&record, 65, &[], &mut []), (20, 0));
     assert_eq!(encode(&record, &[0; 65], &mut []), (20, 0));

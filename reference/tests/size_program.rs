@@ -10,13 +10,7 @@ use reference::text::{write, MAX_TEXT};
 /// Refusal, line, variables, clauses, words.
 fn numbers(input: &str) -> [u32; 5] {
     let found = sizes(input.as_bytes());
-    [
-        found.refusal,
-        found.line,
-        found.totals.variables,
-        found.totals.clauses,
-        found.totals.words,
-    ]
+    [found.refusal, found.line, found.totals.variables, found.totals.clauses, found.totals.words]
 }
 
 #[test]
@@ -48,11 +42,7 @@ fn refusal_9_bound_line() {
         "bound=1,\n",
     ];
     for line in rows {
-        assert_eq!(
-            numbers(&format!("{line}{MODEL_A}")),
-            [9, 0, 0, 0, 0],
-            "{line:?}"
-        );
+        assert_eq!(numbers(&format!("{line}{MODEL_A}")), [9, 0, 0, 0, 0], "{line:?}");
     }
     assert_eq!(numbers("bound=1"), [9, 0, 0, 0, 0]);
 }
@@ -71,35 +61,20 @@ fn tests_9_then_the_text_then_21_then_22() {
 #[test]
 fn length_counts_the_model_text_alone() {
     let filler = "\n".repeat(MAX_TEXT - MODEL_A.len());
-    assert_eq!(
-        numbers(&format!("bound=1\n{MODEL_A}{filler}")),
-        [8, 14, 0, 0, 0]
-    );
-    assert_eq!(
-        numbers(&format!("bound=1\n{MODEL_A}{filler}\n")),
-        [1, 0, 0, 0, 0]
-    );
+    assert_eq!(numbers(&format!("bound=1\n{MODEL_A}{filler}")), [8, 14, 0, 0, 0]);
+    assert_eq!(numbers(&format!("bound=1\n{MODEL_A}{filler}\n")), [1, 0, 0, 0, 0]);
 }
 
 #[test]
 fn model_b_fits_up_to_33() {
-    assert_eq!(
-        numbers(&format!("bound=33\n{MODEL_B}")),
-        [0, 0, 638, 4414, 15916]
-    );
-    assert_eq!(
-        numbers(&format!("bound=34\n{MODEL_B}")),
-        [22, 0, 0, 0, 16396]
-    );
+    assert_eq!(numbers(&format!("bound=33\n{MODEL_B}")), [0, 0, 638, 4414, 15916]);
+    assert_eq!(numbers(&format!("bound=34\n{MODEL_B}")), [22, 0, 0, 0, 16396]);
 }
 
 #[test]
 fn words_of_model_b_grow_by_480_a_step() {
     for bound in 0..=33 {
-        assert_eq!(
-            numbers(&format!("bound={bound}\n{MODEL_B}"))[4],
-            76 + 480 * bound
-        );
+        assert_eq!(numbers(&format!("bound={bound}\n{MODEL_B}"))[4], 76 + 480 * bound);
     }
 }
 

@@ -20,29 +20,16 @@ fn refusal(text: &[u8]) -> (u32, u32) {
 /// is the one replaced, or 0 for an accepted text.
 fn check(base: &str, line: usize, rows: &[(&str, u32)]) {
     for (replacement, number) in rows {
-        let expected = if *number == 0 {
-            (0, 0)
-        } else {
-            (*number, line as u32)
-        };
+        let expected = if *number == 0 { (0, 0) } else { (*number, line as u32) };
         let text = with_line(base, line, replacement);
-        assert_eq!(
-            refusal(text.as_bytes()),
-            expected,
-            "line {line}: {replacement:?}"
-        );
+        assert_eq!(refusal(text.as_bytes()), expected, "line {line}: {replacement:?}");
     }
 }
 
 /// A text with `count` copies of some lines after line `line`.
 fn with_copies(base: &str, line: usize, copies: &str, count: usize) -> String {
     let lines: Vec<&str> = base.split_inclusive('\n').collect();
-    [
-        lines[..line].concat(),
-        copies.repeat(count),
-        lines[line..].concat(),
-    ]
-    .concat()
+    [lines[..line].concat(), copies.repeat(count), lines[line..].concat()].concat()
 }
 
 #[test]
@@ -116,16 +103,7 @@ fn refusal_3_numbers() {
             ("locations==2", 3),
         ],
     );
-    check(
-        MODEL_A,
-        2,
-        &[
-            ("init=-", 3),
-            ("init=01", 3),
-            ("init=1000", 3),
-            ("init=999", 5),
-        ],
-    );
+    check(MODEL_A, 2, &[("init=-", 3), ("init=01", 3), ("init=1000", 3), ("init=999", 5)]);
     check(
         PAIR,
         6,
@@ -265,46 +243,16 @@ fn refusal_3_updates_and_resets() {
 #[test]
 fn refusal_4_ranges() {
     check(MODEL_A, 1, &[("locations=0", 4), ("locations=17", 4)]);
-    check(
-        MODEL_A,
-        4,
-        &[("clocks=0", 0), ("clocks=4", 0), ("clocks=5", 4)],
-    );
+    check(MODEL_A, 4, &[("clocks=0", 0), ("clocks=4", 0), ("clocks=5", 4)]);
     check(MODEL_A, 5, &[("vars=5", 4), ("vars=999", 4)]);
     check(MODEL_A, 8, &[("edges=33", 4)]);
     check(
         PAIR,
         6,
-        &[
-            ("var=31,31", 0),
-            ("var=0,0", 0),
-            ("var=32,0", 4),
-            ("var=3,4", 4),
-            ("var=0,1", 4),
-            ("var=32,32", 4),
-            ("var=31,32", 4),
-        ],
+        &[("var=31,31", 0), ("var=0,0", 0), ("var=32,0", 4), ("var=3,4", 4), ("var=0,1", 4), ("var=32,32", 4), ("var=31,32", 4)],
     );
-    check(
-        PAIR,
-        8,
-        &[
-            ("inv=x0<=30", 0),
-            ("inv=x0<=31", 4),
-            ("inv=x0<=0,x1<999", 4),
-        ],
-    );
-    check(
-        PAIR,
-        13,
-        &[
-            ("when=x0<=30", 0),
-            ("when=x0<=31", 4),
-            ("when=v0<=31", 0),
-            ("when=v0<=32", 4),
-            ("when=v0!=32", 4),
-        ],
-    );
+    check(PAIR, 8, &[("inv=x0<=30", 0), ("inv=x0<=31", 4), ("inv=x0<=0,x1<999", 4)]);
+    check(PAIR, 13, &[("when=x0<=30", 0), ("when=x0<=31", 4), ("when=v0<=31", 0), ("when=v0<=32", 4), ("when=v0!=32", 4)]);
     check(
         PAIR,
         14,
@@ -339,81 +287,27 @@ fn refusal_5_declarations() {
     check(MODEL_A, 6, &[("inv=x0<=1", 5)]);
     check(MODEL_A, 9, &[("from=1", 0), ("from=2", 5), ("from=999", 5)]);
     check(MODEL_A, 10, &[("to=0", 0), ("to=2", 5)]);
-    check(
-        PAIR,
-        8,
-        &[("inv=x1<1", 0), ("inv=x2<1", 5), ("inv=x0<1,x4<1", 5)],
-    );
-    check(
-        PAIR,
-        13,
-        &[("when=x2<1", 5), ("when=v1<1", 0), ("when=v2<1", 5)],
-    );
-    check(
-        PAIR,
-        14,
-        &[
-            ("set=v1:=1", 0),
-            ("set=v2:=1", 5),
-            ("set=v999:=1", 5),
-            ("set=v0:=v2+0", 5),
-            ("set=v0:=v1+0", 0),
-        ],
-    );
+    check(PAIR, 8, &[("inv=x1<1", 0), ("inv=x2<1", 5), ("inv=x0<1,x4<1", 5)]);
+    check(PAIR, 13, &[("when=x2<1", 5), ("when=v1<1", 0), ("when=v2<1", 5)]);
+    check(PAIR, 14, &[("set=v1:=1", 0), ("set=v2:=1", 5), ("set=v999:=1", 5), ("set=v0:=v2+0", 5), ("set=v0:=v1+0", 0)]);
     check(PAIR, 15, &[("reset=x1", 0), ("reset=x2", 5)]);
 }
 
 #[test]
 fn refusal_6_rising_order() {
-    check(
-        PAIR,
-        14,
-        &[
-            ("set=v0:=1,v1:=1", 0),
-            ("set=v1:=1,v0:=1", 6),
-            ("set=v0:=1,v0:=1", 6),
-            ("set=v0:=1,v1:=1,v0:=1", 6),
-        ],
-    );
-    check(
-        PAIR,
-        15,
-        &[
-            ("reset=x1,x0", 6),
-            ("reset=x0,x0", 6),
-            ("reset=x0,x1,x1", 6),
-        ],
-    );
+    check(PAIR, 14, &[("set=v0:=1,v1:=1", 0), ("set=v1:=1,v0:=1", 6), ("set=v0:=1,v0:=1", 6), ("set=v0:=1,v1:=1,v0:=1", 6)]);
+    check(PAIR, 15, &[("reset=x1,x0", 6), ("reset=x0,x0", 6), ("reset=x0,x1,x1", 6)]);
 }
 
 #[test]
 fn refusal_7_more_than_four_items() {
     let four = ["x0<1"; 4].join(",");
     let five = ["x0<1"; 5].join(",");
-    check(
-        PAIR,
-        8,
-        &[(&format!("inv={four}"), 0), (&format!("inv={five}"), 7)],
-    );
-    check(
-        PAIR,
-        13,
-        &[(&format!("when={four}"), 0), (&format!("when={five}"), 7)],
-    );
+    check(PAIR, 8, &[(&format!("inv={four}"), 0), (&format!("inv={five}"), 7)]);
+    check(PAIR, 13, &[(&format!("when={four}"), 0), (&format!("when={five}"), 7)]);
     // 7 is for inv and when alone.
-    check(
-        PAIR,
-        14,
-        &[
-            ("set=v0:=1,v1:=1,v1:=1,v1:=1,v1:=1", 6),
-            ("set=v0:=1,v1:=1,v2:=1,v3:=1,v4:=1", 5),
-        ],
-    );
-    check(
-        PAIR,
-        15,
-        &[("reset=x0,x1,x1,x1,x1", 6), ("reset=x0,x1,x2,x3,x4", 5)],
-    );
+    check(PAIR, 14, &[("set=v0:=1,v1:=1,v1:=1,v1:=1,v1:=1", 6), ("set=v0:=1,v1:=1,v2:=1,v3:=1,v4:=1", 5)]);
+    check(PAIR, 15, &[("reset=x0,x1,x1,x1,x1", 6), ("reset=x0,x1,x2,x3,x4", 5)]);
 }
 
 #[test]
@@ -440,21 +334,8 @@ fn each_number_is_tried_over_the_whole_line() {
             ("inv=x0<31,x7<1", 4),
         ],
     );
-    check(
-        PAIR,
-        13,
-        &[("when=v9<40", 4), ("when=v9<1,x0<31", 4), ("when=v9<1", 5)],
-    );
-    check(
-        PAIR,
-        14,
-        &[
-            ("set=v1:=1,v0:=v9+0", 5),
-            ("set=v1:=1,v0:=v0+32", 4),
-            ("set=v9:=1,v0:=32", 4),
-            ("set=v9:=32,v0:=1,x", 3),
-        ],
-    );
+    check(PAIR, 13, &[("when=v9<40", 4), ("when=v9<1,x0<31", 4), ("when=v9<1", 5)]);
+    check(PAIR, 14, &[("set=v1:=1,v0:=v9+0", 5), ("set=v1:=1,v0:=v0+32", 4), ("set=v9:=1,v0:=32", 4), ("set=v9:=32,v0:=1,x", 3)]);
     check(PAIR, 15, &[("reset=x1,x0,x2", 5), ("reset=x1,x0,y", 3)]);
 }
 
@@ -475,30 +356,13 @@ fn items_fill_the_record() {
     let found = model(&text);
     assert_eq!(
         found.invariant[0][..3],
-        [
-            Atom::clock(0, Relation::LessEqual, 3),
-            Atom::clock(1, Relation::Greater, 0),
-            Atom::Blank,
-        ]
+        [Atom::clock(0, Relation::LessEqual, 3), Atom::clock(1, Relation::Greater, 0), Atom::Blank,]
     );
     let expected = Edge {
         source: 0,
         target: 1,
-        guard: [
-            Atom::counter(1, Relation::NotEqual, 2),
-            Atom::clock(1, Relation::GreaterEqual, 4),
-            Atom::Blank,
-            Atom::Blank,
-        ],
-        updates: [
-            Update::Sum {
-                source: 1,
-                offset: -3,
-            },
-            Update::Constant(9),
-            Update::Keep,
-            Update::Keep,
-        ],
+        guard: [Atom::counter(1, Relation::NotEqual, 2), Atom::clock(1, Relation::GreaterEqual, 4), Atom::Blank, Atom::Blank],
+        updates: [Update::Sum { source: 1, offset: -3 }, Update::Constant(9), Update::Keep, Update::Keep],
         resets: [false, true, false, false],
     };
     assert_eq!(found.edge[0], expected);
@@ -507,12 +371,6 @@ fn items_fill_the_record() {
 #[test]
 fn plus_zero_is_an_update_and_not_keep() {
     let found = model(&with_line(PAIR, 14, "set=v0:=v0+0"));
-    assert_eq!(
-        found.edge[0].updates[0],
-        Update::Sum {
-            source: 0,
-            offset: 0
-        }
-    );
+    assert_eq!(found.edge[0].updates[0], Update::Sum { source: 0, offset: 0 });
     assert_eq!(found.edge[0].updates[1], Update::Keep);
 }

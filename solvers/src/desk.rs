@@ -20,12 +20,7 @@ pub struct Desk {
 
 impl Desk {
     /// What a solver says of a list and further clauses.
-    pub fn solve(
-        &mut self,
-        solver: Solver,
-        list: &List,
-        further: &[Vec<i32>],
-    ) -> Result<Verdict, String> {
+    pub fn solve(&mut self, solver: Solver, list: &List, further: &[Vec<i32>]) -> Result<Verdict, String> {
         self.calls += 1;
         let mut words = list.words.clone();
         for clause in further {
@@ -46,9 +41,7 @@ impl Desk {
             .map_err(|error| error.to_string())?;
         let mut command = Command::new("picosat");
         command.arg("--all").arg(&path).stdout(Stdio::piped());
-        let mut child = command
-            .spawn()
-            .map_err(|error| format!("picosat: {error}"))?;
+        let mut child = command.spawn().map_err(|error| format!("picosat: {error}"))?;
         let written = first_answers(&mut child, limit);
         // Ends it where the limit was passed; a process that has ended is left as it is.
         let _ = child.kill();
@@ -75,10 +68,7 @@ fn first_answers(child: &mut Child, limit: usize) -> Result<String, String> {
 
 /// The answers one after the other, then their number: `s SOLUTIONS n`.
 fn solutions(text: &str, variables: usize) -> Result<Vec<Vec<u8>>, String> {
-    let (answers, number) = text
-        .trim_end()
-        .rsplit_once("s SOLUTIONS ")
-        .ok_or("picosat --all did not come to its end")?;
+    let (answers, number) = text.trim_end().rsplit_once("s SOLUTIONS ").ok_or("picosat --all did not come to its end")?;
     let mut solutions = Vec::new();
     for answer in answers.split("s SATISFIABLE\n").skip(1) {
         let answer = format!("s SATISFIABLE\n{answer}");
@@ -88,10 +78,7 @@ fn solutions(text: &str, variables: usize) -> Result<Vec<Vec<u8>>, String> {
         }
     }
     if number != solutions.len().to_string() {
-        return Err(format!(
-            "{} answers, but picosat says {number}",
-            solutions.len()
-        ));
+        return Err(format!("{} answers, but picosat says {number}", solutions.len()));
     }
     Ok(solutions)
 }

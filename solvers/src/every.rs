@@ -38,11 +38,7 @@ pub fn test(desk: &mut Desk, tally: &mut Tally, shipped: &[Subject]) -> Result<(
             if (1..=BLOCKED).contains(&runs) && blocked.len() < LISTS {
                 let solver = Solver::ALL[blocked.len() % Solver::ALL.len()];
                 let test = format!("all assignments at bound {bound}, {}", solver.name());
-                tally.about(
-                    subject,
-                    &test,
-                    by_blocking(desk, solver, subject, bound, runs),
-                );
+                tally.about(subject, &test, by_blocking(desk, solver, subject, bound, runs));
                 blocked.push(runs);
             } else if (BLOCKED..=ENUMERATED).contains(&runs) && enumerated.len() < LISTS {
                 let test = format!("all assignments at bound {bound}, picosat --all");
@@ -69,13 +65,7 @@ fn runs_of(subject: &Subject, bound: usize) -> Result<u128, String> {
 
 /// Asks again and again, each assignment ruled out by a further clause, until
 /// the solver finds no more.
-fn by_blocking(
-    desk: &mut Desk,
-    solver: Solver,
-    subject: &Subject,
-    bound: usize,
-    runs: u128,
-) -> Result<(), String> {
+fn by_blocking(desk: &mut Desk, solver: Solver, subject: &Subject, bound: usize, runs: u128) -> Result<(), String> {
     let list = emitted(subject, bound)?;
     let (mut found, mut ruled_out) = (Vec::new(), Vec::new());
     while let Verdict::Satisfiable(assignment) = desk.solve(solver, &list, &ruled_out)? {
@@ -88,12 +78,7 @@ fn by_blocking(
     compare(subject, bound, &found, runs)
 }
 
-fn by_enumeration(
-    desk: &mut Desk,
-    subject: &Subject,
-    bound: usize,
-    runs: u128,
-) -> Result<(), String> {
+fn by_enumeration(desk: &mut Desk, subject: &Subject, bound: usize, runs: u128) -> Result<(), String> {
     let list = emitted(subject, bound)?;
     let found = desk.all(&list, runs as usize)?;
     compare(subject, bound, &found, runs)
@@ -111,9 +96,7 @@ fn compare(subject: &Subject, bound: usize, found: &[Vec<u8>], runs: u128) -> Re
     decodings.sort();
     let expected = all_runs(&subject.model, bound).map_err(|refusal| format!("{refusal:?}"))?;
     if decodings != expected {
-        return Err(format!(
-            "the runs differ: {decodings:?}, reference {expected:?}"
-        ));
+        return Err(format!("the runs differ: {decodings:?}, reference {expected:?}"));
     }
     Ok(())
 }

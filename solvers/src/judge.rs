@@ -52,9 +52,7 @@ pub fn decoded(subject: &Subject, bound: usize, assignment: &[u8]) -> Result<Vec
     let mut run = vec![u8::MAX; bound];
     let answer = library::assignment_to_run(&subject.text, bound, assignment, &mut run);
     if (answer.number, answer.place) != (0, 0) {
-        return Err(format!(
-            "the solver's assignment is refused: {answer:?}; assignment {assignment:?}"
-        ));
+        return Err(format!("the solver's assignment is refused: {answer:?}; assignment {assignment:?}"));
     }
     let walked = library::walk(&subject.text, &run);
     if (walked.number, walked.place) != (0, 0) {
@@ -67,9 +65,7 @@ pub fn decoded(subject: &Subject, bound: usize, assignment: &[u8]) -> Result<Vec
     let mut back = vec![u8::MAX; assignment.len()];
     let answer = library::run_to_assignment(&subject.text, &run, &mut back);
     if (answer.number, answer.place) != (0, 0) || back != assignment {
-        return Err(format!(
-            "the run {run:?} gives {answer:?} and {back:?}, not {assignment:?}"
-        ));
+        return Err(format!("the run {run:?} gives {answer:?} and {back:?}, not {assignment:?}"));
     }
     Ok(run)
 }

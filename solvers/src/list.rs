@@ -23,28 +23,19 @@ pub fn emitted(subject: &Subject, bound: usize) -> Result<List, String> {
     let clauses = words.iter().filter(|word| **word == 0).count();
     let greatest = words.iter().map(|word| word.unsigned_abs()).max();
     if clauses != told.clauses || greatest != Some(told.variables as u32) {
-        return Err(format!(
-            "{told:?}, but the words hold {clauses} clauses, variables to {greatest:?}"
-        ));
+        return Err(format!("{told:?}, but the words hold {clauses} clauses, variables to {greatest:?}"));
     }
-    Ok(List {
-        variables: told.variables,
-        words,
-    })
+    Ok(List { variables: told.variables, words })
 }
 
 /// The unit clauses that fix an assignment's values.
 pub fn fixing(assignment: &[u8]) -> Vec<Vec<i32>> {
     let literals = (1..).zip(assignment);
-    literals
-        .map(|(variable, value)| vec![if *value == 1 { variable } else { -variable }])
-        .collect()
+    literals.map(|(variable, value)| vec![if *value == 1 { variable } else { -variable }]).collect()
 }
 
 /// The clause that rules one assignment out.
 pub fn blocking(assignment: &[u8]) -> Vec<i32> {
     let literals = (1..).zip(assignment);
-    literals
-        .map(|(variable, value)| if *value == 1 { -variable } else { variable })
-        .collect()
+    literals.map(|(variable, value)| if *value == 1 { -variable } else { variable }).collect()
 }

@@ -41,13 +41,7 @@ pub fn test(desk: &mut Desk, tally: &mut Tally, pairs: &[Pair]) {
 
 /// A solver's assignment for `bound`, fixed value by value in the list for
 /// `longer`; returns a free assignment for `longer`.
-fn goes_on(
-    desk: &mut Desk,
-    solver: Solver,
-    subject: &Subject,
-    bound: usize,
-    longer: usize,
-) -> Result<Vec<u8>, String> {
+fn goes_on(desk: &mut Desk, solver: Solver, subject: &Subject, bound: usize, longer: usize) -> Result<Vec<u8>, String> {
     let (short, long) = (emitted(subject, bound)?, emitted(subject, longer)?);
     let kept = &short.words[..short.words.len() - 2];
     if !long.words.starts_with(kept) {
@@ -62,12 +56,7 @@ fn goes_on(
     satisfying(desk, solver, &long, &[])
 }
 
-fn satisfying(
-    desk: &mut Desk,
-    solver: Solver,
-    list: &List,
-    further: &[Vec<i32>],
-) -> Result<Vec<u8>, String> {
+fn satisfying(desk: &mut Desk, solver: Solver, list: &List, further: &[Vec<i32>]) -> Result<Vec<u8>, String> {
     match desk.solve(solver, list, further)? {
         Verdict::Satisfiable(assignment) => Ok(assignment),
         Verdict::Unsatisfiable => Err(format!("unsatisfiable with {} values fixed", further.len())),

@@ -88,10 +88,7 @@ pub fn at_the_limits() -> Result<[Subject; 2], String> {
         edge.target = number as u8 % 16;
         edge.source = edge.target.saturating_sub(1);
     }
-    Ok([
-        Subject::new("the greatest list", models::largest())?,
-        Subject::new("every limit, with runs", model)?,
-    ])
+    Ok([Subject::new("the greatest list", models::largest())?, Subject::new("every limit, with runs", model)?])
 }
 
 /// A counter is raised to `top` and lowered to 0 again: the shortest run has
@@ -101,23 +98,11 @@ pub fn there_and_back(top: u8, more: u8) -> Result<Subject, String> {
     model.locations = 3 + more;
     model.target = 2 + more;
     model.counters = 1;
-    model.counter[0] = Counter {
-        greatest: top,
-        initial: 0,
-    };
-    let steps = [
-        (0, 0, Some(1), None),
-        (0, 1, None, Some(top)),
-        (1, 1, Some(-1), None),
-        (1, 2, None, Some(0)),
-    ];
+    model.counter[0] = Counter { greatest: top, initial: 0 };
+    let steps = [(0, 0, Some(1), None), (0, 1, None, Some(top)), (1, 1, Some(-1), None), (1, 2, None, Some(0))];
     for (source, target, offset, asked) in steps {
         let edge = &mut model.edge[usize::from(model.edges)];
-        *edge = Edge {
-            source,
-            target,
-            ..Edge::BLANK
-        };
+        *edge = Edge { source, target, ..Edge::BLANK };
         if let Some(offset) = offset {
             edge.updates[0] = Update::Sum { source: 0, offset };
         }
@@ -127,15 +112,8 @@ pub fn there_and_back(top: u8, more: u8) -> Result<Subject, String> {
         model.edges += 1;
     }
     for source in 2..2 + more {
-        model.edge[usize::from(model.edges)] = Edge {
-            source,
-            target: source + 1,
-            ..Edge::BLANK
-        };
+        model.edge[usize::from(model.edges)] = Edge { source, target: source + 1, ..Edge::BLANK };
         model.edges += 1;
     }
-    Subject::new(
-        format!("a counter up to {top} and back, {more} more locations"),
-        model,
-    )
+    Subject::new(format!("a counter up to {top} and back, {more} more locations"), model)
 }

@@ -50,11 +50,7 @@ pub fn pairs(shipped: &[Subject]) -> Result<Vec<Pair>, String> {
             Some(ends) => ends.contains(&subject.model.target),
             None => found_by_walking(&subject.model, bound)?,
         };
-        Some(Pair {
-            subject,
-            bound,
-            has_run,
-        })
+        Some(Pair { subject, bound, has_run })
     });
     let pairs: Vec<Pair> = judged.collect();
     println!(
@@ -68,8 +64,7 @@ pub fn pairs(shipped: &[Subject]) -> Result<Vec<Pair>, String> {
 fn found_by_walking(model: &Model, bound: usize) -> Option<bool> {
     let mut rng = Rng::new(1);
     let mut runs = (0..WALKS).map(|_| random_walk(&mut rng, model, bound).0);
-    runs.find(|run| run.len() == bound && walk(model, run) == (0, 0))
-        .map(|_| true)
+    runs.find(|run| run.len() == bound && walk(model, run) == (0, 0)).map(|_| true)
 }
 
 /// Gives each pair to the solvers.
@@ -77,11 +72,7 @@ pub fn test(desk: &mut Desk, tally: &mut Tally, pairs: &[Pair]) {
     let mut by_all = 0;
     for (index, pair) in pairs.iter().enumerate() {
         let all = index % ALL_SOLVERS_EVERY == 0;
-        let solvers = if all {
-            Solver::ALL.to_vec()
-        } else {
-            vec![Solver::ALL[index / ALL_SOLVERS_EVERY % Solver::ALL.len()]]
-        };
+        let solvers = if all { Solver::ALL.to_vec() } else { vec![Solver::ALL[index / ALL_SOLVERS_EVERY % Solver::ALL.len()]] };
         by_all += usize::from(all);
         let test = format!("bound {}", pair.bound);
         tally.about(&pair.subject, &test, judged(desk, pair, &solvers));
@@ -96,14 +87,10 @@ fn judged(desk: &mut Desk, pair: &Pair, solvers: &[Solver]) -> Result<(), String
         match (desk.solve(*solver, &list, &[])?, pair.has_run) {
             (Verdict::Unsatisfiable, false) => {}
             (Verdict::Satisfiable(assignment), true) => {
-                decoded(&pair.subject, pair.bound, &assignment)
-                    .map_err(|cause| format!("{}: {cause}", solver.name()))?;
+                decoded(&pair.subject, pair.bound, &assignment).map_err(|cause| format!("{}: {cause}", solver.name()))?;
             }
             (verdict, has_run) => {
-                return Err(format!(
-                    "{}: {verdict:?}, but the reference finds a run: {has_run}",
-                    solver.name()
-                ))
+                return Err(format!("{}: {verdict:?}, but the reference finds a run: {has_run}", solver.name()))
             }
         }
     }
@@ -113,27 +100,15 @@ fn judged(desk: &mut Desk, pair: &Pair, solvers: &[Solver]) -> Result<(), String
 /// Too weak a choice of pairs fails.
 fn shares(tally: &mut Tally, pairs: &[Pair], by_all: usize) {
     let mut share = |name: &str, least: usize, property: &dyn Fn(&Pair) -> bool| {
-        tally.share(
-            name,
-            pairs.iter().filter(|pair| property(pair)).count(),
-            least,
-        );
+        tally.share(name, pairs.iter().filter(|pair| property(pair)).count(), least);
     };
     let moves = |p: &Pair| p.subject.model.init != p.subject.model.target;
     share("pairs", 300, &|_| true);
     share("satisfiable", 120, &|p| p.has_run);
     share("satisfiable, by an edge", 90, &|p| p.has_run && moves(p));
     share("unsatisfiable", 120, &|p| !p.has_run);
-    share(
-        "unsatisfiable, though edges lead to the target in time",
-        50,
-        &|p| !p.has_run && linked(&p.subject.model, p.bound),
-    );
-    share(
-        "unsatisfiable, the target being the initial location",
-        10,
-        &|p| !p.has_run && !moves(p),
-    );
+    share("unsatisfiable, though edges lead to the target in time", 50, &|p| !p.has_run && linked(&p.subject.model, p.bound));
+    share("unsatisfiable, the target being the initial location", 10, &|p| !p.has_run && !moves(p));
     share("bound 8 or more", 80, &|p| p.bound >= 8);
     share("bound 32 or more", 15, &|p| p.bound >= 32);
     for (name, least, property) in MODEL_SHARES {
@@ -148,38 +123,20 @@ type ModelShare = (&'static str, usize, fn(&Model) -> bool);
 const MODEL_SHARES: [ModelShare; 8] = [
     ("with clocks", 150, |m| m.clocks > 0),
     ("with counters", 150, |m| m.counters > 0),
-    ("with an invariant", 100, |m| {
-        m.invariant.iter().any(|atoms| *atoms != NO_ATOMS)
-    }),
-    ("with a guard on a clock", 100, |m| {
-        guarded(m, |atom| matches!(atom, Atom::Clock(_)))
-    }),
-    ("with a guard on a counter", 100, |m| {
-        guarded(m, |atom| matches!(atom, Atom::Counter(_)))
-    }),
-    ("with a constant update", 100, |m| {
-        updates(m, |update| matches!(update, Update::Constant(_)))
-    }),
-    ("with a sum update", 100, |m| {
-        updates(m, |update| matches!(update, Update::Sum { .. }))
-    }),
-    ("with a reset", 100, |m| {
-        m.used_edges().iter().any(|e| e.resets.contains(&true))
-    }),
+    ("with an invariant", 100, |m| m.invariant.iter().any(|atoms| *atoms != NO_ATOMS)),
+    ("with a guard on a clock", 100, |m| guarded(m, |atom| matches!(atom, Atom::Clock(_)))),
+    ("with a guard on a counter", 100, |m| guarded(m, |atom| matches!(atom, Atom::Counter(_)))),
+    ("with a constant update", 100, |m| updates(m, |update| matches!(update, Update::Constant(_)))),
+    ("with a sum update", 100, |m| updates(m, |update| matches!(update, Update::Sum { .. }))),
+    ("with a reset", 100, |m| m.used_edges().iter().any(|e| e.resets.contains(&true))),
 ];
 
 fn guarded(model: &Model, sort: fn(&Atom) -> bool) -> bool {
-    model
-        .used_edges()
-        .iter()
-        .any(|edge| edge.guard.iter().any(sort))
+    model.used_edges().iter().any(|edge| edge.guard.iter().any(sort))
 }
 
 fn updates(model: &Model, sort: fn(&Update) -> bool) -> bool {
-    model
-        .used_edges()
-        .iter()
-        .any(|edge| edge.updates.iter().any(sort))
+    model.used_edges().iter().any(|edge| edge.updates.iter().any(sort))
 }
 
 /// Whether at most `bound` edges lead from the initial location to the target,
@@ -189,11 +146,7 @@ fn linked(model: &Model, bound: usize) -> bool {
     for _ in 0..bound {
         let before = reached.clone();
         let edges = model.used_edges().iter();
-        reached.extend(
-            edges
-                .filter(|e| before.contains(&e.source))
-                .map(|e| e.target),
-        );
+        reached.extend(edges.filter(|e| before.contains(&e.source)).map(|e| e.target));
         reached.sort_unstable();
         reached.dedup();
     }

@@ -80,11 +80,7 @@ pub fn test(desk: &mut Desk, tally: &mut Tally, shipped: &[Subject]) -> Result<(
     tally.share("shortest run of 3 steps or more", least(3), 12);
     tally.share("shortest run of 8 steps or more", least(8), 3);
     tally.share("shortest run of 64 steps", least(MAX_BOUND), 1);
-    tally.share(
-        "no run of 64 steps or fewer",
-        subjects.len() - lengths.len(),
-        4,
-    );
+    tally.share("no run of 64 steps or fewer", subjects.len() - lengths.len(), 4);
     Ok(())
 }
 

@@ -90,11 +90,12 @@ fn shown_line(text: &[u8], line: usize) -> String {
         Some((b"", _)) => return "(an empty line)".to_string(),
         Some((bytes, _)) => bytes,
     };
-    let mut shown = bytes.iter().take(SHOWN).flat_map(|byte| escaped(*byte)).collect::<String>();
+    let shown = bytes.iter().take(SHOWN).flat_map(|byte| escaped(*byte)).collect::<String>();
     if bytes.len() > SHOWN {
-        shown.push_str(&format!(" .. ({} bytes)", bytes.len()));
+        format!("{shown} .. ({} bytes)", bytes.len())
+    } else {
+        shown
     }
-    shown
 }
 
 /// Unlike Rust's own escapes these leave quotes as they are.

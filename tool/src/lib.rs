@@ -1,6 +1,6 @@
 //! Safe calls of the proved library, and the parts of the command `wirdoku`.
 //!
-//! Module `library` is the only one that calls foreign code. What its functions answer is proved (crates/capi/specs says what
+//! Module `library` is the only one that calls foreign code. What its functions answer is proved (crates/wirdoku/specs says what
 //! it is); everything else in this package is ordinary Rust and is only tested.
 
 pub mod answer;

@@ -1,4 +1,4 @@
-//! The calls of the proved library (crates/capi/include/wirdoku.h), one safe function each.
+//! The calls of the proved library (crates/wirdoku/include/wirdoku.h), one safe function each.
 //!
 //! No call has a precondition. `number` is 0 or the number of a refusal; `line` is the line of the text, from 1, for refusals 2
 //! to 8. After a refusal a lent buffer holds what it held. A slice's length is handed over with its pointer, and Rust's rules

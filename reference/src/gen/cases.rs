@@ -16,29 +16,14 @@ use crate::text::{read, write};
 
 /// The kinds of cases, with what a line holds.
 pub const KINDS: [(&str, &str); 8] = [
-    (
-        "model",
-        "well-formed model texts, plain, parted by an empty line",
-    ),
+    ("model", "well-formed model texts, plain, parted by an empty line"),
     ("text", "text; refusal, line and record of its reading"),
     ("size", "input of the size program; its five numbers"),
     ("record", "record; 20 or 0"),
-    (
-        "list",
-        "record, bound; refusal, variables, clauses, words, digest of the words",
-    ),
-    (
-        "step",
-        "record, state, byte; refusal and state of the step call",
-    ),
-    (
-        "run",
-        "record, run; the walker's refusal and place, and the assignment",
-    ),
-    (
-        "assignment",
-        "record, bound, assignment; refusal, place and run",
-    ),
+    ("list", "record, bound; refusal, variables, clauses, words, digest of the words"),
+    ("step", "record, state, byte; refusal and state of the step call"),
+    ("run", "record, run; the walker's refusal and place, and the assignment"),
+    ("assignment", "record, bound, assignment; refusal, place and run"),
 ];
 
 /// The case of a kind and a seed; none if there is no such kind.
@@ -61,22 +46,12 @@ pub fn case(kind: &str, seed: u64) -> Option<String> {
 fn text_case(rng: &mut Rng) -> String {
     let text = texts::text(rng);
     let reading = read(&text);
-    format!(
-        "text={} refusal={} line={} record={}",
-        hex(&text),
-        reading.refusal,
-        reading.line,
-        hex(&bytes(&reading.model))
-    )
+    format!("text={} refusal={} line={} record={}", hex(&text), reading.refusal, reading.line, hex(&bytes(&reading.model)))
 }
 
 fn size_case(rng: &mut Rng) -> String {
     let input = texts::size_input(rng);
-    format!(
-        "input={} {}",
-        hex(&input),
-        sizes(&input).lines().trim_end().replace('\n', " ")
-    )
+    format!("input={} {}", hex(&input), sizes(&input).lines().trim_end().replace('\n', " "))
 }
 
 fn record_case(rng: &mut Rng) -> String {
@@ -86,16 +61,8 @@ fn record_case(rng: &mut Rng) -> String {
 }
 
 fn list_case(rng: &mut Rng) -> String {
-    let model = if rng.one_in(4) {
-        records::record(rng)
-    } else {
-        models::any_model(rng)
-    };
-    let bound = if rng.one_in(8) {
-        MAX_BOUND + 1
-    } else {
-        runs::steps(rng)
-    };
+    let model = if rng.one_in(4) { records::record(rng) } else { models::any_model(rng) };
+    let bound = if rng.one_in(8) { MAX_BOUND + 1 } else { runs::steps(rng) };
     let outcome = totals(&model, bound);
     let (refusal, _) = number_and_place(&outcome);
     let totals = outcome.unwrap_or_default();
@@ -127,12 +94,7 @@ fn run_case(rng: &mut Rng) -> String {
     records::sometimes_damage(rng, &mut model);
     let (refusal, place) = walk(&model, &run);
     let assignment = assignment_of(&model, &run).unwrap_or_default();
-    format!(
-        "record={} run={} refusal={refusal} place={place} assignment={}",
-        hex(&bytes(&model)),
-        hex(&run),
-        hex(&assignment)
-    )
+    format!("record={} run={} refusal={refusal} place={place} assignment={}", hex(&bytes(&model)), hex(&run), hex(&assignment))
 }
 
 fn assignment_case(rng: &mut Rng) -> String {

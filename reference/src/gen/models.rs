@@ -2,8 +2,8 @@
 
 use super::rng::Rng;
 use crate::model::{
-    Atom, Atoms, Counter, Edge, Model, Relation, Update, MAX_ATOMS, MAX_CLOCKS, MAX_CLOCK_CONSTANT,
-    MAX_COUNTERS, MAX_COUNTER_VALUE, MAX_EDGES, MAX_LOCATIONS, MAX_OFFSET, NO_ATOMS,
+    Atom, Atoms, Counter, Edge, Model, Relation, Update, MAX_ATOMS, MAX_CLOCKS, MAX_CLOCK_CONSTANT, MAX_COUNTERS,
+    MAX_COUNTER_VALUE, MAX_EDGES, MAX_LOCATIONS, MAX_OFFSET, NO_ATOMS,
 };
 
 /// How large a random model may grow.
@@ -29,24 +29,8 @@ struct Limits {
 impl Size {
     fn limits(self) -> Limits {
         match self {
-            Size::Tiny => Limits {
-                locations: 3,
-                clocks: 1,
-                counters: 2,
-                edges: 3,
-                atoms: 2,
-                clock_constant: 1,
-                greatest: 2,
-            },
-            Size::Medium => Limits {
-                locations: 6,
-                clocks: 2,
-                counters: 2,
-                edges: 10,
-                atoms: 3,
-                clock_constant: 6,
-                greatest: 7,
-            },
+            Size::Tiny => Limits { locations: 3, clocks: 1, counters: 2, edges: 3, atoms: 2, clock_constant: 1, greatest: 2 },
+            Size::Medium => Limits { locations: 6, clocks: 2, counters: 2, edges: 10, atoms: 3, clock_constant: 6, greatest: 7 },
             Size::Full => Limits {
                 locations: MAX_LOCATIONS as u8,
                 clocks: MAX_CLOCKS as u8,
@@ -71,10 +55,7 @@ pub fn model(rng: &mut Rng, size: Size) -> Model {
     model.counters = rng.between(0, limits.counters);
     for index in 0..usize::from(model.counters) {
         let greatest = rng.between(0, limits.greatest);
-        model.counter[index] = Counter {
-            greatest,
-            initial: rng.between(0, greatest),
-        };
+        model.counter[index] = Counter { greatest, initial: rng.between(0, greatest) };
     }
     for index in 0..usize::from(model.locations) {
         let initial = index == usize::from(model.init);
@@ -89,13 +70,7 @@ pub fn model(rng: &mut Rng, size: Size) -> Model {
 
 /// A size, most often a small one.
 pub fn any_size(rng: &mut Rng) -> Size {
-    rng.pick(&[
-        Size::Tiny,
-        Size::Tiny,
-        Size::Medium,
-        Size::Medium,
-        Size::Full,
-    ])
+    rng.pick(&[Size::Tiny, Size::Tiny, Size::Medium, Size::Medium, Size::Full])
 }
 
 /// A model of a random size.
@@ -134,11 +109,7 @@ fn clock_atom(rng: &mut Rng, model: &Model, limits: &Limits, upper_bound: bool) 
 /// A counter atom; the constant may lie above the counter's greatest value.
 fn counter_atom(rng: &mut Rng, model: &Model, limits: &Limits) -> Atom {
     let index = rng.below(usize::from(model.counters)) as u8;
-    let constant = if rng.one_in(8) {
-        MAX_COUNTER_VALUE
-    } else {
-        limits.greatest
-    };
+    let constant = if rng.one_in(8) { MAX_COUNTER_VALUE } else { limits.greatest };
     Atom::counter(index, rng.pick(&Relation::ALL), rng.between(0, constant))
 }
 
@@ -150,11 +121,7 @@ fn guard(rng: &mut Rng, model: &Model, limits: &Limits) -> Atoms {
     let count = usize::from(rng.between(0, limits.atoms));
     for slot in &mut atoms[..count] {
         let on_clock = model.counters == 0 || (model.clocks > 0 && rng.one_in(2));
-        *slot = if on_clock {
-            clock_atom(rng, model, limits, false)
-        } else {
-            counter_atom(rng, model, limits)
-        };
+        *slot = if on_clock { clock_atom(rng, model, limits, false) } else { counter_atom(rng, model, limits) };
     }
     atoms
 }
@@ -179,14 +146,7 @@ fn update(rng: &mut Rng, model: &Model, limits: &Limits) -> Update {
     let far = rng.one_in(12);
     match rng.below(4) {
         0 | 1 => Update::Keep,
-        2 => Update::Constant(rng.between(
-            0,
-            if far {
-                MAX_COUNTER_VALUE
-            } else {
-                limits.greatest
-            },
-        )),
+        2 => Update::Constant(rng.between(0, if far { MAX_COUNTER_VALUE } else { limits.greatest })),
         _ => {
             let reach = if far { MAX_OFFSET as u8 } else { 2 };
             let offset = rng.between(0, 2 * reach) as i8 - reach as i8;
@@ -208,17 +168,11 @@ pub fn largest() -> Model {
     model.locations = MAX_LOCATIONS as u8;
     model.clocks = MAX_CLOCKS as u8;
     model.counters = MAX_COUNTERS as u8;
-    model.counter = [Counter {
-        greatest: MAX_COUNTER_VALUE,
-        initial: 0,
-    }; MAX_COUNTERS];
+    model.counter = [Counter { greatest: MAX_COUNTER_VALUE, initial: 0 }; MAX_COUNTERS];
     let never = Atom::clock(0, Relation::Less, 0);
     model.invariant = [[never; MAX_ATOMS]; MAX_LOCATIONS];
     model.edges = MAX_EDGES as u8;
-    model.edge = [Edge {
-        guard: [never; MAX_ATOMS],
-        ..Edge::BLANK
-    }; MAX_EDGES];
+    model.edge = [Edge { guard: [never; MAX_ATOMS], ..Edge::BLANK }; MAX_EDGES];
     model.edge[0].guard[0] = Atom::clock(0, Relation::Greater, MAX_CLOCK_CONSTANT);
     model
 }
@@ -238,10 +192,7 @@ pub fn full() -> Model {
             Atom::counter(1, Relation::NotEqual, number),
         ];
         edge.updates[0] = Update::Constant(number);
-        edge.updates[1] = Update::Sum {
-            source: 0,
-            offset: number as i8 - 16,
-        };
+        edge.updates[1] = Update::Sum { source: 0, offset: number as i8 - 16 };
         edge.resets[clock] = true;
     }
     model
@@ -253,10 +204,7 @@ pub fn model_a() -> Model {
     model.locations = 2;
     model.target = 1;
     model.edges = 1;
-    model.edge[0] = Edge {
-        target: 1,
-        ..Edge::BLANK
-    };
+    model.edge[0] = Edge { target: 1, ..Edge::BLANK };
     model
 }
 
@@ -267,32 +215,15 @@ pub fn model_b() -> Model {
     model.target = 3;
     model.clocks = 1;
     model.counters = 1;
-    model.counter[0] = Counter {
-        greatest: 1,
-        initial: 0,
-    };
+    model.counter[0] = Counter { greatest: 1, initial: 0 };
     model.invariant[1][0] = Atom::clock(0, Relation::LessEqual, 3);
     model.edges = 3;
-    model.edge[0] = Edge {
-        target: 1,
-        ..Edge::BLANK
-    };
+    model.edge[0] = Edge { target: 1, ..Edge::BLANK };
     model.edge[0].resets[0] = true;
-    model.edge[1] = Edge {
-        source: 1,
-        target: 2,
-        ..Edge::BLANK
-    };
+    model.edge[1] = Edge { source: 1, target: 2, ..Edge::BLANK };
     model.edge[1].guard[0] = Atom::clock(0, Relation::LessEqual, 2);
-    model.edge[1].updates[0] = Update::Sum {
-        source: 0,
-        offset: 1,
-    };
-    model.edge[2] = Edge {
-        source: 1,
-        target: 3,
-        ..Edge::BLANK
-    };
+    model.edge[1].updates[0] = Update::Sum { source: 0, offset: 1 };
+    model.edge[2] = Edge { source: 1, target: 3, ..Edge::BLANK };
     model.edge[2].guard[0] = Atom::clock(0, Relation::GreaterEqual, 3);
     model
 }

@@ -22,11 +22,7 @@ pub fn record(rng: &mut Rng) -> Model {
 /// in eight another.
 pub fn sound_and_asked(rng: &mut Rng) -> (Model, Model) {
     let sound = any_model(rng);
-    let asked = if rng.one_in(8) {
-        record(rng)
-    } else {
-        sound.clone()
-    };
+    let asked = if rng.one_in(8) { record(rng) } else { sound.clone() };
     (sound, asked)
 }
 
@@ -35,9 +31,7 @@ fn number(rng: &mut Rng) -> u8 {
     if rng.one_in(4) {
         return rng.byte();
     }
-    rng.pick(&[
-        0, 0, 1, 2, 3, 4, 5, 15, 16, 17, 30, 31, 32, 33, 127, 128, 255,
-    ])
+    rng.pick(&[0, 0, 1, 2, 3, 4, 5, 15, 16, 17, 30, 31, 32, 33, 127, 128, 255])
 }
 
 /// Overwrites one field, used or not.
@@ -106,10 +100,7 @@ fn update(rng: &mut Rng) -> Update {
     match rng.below(3) {
         0 => Update::Keep,
         1 => Update::Constant(number(rng)),
-        _ => Update::Sum {
-            source: number(rng),
-            offset: rng.pick(&[-128, -32, -31, -1, 0, 1, 31, 32, 127]),
-        },
+        _ => Update::Sum { source: number(rng), offset: rng.pick(&[-128, -32, -31, -1, 0, 1, 31, 32, 127]) },
     }
 }
 

@@ -28,11 +28,7 @@ pub fn walk(rng: &mut Rng, model: &Model, steps: usize) -> (Vec<u8>, State) {
 fn allowed_step(rng: &mut Rng, model: &Model, state: State) -> Option<(u8, State)> {
     let allowed: Vec<(u8, State)> = successors(model, state).collect();
     let delays = (choice_length(model) - u32::from(model.edges)) as u8;
-    let edges: Vec<(u8, State)> = allowed
-        .iter()
-        .copied()
-        .filter(|(byte, _)| *byte >= delays)
-        .collect();
+    let edges: Vec<(u8, State)> = allowed.iter().copied().filter(|(byte, _)| *byte >= delays).collect();
     if !edges.is_empty() && rng.one_in(2) {
         return Some(rng.pick(&edges));
     }
@@ -125,7 +121,9 @@ fn damage_assignment(rng: &mut Rng, assignment: &mut Vec<u8>) {
         0 | 1 if !assignment.is_empty() => assignment[place] ^= 1,
         2 => assignment.swap(place, other),
         3 if !assignment.is_empty() => assignment[place] = rng.pick(&[2, 48, 49, 128, 255]),
-        4 => drop(assignment.pop()),
+        4 => {
+            assignment.pop();
+        }
         _ => assignment.push(rng.below(2) as u8),
     }
 }

@@ -20,8 +20,8 @@ use super::{models, records, runs};
 use crate::assign::{decode, encode};
 use crate::list::{emit, totals};
 use crate::model::{
-    ceiling, choice_length, state_length, test_record, test_record_and_bound, variables, Atom,
-    Counter, Edge, Model, Update, MAX_BOUND,
+    ceiling, choice_length, state_length, test_record, test_record_and_bound, variables, Atom, Counter, Edge, Model, Update,
+    MAX_BOUND,
 };
 use crate::refusal::number_and_place;
 use crate::step::{step_call, walk};
@@ -109,12 +109,7 @@ fn ask_record(rng: &mut Rng, script: &mut Script) {
     script.tell(&[12, bound as u32]);
     let (number, _) = number_and_place(&test_record_and_bound(&model, bound));
     if number == 0 {
-        script.answer(&[
-            0,
-            state_length(&model),
-            choice_length(&model),
-            variables(&model, bound),
-        ]);
+        script.answer(&[0, state_length(&model), choice_length(&model), variables(&model, bound)]);
     } else {
         script.answer(&[number, 0, 0, 0]);
     }
@@ -127,11 +122,7 @@ fn ask_step(rng: &mut Rng, script: &mut Script) {
     }
     for _ in 0..4 {
         let state = records::state(rng, &sound);
-        let byte = if rng.one_in(8) {
-            rng.byte()
-        } else {
-            rng.below(choice_length(&sound) as usize + 1) as u8
-        };
+        let byte = if rng.one_in(8) { rng.byte() } else { rng.below(choice_length(&sound) as usize + 1) as u8 };
         let mut question = state.numbers();
         question.push(byte);
         script.tell_bytes(&[14], &question);
@@ -159,11 +150,7 @@ fn model_and_run(rng: &mut Rng, question: u32, script: &mut Script) -> Option<(M
 }
 
 fn ask_list(rng: &mut Rng, script: &mut Script) {
-    let model = if rng.one_in(8) {
-        records::record(rng)
-    } else {
-        models::any_model(rng)
-    };
+    let model = if rng.one_in(8) { records::record(rng) } else { models::any_model(rng) };
     if !build(&model, script) {
         return;
     }
@@ -178,12 +165,7 @@ fn ask_list(rng: &mut Rng, script: &mut Script) {
     script.tell(&[16, bound as u32, limit / 256, limit % 256]);
     let mut buffer = vec![LENT_WORD; limit as usize];
     let told = emit(&model, bound, &mut buffer);
-    script.answer(&[
-        told.refusal,
-        told.totals.variables,
-        told.totals.clauses,
-        told.totals.words,
-    ]);
+    script.answer(&[told.refusal, told.totals.variables, told.totals.clauses, told.totals.words]);
     let written = buffer.iter().take_while(|&&word| word != LENT_WORD);
     script.answer_values(written);
 }
@@ -221,14 +203,7 @@ fn build(model: &Model, script: &mut Script) -> bool {
         return false;
     }
     script.tell(&[0, 0]);
-    let head = [
-        model.locations,
-        model.init,
-        model.target,
-        model.clocks,
-        model.counters,
-        model.edges,
-    ];
+    let head = [model.locations, model.init, model.target, model.clocks, model.counters, model.edges];
     for (field, number) in head.into_iter().enumerate() {
         script.tell(&[1, field as u32, u32::from(number)]);
     }

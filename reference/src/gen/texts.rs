@@ -6,8 +6,8 @@ use crate::text::{write, MAX_TEXT};
 
 /// Numbers at and beside the limits, and malformed ones.
 const NUMBERS: [&str; 22] = [
-    "0", "1", "2", "3", "4", "5", "15", "16", "17", "29", "30", "31", "32", "33", "64", "65",
-    "255", "256", "999", "1000", "00", "007",
+    "0", "1", "2", "3", "4", "5", "15", "16", "17", "29", "30", "31", "32", "33", "64", "65", "255", "256", "999", "1000", "00",
+    "007",
 ];
 
 /// Items of every sort, right and wrong.
@@ -59,13 +59,7 @@ pub fn text(rng: &mut Rng) -> Vec<u8> {
 /// An input of the size program: bound line and text, either one damaged or not.
 pub fn size_input(rng: &mut Rng) -> Vec<u8> {
     let mut input = bound_line(rng);
-    let text = if rng.one_in(2) {
-        write(&any_model(rng))
-            .map(String::into_bytes)
-            .unwrap_or_default()
-    } else {
-        text(rng)
-    };
+    let text = if rng.one_in(2) { write(&any_model(rng)).map(String::into_bytes).unwrap_or_default() } else { text(rng) };
     input.extend(text);
     input
 }
@@ -87,7 +81,9 @@ fn bound_line(rng: &mut Rng) -> Vec<u8> {
 fn damaged(rng: &mut Rng, mut text: Vec<u8>) -> Vec<u8> {
     let place = rng.below(text.len());
     match rng.below(14) {
-        0 if !text.is_empty() => drop(text.remove(place)),
+        0 if !text.is_empty() => {
+            text.remove(place);
+        }
         1 => text.insert(place, rng.pick(BYTES)),
         2 if !text.is_empty() => text[place] = rng.pick(BYTES),
         3 => text.truncate(place),
@@ -111,17 +107,13 @@ fn pad(rng: &mut Rng, text: &mut Vec<u8>) {
 
 /// Replaces one run of digits by another number.
 fn with_number(rng: &mut Rng, text: &[u8]) -> Vec<u8> {
-    let is_start =
-        |i: &usize| text[*i].is_ascii_digit() && (*i == 0 || !text[*i - 1].is_ascii_digit());
+    let is_start = |i: &usize| text[*i].is_ascii_digit() && (*i == 0 || !text[*i - 1].is_ascii_digit());
     let starts: Vec<usize> = (0..text.len()).filter(is_start).collect();
     if starts.is_empty() {
         return text.to_vec();
     }
     let start = rng.pick(&starts);
-    let length = text[start..]
-        .iter()
-        .take_while(|byte| byte.is_ascii_digit())
-        .count();
+    let length = text[start..].iter().take_while(|byte| byte.is_ascii_digit()).count();
     let number = rng.pick(&NUMBERS);
     [&text[..start], number.as_bytes(), &text[start + length..]].concat()
 }
@@ -131,10 +123,7 @@ type Lines = Vec<Vec<u8>>;
 
 /// Applies a change to the lines of a text that has at least one.
 fn with_lines(rng: &mut Rng, text: &[u8], change: fn(&mut Rng, Lines) -> Lines) -> Vec<u8> {
-    let lines: Lines = text
-        .split_inclusive(|byte| *byte == b'\n')
-        .map(<[u8]>::to_vec)
-        .collect();
+    let lines: Lines = text.split_inclusive(|byte| *byte == b'\n').map(<[u8]>::to_vec).collect();
     if lines.is_empty() {
         return Vec::new();
     }
@@ -142,12 +131,7 @@ fn with_lines(rng: &mut Rng, text: &[u8], change: fn(&mut Rng, Lines) -> Lines) 
 }
 
 /// The keys of the lines that hold items, with an item of that line.
-const ITEM_LINES: [(&str, &str); 4] = [
-    ("inv=", "x0<=2"),
-    ("when=", "x0>=1"),
-    ("set=", "v0:=v0+1"),
-    ("reset=", "x0"),
-];
+const ITEM_LINES: [(&str, &str); 4] = [("inv=", "x0<=2"), ("when=", "x0>=1"), ("set=", "v0:=v0+1"), ("reset=", "x0")];
 
 /// Adds one to five items to a line that holds items: either copies of an item
 /// that fits the line, or any items.
@@ -156,9 +140,8 @@ fn more_items(rng: &mut Rng, mut lines: Lines) -> Lines {
         let key_of = |(key, _): &&(&str, &str)| line.starts_with(key.as_bytes());
         ITEM_LINES.iter().find(key_of).map(|(_, item)| *item)
     };
-    let places: Vec<(usize, &str)> = (0..lines.len())
-        .filter_map(|place| fitting(&lines[place]).map(|item| (place, item)))
-        .collect();
+    let places: Vec<(usize, &str)> =
+        (0..lines.len()).filter_map(|place| fitting(&lines[place]).map(|item| (place, item))).collect();
     if places.is_empty() {
         return lines;
     }
@@ -191,16 +174,9 @@ fn add_item(line: &mut Vec<u8>, item: &str) {
 /// Gives a line another value.
 fn other_value(rng: &mut Rng, mut lines: Lines) -> Lines {
     let place = rng.below(lines.len());
-    let key_length = lines[place]
-        .iter()
-        .take_while(|byte| **byte != b'=')
-        .count();
+    let key_length = lines[place].iter().take_while(|byte| **byte != b'=').count();
     let mut line = lines[place][..key_length].to_vec();
-    let value = if rng.one_in(2) {
-        rng.pick(&ITEMS)
-    } else {
-        rng.pick(&NUMBERS)
-    };
+    let value = if rng.one_in(2) { rng.pick(&ITEMS) } else { rng.pick(&NUMBERS) };
     line.push(b'=');
     line.extend(value.bytes());
     line.push(b'\n');

@@ -121,7 +121,5 @@ pub fn with_line(text: &str, line: usize, replacement: &str) -> String {
 /// 64-bit FNV-1a of some words, four bytes each, the lowest first.
 pub fn fnv(words: &[i32]) -> u64 {
     let bytes = words.iter().flat_map(|word| word.to_le_bytes());
-    bytes.fold(14695981039346656037, |digest: u64, byte| {
-        (digest ^ u64::from(byte)).wrapping_mul(1099511628211)
-    })
+    bytes.fold(14695981039346656037, |digest: u64, byte| (digest ^ u64::from(byte)).wrapping_mul(1099511628211))
 }

@@ -1,0 +1,50 @@
+use mathlib.Core.Path.{ap}
+use Rattle.sizing.specs.SizeCall.{sizeTold}
+use Rattle.wirdoku.proofs.CallLaws.{counted-is}
+use borrow.Author.Needs.{needs}
+use Rattle.wirdoku.proofs.counted.Statement.{statement}
+use Rattle.wirdoku.proofs.counted.Tie as tie
+use Rattle.wirdoku.proofs.counted.Reads as reads
+use Rattle.wirdoku.proofs.counted.Lts as lts
+use Rattle.wirdoku.proofs.sizes.Reads as sizes-reads
+
+enum-told : tie.Need-enum-told
+enum-told c = search needs
+
+sizes-requires : tie.Need-sizes-requires
+sizes-requires c κs = search needs
+
+enum-told-2 : tie.Need-enum-told-2
+enum-told-2 c = search needs
+
+sizes-requires-2 : tie.Need-sizes-requires-2
+sizes-requires-2 c κs = search needs
+
+enum-known-c : tie.Need-enum-known-c
+enum-known-c c = search needs
+
+sizes-requires-3 : tie.Need-sizes-requires-3
+sizes-requires-3 c κs = search needs
+
+returns : tie.Need-returns
+returns c = counted-is (c .before .enum-told .given .1) (ap sizeTold (c .sizes .ensures))
+
+returns-2 : tie.Need-returns-2
+returns-2 c = counted-is (c .before .enum-told2 .given .1) (ap sizeTold (c .sizes2 .ensures))
+
+returns-3 : tie.Need-returns-3
+returns-3 c = counted-is (c .before .before .c .given .1) (ap sizeTold (c .sizes3 .ensures))
+
+pub counted-spec : {M : Type 1} → statement M
+counted-spec =
+    tie.close
+    (tie.spec
+    enum-told
+    sizes-requires
+    enum-told-2
+    sizes-requires-2
+    enum-known-c
+    sizes-requires-3
+    returns
+    returns-2
+    returns-3)

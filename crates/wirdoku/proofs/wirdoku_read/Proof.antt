@@ -1,0 +1,31 @@
+use Rattle.wirdoku.specs.TextCall.{textReport, answerTold}
+use Rattle.model.specs.Refusal.{refusal}
+use mathlib.Core.Path.{ap, _∙_}
+use borrow.Author.Needs.{needs}
+use Rattle.wirdoku.proofs.wirdoku_read.Statement.{statement}
+use Rattle.wirdoku.proofs.wirdoku_read.Tie as tie
+use Rattle.wirdoku.proofs.wirdoku_read.Reads as reads
+use Rattle.wirdoku.proofs.wirdoku_read.Lts as lts
+use Rattle.wirdoku.proofs.told.Reads as told-reads
+use Rattle.text.proofs.ReadOutcome.line.Reads as line-reads
+use Rattle.text.proofs.ReadOutcome.number.Reads as number-reads
+use Rattle.text.proofs.read_model.Reads as read-model-reads
+
+read-model-requires : tie.Need-read-model-requires
+read-model-requires c κs = search needs
+
+number-requires : tie.Need-number-requires
+number-requires c κs = search needs
+
+line-requires : tie.Need-line-requires
+line-requires c κs = search needs
+
+told-requires : tie.Need-told-requires
+told-requires c κs = search needs
+
+returns : tie.Need-returns
+returns c = ap answerTold (c .told .ensures) ∙ (λ i. refusal (c .before .before .number .ensures i) (c .before .line .ensures i)) ∙ ap textReport (c .before .before .before .read-model .ensures)
+
+pub wirdoku-read-spec : {M : Type 1} → statement M
+wirdoku-read-spec =
+    tie.close (tie.spec read-model-requires number-requires line-requires told-requires returns)
