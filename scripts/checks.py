@@ -3,7 +3,8 @@ import os
 import subprocess
 import sys
 
-ROOT = os.path.normpath(os.path.join(os.path.dirname(os.path.abspath(__file__)), ".."))
+from crates import ROOT
+
 RELEASE = os.path.join(ROOT, "rust-target", "release")
 REFERENCE = os.path.join(RELEASE, "reference")
 SIZE = os.path.join(ROOT, "target", "bin", "size")
