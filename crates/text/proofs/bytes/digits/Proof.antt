@@ -15,10 +15,16 @@ abbrev μ-loop : tie.MeasureT-loop
 μ-loop s i₀ i = length s - i
 
 loop-again : tie.Need-loop-again Inv-loop μ-loop
-loop-again c = let b = c .before .before .before in omega (arith, digitsOf-next (b .before .before .before .args .s .now) (b .before .loop .i) (b .loop-test .taken) (sym (c .before .is-digit .ensures) ∙ c .if1 .taken))
+loop-again c =
+    let b = c .before .before .before in
+    let digit = sym (c .before .is-digit .ensures) ∙ c .if1 .taken in
+    omega (arith, digitsOf-next (b .before .before .before .args .s .now) (b .before .loop .i) (b .loop-test .taken) digit)
 
 returns : tie.Need-returns Inv-loop μ-loop
-returns c = let b = c .before .before .before in omega (arith, digitsOf-here (b .before .before .before .args .s .now) (b .before .loop .i) (b .loop-test .taken) (sym (c .before .is-digit .ensures) ∙ c .if1 .left))
+returns c =
+    let b = c .before .before .before in
+    let other = sym (c .before .is-digit .ensures) ∙ c .if1 .left in
+    omega (arith, digitsOf-here (b .before .before .before .args .s .now) (b .before .loop .i) (b .loop-test .taken) other)
 
 returns-2 : tie.Need-returns-2 Inv-loop μ-loop
 returns-2 c = omega (arith, digitsOf-end (c .before .before .before .args .s .now) (c .before .loop .i) (c .loop-test .left))

@@ -15,10 +15,16 @@ abbrev μ-loop : tie.MeasureT-loop
 μ-loop s at b i₀ i = length s - i
 
 returns : tie.Need-returns Inv-loop μ-loop
-returns c = let a = c .before .before .before .before .args in omega (arith, firstAt-here (a .b) (a .s .now) (c .before .before .before .loop .i) (c .before .before .loop-test .taken) (c .if1 .taken))
+returns c =
+    let b = c .before .before in
+    let a = b .before .before .args in
+    omega (arith, firstAt-here (a .b) (a .s .now) (b .before .loop .i) (b .loop-test .taken) (c .if1 .taken))
 
 loop-again : tie.Need-loop-again Inv-loop μ-loop
-loop-again c = let a = c .before .before .before .before .args in omega (arith, firstAt-next (a .b) (a .s .now) (c .before .before .before .loop .i) (c .before .before .loop-test .taken) (c .if1 .left))
+loop-again c =
+    let b = c .before .before in
+    let a = b .before .before .args in
+    omega (arith, firstAt-next (a .b) (a .s .now) (b .before .loop .i) (b .loop-test .taken) (c .if1 .left))
 
 returns-2 : tie.Need-returns-2 Inv-loop μ-loop
 returns-2 c = let a = c .before .before .args in omega (arith, firstAt-end (a .b) (a .s .now) (c .before .loop .i) (c .loop-test .left))

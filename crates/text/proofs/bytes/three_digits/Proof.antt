@@ -5,7 +5,18 @@ use Rattle.text.proofs.bytes.three_digits.Tie as tie
 
 returns : tie.Need-returns
 unfolding numberOf
-returns c = simp (c .number-if .ensures, c .before .digit3 .ensures, c .before .before .digit2 .ensures, c .before .before .before .digit .ensures, c .before .before .before .before .is-digit3 .ensures, c .before .before .before .before .before .is-digit2 .ensures, c .before .before .before .before .before .before .is-digit .ensures)
+returns c =
+    let b = c .before .before .before in
+    let d = b .before in
+    simp (
+      c .number-if .ensures,
+      c .before .digit3 .ensures,
+      c .before .before .digit2 .ensures,
+      b .digit .ensures,
+      d .is-digit3 .ensures,
+      d .before .is-digit2 .ensures,
+      d .before .before .is-digit .ensures,
+    )
 
 pub three-digits-spec : {M : Type 1} → statement M
 three-digits-spec =

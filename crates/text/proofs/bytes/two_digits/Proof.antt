@@ -5,7 +5,9 @@ use Rattle.text.proofs.bytes.two_digits.Tie as tie
 
 returns : tie.Need-returns
 unfolding numberOf
-returns c = simp (c .number-if .ensures, c .before .digit2 .ensures, c .before .before .digit .ensures, c .before .before .before .is-digit2 .ensures, c .before .before .before .before .is-digit .ensures)
+returns c =
+    let b = c .before .before .before in
+    simp (c .number-if .ensures, c .before .digit2 .ensures, c .before .before .digit .ensures, b .is-digit2 .ensures, b .before .is-digit .ensures)
 
 pub two-digits-spec : {M : Type 1} → statement M
 two-digits-spec =

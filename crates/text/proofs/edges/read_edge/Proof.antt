@@ -1,4 +1,4 @@
-use Rattle.text.proofs.lines.Turns.{five}
+use Rattle.text.proofs.lines.Turns.{next}
 use Rattle.text.specs.lines.Sequence.{readEdge}
 use borrow.Author.Needs.{needs}
 use Rattle.text.proofs.edges.read_edge.Statement.{statement}
@@ -6,7 +6,10 @@ use Rattle.text.proofs.edges.read_edge.Tie as tie
 
 returns : tie.Need-returns
 unfolding readEdge
-returns c = five _ (c .before .before .before .before .from-line .ensures) (c .before .before .before .to-line .ensures) (c .before .before .when-line .ensures) (c .before .set-line .ensures) (c .reset-line .ensures)
+returns c =
+    let b = c .before .before in
+    next (next (next (next (b .before .before .from-line .ensures) (b .before .to-line .ensures)) (b .when-line .ensures)) (c .before .set-line .ensures))
+    (c .reset-line .ensures)
 
 pub read-edge-spec : {M : Type 1} → statement M
 read-edge-spec =

@@ -12,7 +12,9 @@ unfolding withGuard withEdge
 returns c = refl
 
 returns-2 : tie.Need-returns-2
-returns-2 c = guard-out (c .before .args .m) (c .before .args .e) (omega (arith, lengths (c .before .args .m) _ (c .before .good .0) .edges)) (c .before .args .atoms)
+returns-2 c =
+    let a = c .before .args in
+    guard-out (a .m) (a .e) (omega (arith, lengths (a .m) _ (c .before .good .0) .edges)) (a .atoms)
 
 pub with-guard-spec : {M : Type 1} → statement M
 with-guard-spec =

@@ -12,7 +12,9 @@ unfolding withResets withEdge
 returns c = refl
 
 returns-2 : tie.Need-returns-2
-returns-2 c = resets-out (c .before .args .m) (c .before .args .e) (omega (arith, lengths (c .before .args .m) _ (c .before .good .0) .edges)) (c .before .args .resets)
+returns-2 c =
+    let a = c .before .args in
+    resets-out (a .m) (a .e) (omega (arith, lengths (a .m) _ (c .before .good .0) .edges)) (a .resets)
 
 pub with-resets-spec : {M : Type 1} → statement M
 with-resets-spec =

@@ -12,7 +12,9 @@ unfolding withSource withEdge
 returns c = refl
 
 returns-2 : tie.Need-returns-2
-returns-2 c = source-out (c .before .args .m) (c .before .args .e) (omega (arith, lengths (c .before .args .m) _ (c .before .good .0) .edges)) (c .before .args .n)
+returns-2 c =
+    let a = c .before .args in
+    source-out (a .m) (a .e) (omega (arith, lengths (a .m) _ (c .before .good .0) .edges)) (a .n)
 
 pub with-source-spec : {M : Type 1} → statement M
 with-source-spec =

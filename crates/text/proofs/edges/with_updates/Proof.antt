@@ -12,7 +12,9 @@ unfolding withUpdates withEdge
 returns c = refl
 
 returns-2 : tie.Need-returns-2
-returns-2 c = updates-out (c .before .args .m) (c .before .args .e) (omega (arith, lengths (c .before .args .m) _ (c .before .good .0) .edges)) (c .before .args .updates)
+returns-2 c =
+    let a = c .before .args in
+    updates-out (a .m) (a .e) (omega (arith, lengths (a .m) _ (c .before .good .0) .edges)) (a .updates)
 
 pub with-updates-spec : {M : Type 1} → statement M
 with-updates-spec =

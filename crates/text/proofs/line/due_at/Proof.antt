@@ -5,13 +5,21 @@ use Rattle.text.proofs.line.due_at.Statement.{statement}
 use Rattle.text.proofs.line.due_at.Tie as tie
 
 returns : tie.Need-returns
-returns c = due-unended _ _ _ (c .before .find .result) (c .before .find .ensures .low) (c .before .find .ensures .high) (c .before .find .ensures .place) (c .if1 .taken)
+returns c =
+    let f = c .before .find .ensures in
+    due-unended _ _ _ _ (f .low) (f .high) (f .place) (c .if1 .taken)
 
 returns-2 : tie.Need-returns-2
-returns-2 c = due-found _ _ _ (c .before .before .before .before .find .result) (c .before .before .before .before .find .ensures .low) (c .before .before .before .before .find .ensures .high) (c .before .before .before .before .find .ensures .place) (c .before .before .before .if1 .left) (sym (c .before .starts-with .ensures) ∙ c .if2 .taken)
+returns-2 c =
+    let b = c .before .before .before in
+    let f = b .before .find .ensures in
+    due-found _ _ _ _ (f .low) (f .high) (f .place) (b .if1 .left) (sym (c .before .starts-with .ensures) ∙ c .if2 .taken)
 
 returns-3 : tie.Need-returns-3
-returns-3 c = due-other _ _ _ (c .before .before .before .before .find .result) (c .before .before .before .before .find .ensures .low) (c .before .before .before .before .find .ensures .high) (c .before .before .before .before .find .ensures .place) (c .before .before .before .if1 .left) (sym (c .before .starts-with .ensures) ∙ c .if2 .left)
+returns-3 c =
+    let b = c .before .before .before in
+    let f = b .before .find .ensures in
+    due-other _ _ _ _ (f .low) (f .high) (f .place) (b .if1 .left) (sym (c .before .starts-with .ensures) ∙ c .if2 .left)
 
 pub due-at-spec : {M : Type 1} → statement M
 due-at-spec =

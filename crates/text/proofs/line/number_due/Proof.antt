@@ -6,7 +6,13 @@ use Rattle.text.proofs.line.number_due.Statement.{statement}
 use Rattle.text.proofs.line.number_due.Tie as tie
 
 returns : tie.Need-returns
-returns c = record { due = c .before .before .before .before .due-at .ensures; faults-are = c .before .number-faults .ensures ∙ ap (numberFaults _ _) (c .before .before .number .ensures); value-is = c .byte-of .ensures ∙ ap byteIn (c .before .before .number .ensures) }
+returns c =
+    let n = c .before .before .number .ensures in
+    record {
+      due = c .before .before .before .before .due-at .ensures;
+      faults-are = c .before .number-faults .ensures ∙ ap (numberFaults _ _) n;
+      value-is = c .byte-of .ensures ∙ ap byteIn n;
+    }
 
 pub number-due-spec : {M : Type 1} → statement M
 number-due-spec =

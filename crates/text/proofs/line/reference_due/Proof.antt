@@ -6,7 +6,14 @@ use Rattle.text.proofs.line.reference_due.Statement.{statement}
 use Rattle.text.proofs.line.reference_due.Tie as tie
 
 returns : tie.Need-returns
-returns c = record { byte = search needs; due = c .before .before .before .before .due-at .ensures; faults-are = c .before .reference-faults .ensures ∙ ap (referenceFaults _) (c .before .before .number .ensures); value-is = c .byte-of .ensures ∙ ap byteIn (c .before .before .number .ensures) }
+returns c =
+    let n = c .before .before .number .ensures in
+    record {
+      byte = search needs;
+      due = c .before .before .before .before .due-at .ensures;
+      faults-are = c .before .reference-faults .ensures ∙ ap (referenceFaults _) n;
+      value-is = c .byte-of .ensures ∙ ap byteIn n;
+    }
 
 pub reference-due-spec : {M : Type 1} → statement M
 reference-due-spec =

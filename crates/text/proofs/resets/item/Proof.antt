@@ -8,7 +8,10 @@ use Rattle.text.proofs.resets.item.Tie as tie
 
 returns : tie.Need-returns
 unfolding resetOf
-returns c = rw (← c .before .before .before .before .byte .ensures, eq-eqb _ _ (c .before .before .before .if1 .taken)) (c .reset-named .ensures ∙ ap resetNamed (c .before .number .ensures ∙ ap numberOf (c .before .before .tail .ensures)))
+returns c =
+    let b = c .before .before .before in
+    let named = c .reset-named .ensures ∙ ap resetNamed (c .before .number .ensures ∙ ap numberOf (c .before .before .tail .ensures)) in
+    rw (← b .before .byte .ensures, eq-eqb _ _ (b .if1 .taken)) named
 
 returns-2 : tie.Need-returns-2
 unfolding resetOf

@@ -5,7 +5,17 @@ use Rattle.text.proofs.atoms.AtomsRead.absorb.Tie as tie
 
 returns : tie.Need-returns
 unfolding absorbed
-returns c = rw (c .next-count .ensures, c .before .push .ensures, c .before .before .stored .ensures, c .before .before .before .before .is-undeclared .ensures, c .before .before .before .before .before .before .is-outside .ensures, c .before .before .before .before .before .before .before .before .before .is-malformed .ensures)
+returns c =
+    let b = c .before .before .before .before in
+    let d = b .before .before in
+    rw (
+      c .next-count .ensures,
+      c .before .push .ensures,
+      c .before .before .stored .ensures,
+      b .is-undeclared .ensures,
+      d .is-outside .ensures,
+      d .before .before .before .is-malformed .ensures,
+    )
 
 pub absorb-spec : {M : Type 1} → statement M
 absorb-spec =

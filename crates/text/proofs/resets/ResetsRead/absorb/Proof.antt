@@ -5,7 +5,10 @@ use Rattle.text.proofs.resets.ResetsRead.absorb.Tie as tie
 
 returns : tie.Need-returns
 unfolding absorbed
-returns c = rw (c .put .ensures, c .before .update .ensures, c .before .before .before .before .before .is-undeclared .ensures, c .before .before .before .before .before .before .before .is-malformed .ensures, c .before .before .before .before .before .before .before .before .clock .ensures)
+returns c =
+    let b = c .before .before .before .before .before in
+    let d = b .before .before in
+    rw (c .put .ensures, c .before .update .ensures, b .is-undeclared .ensures, d .is-malformed .ensures, d .before .clock .ensures)
 
 pub absorb-spec : {M : Type 1} → statement M
 absorb-spec =

@@ -12,8 +12,9 @@ returns-2 c = rw (c .before .before .self .given .1, c .narrow .ensures)
 returns-3 : tie.Need-returns-3
 returns-3 c =
     let back : toZ w8 (ofZ w8 (c .before .offset .result)) ≡ c .before .offset .result = search needs in
-    let v = c .before .before .before .self2 .given .0 in
-    rw (c .before .before .before .self2 .given .1) (sum-stored (v .0) (v .1 .0) (v .1 .1 .0) (v .1 .1 .1 .0) (c .narrow2 .ensures) back (c .before .offset .ensures))
+    let s = c .before .before .before .self2 .given in
+    let v = s .0 in
+    rw (s .1) (sum-stored (v .0) (v .1 .0) (v .1 .1 .0) (v .1 .1 .1 .0) (c .narrow2 .ensures) back (c .before .offset .ensures))
 
 pub stored-spec : {M : Type 1} → statement M
 stored-spec =
