@@ -30,14 +30,16 @@ module _ (t : List ℕ) (r : Reading) {b : Bool} (is : b ≡ isNoFault (r .fault
   sound : (c : Bool) → b ≡ c → eqb (lineTold (r .fault)) 0 ≡ c
   sound c h = no-fault-number (r .fault) ∙ sym is ∙ h
 
-  pub ended-refused : b ≡ false → (o : ReadOutcome) → Outcome (r .fault) (r .line) o → {a : ReadAnswer} → a ≡ record { outcome = o; model = blankModel } → readTold a ≡ readEnded (progress t r)
+  pub ended-refused : b ≡ false → (o : ReadOutcome) → Outcome (r .fault) (r .line) o → {a : ReadAnswer} → a ≡ record { outcome = o; model = blankModel }
+      → readTold a ≡ readEnded (progress t r)
   unfolding readEnded
   ended-refused h o p e =
       let k : isNoFault (r .fault) ≡ false = sym is ∙ h in
       let line : cond (isNoFault (r .fault)) 0 (r .line) ≡ r .line = rw k in
       ap readTold e ∙ rw (sound false h) (λ i. record { number = p .number-is i; line = (p .line-is ∙ line) i; model = blankModel })
 
-  pub ended-left : b ≡ true → r .at < length t → {a : ReadAnswer} → a ≡ record { outcome = BytesLeft (r .line); model = blankModel } → readTold a ≡ readEnded (progress t r)
+  pub ended-left : b ≡ true → r .at < length t → {a : ReadAnswer} → a ≡ record { outcome = BytesLeft (r .line); model = blankModel }
+      → readTold a ≡ readEnded (progress t r)
   unfolding readEnded
   ended-left h l e = ap readTold e ∙ rw (sound true h, lt-ltb 0 (length (drop (r .at) t)) (omega (arith, length-drop (r .at) t)))
 

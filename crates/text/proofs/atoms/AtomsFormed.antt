@@ -21,7 +21,8 @@ use Rattle.text.specs.declared.atoms.RelationRead.{RelationRead}
 use Rattle.text.specs.declared.atoms.RelationRead.the-variants.{Absent, One, Two}
 use Rattle.text.specs.declared.atoms.AtomRead.{AtomRead}
 use Rattle.text.specs.declared.atoms.AtomRead.the-variants.{Malformed, ClockAtom, CounterAtom}
-use Rattle.text.specs.atoms.Atoms.{clockAtom, namedAtom, relatedAtom, valuedAtom, madeAtom, relationOf, width, afterName, atomOf, onClocks, itemOf, isMalformed, isOutside, isUndeclared, atomFaults, atomIn, slotOf, atomSlots, invItems, whenItems}
+use Rattle.text.specs.atoms.Atoms.{clockAtom, namedAtom, relatedAtom, valuedAtom, madeAtom, relationOf, width, afterName, atomOf, onClocks, itemOf}
+use Rattle.text.specs.atoms.Atoms.{isMalformed, isOutside, isUndeclared, atomFaults, atomIn, slotOf, atomSlots, invItems, whenItems}
 
 -- ---- no clock is compared by !=
 abbrev proper : AtomRead → Bool
@@ -91,12 +92,15 @@ blank-at (suc n) (suc k) = blank-at n k
 -- ---- lists of atoms that the items are
 module _ (clocks vars declared : ℕ) (item : List ℕ → AtomRead)
     (formed : (l : List ℕ) → isOutside (item l) ≡ false → isUndeclared clocks vars (item l) ≡ false → T (atomFormed clocks declared (atomIn (item l)))) where
-  each-formed : (l : List (List ℕ)) (n k : ℕ) → anyOf isOutside (map item l) ≡ false → anyOf (isUndeclared clocks vars) (map item l) ≡ false → T (atomFormed clocks declared (atomAt (map slotOf (map item l) ++ replicate n blankAtom) k))
+  each-formed : (l : List (List ℕ)) (n k : ℕ) → anyOf isOutside (map item l) ≡ false → anyOf (isUndeclared clocks vars) (map item l) ≡ false
+      → T (atomFormed clocks declared (atomAt (map slotOf (map item l) ++ replicate n blankAtom) k))
   each-formed [] n k o u = rw (blank-at n k) tt
   each-formed (p ∷ l) n zero o u = formed p (any-head isOutside (item p) (map item l) o) (any-head (isUndeclared clocks vars) (item p) (map item l) u)
-  each-formed (p ∷ l) n (suc k) o u = each-formed l n k (any-tail isOutside (item p) (map item l) o) (any-tail (isUndeclared clocks vars) (item p) (map item l) u)
+  each-formed (p ∷ l) n (suc k) o u =
+      each-formed l n k (any-tail isOutside (item p) (map item l) o) (any-tail (isUndeclared clocks vars) (item p) (map item l) u)
 
-no-gap : (l : List AtomRead) (n k : ℕ) → anyOf isMalformed l ≡ false → T (noGap (atomAt (map slotOf l ++ replicate n blankAtom) k) (atomAt (map slotOf l ++ replicate n blankAtom) (suc k)))
+no-gap : (l : List AtomRead) (n k : ℕ) → anyOf isMalformed l ≡ false
+    → T (noGap (atomAt (map slotOf l ++ replicate n blankAtom) k) (atomAt (map slotOf l ++ replicate n blankAtom) (suc k)))
 no-gap [] n k m = rw (blank-at n k, blank-at n (suc k)) tt
 no-gap (a ∷ l) n zero m = rw (filled-in a (any-head isMalformed a l m)) tt
 no-gap (a ∷ l) n (suc k) m = no-gap l n k (any-tail isMalformed a l m)
@@ -109,11 +113,14 @@ module _ (clocks vars declared : ℕ) (item : List ℕ → AtomRead)
       let g = passed (atomFaults clocks vars (map item l)) h in
       let slots = map slotOf (map item l) ++ replicate (4 - length (map item l)) blankAtom in
       and-T (eachFormed clocks declared slots) (filledFromFirst slots) .1 (
-        all-below (λ k. atomFormed clocks declared (atomAt slots k)) 4 .1 (λ k p. each-formed clocks vars declared item formed l (4 - length (map item l)) k (g .inside) (g .declared)),
-        all-below (λ k. noGap (atomAt slots k) (atomAt slots (k + 1))) 3 .1 (λ k p. rw (add-one k) (no-gap (map item l) (4 - length (map item l)) k (g .well-formed))),
+        all-below (λ k. atomFormed clocks declared (atomAt slots k)) 4 .1
+            (λ k p. each-formed clocks vars declared item formed l (4 - length (map item l)) k (g .inside) (g .declared)),
+        all-below (λ k. noGap (atomAt slots k) (atomAt slots (k + 1))) 3 .1
+            (λ k p. rw (add-one k) (no-gap (map item l) (4 - length (map item l)) k (g .well-formed))),
       )
 
-pub when-formed : (clocks vars : ℕ) (v : List ℕ) → faultNumber (atomFaults clocks vars (whenItems v)) ≡ 0 → T (atomsFormed clocks vars (atomSlots (whenItems v)))
+pub when-formed :
+    (clocks vars : ℕ) (v : List ℕ) → faultNumber (atomFaults clocks vars (whenItems v)) ≡ 0 → T (atomsFormed clocks vars (atomSlots (whenItems v)))
 unfolding whenItems
 when-formed clocks vars v = slots-formed clocks vars vars (itemOf true) (λ l. atom-formed clocks vars (atomOf l) (atom-proper l)) (itemsOf v)
 

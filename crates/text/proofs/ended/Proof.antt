@@ -13,7 +13,8 @@ returns c =
 returns-2 : tie.Need-returns-2
 returns-2 c =
     let b = c .before .before .before .before in
-    ended-left _ (b .before .before .args .r) (b .is-none .ensures) (not-false _ (c .before .before .before .if1 .left)) (c .before .if2 .taken) (c .refused2 .ensures)
+    ended-left _ (b .before .before .args .r) (b .is-none .ensures) (not-false _ (c .before .before .before .if1 .left)) (c .before .if2 .taken)
+    (c .refused2 .ensures)
 
 returns-3 : tie.Need-returns-3
 returns-3 c =

@@ -2,7 +2,7 @@
 use Prim.Native.Nat.{ℕ, zero, suc, _+_, _-_, _≤_, _<_}
 use mathlib.Core.Path.{_≡_, refl, sym, ap, _∙_}
 use mathlib.Core.List.{List, [], _∷_}
-use mathlib.Core.Bool.{Bool, true, false, cond, _&&_, _||_, false≢true}
+use mathlib.Core.Bool.{Bool, true, false, cond, _&&_, false≢true}
 use native.Mathlib.Omega.{arith}
 use native.Mathlib.Nat.{zero-add}
 use lib.ListN.{length, take, drop, length-take, length-drop}
@@ -76,7 +76,8 @@ module _ (key t : List ℕ) (at : ℕ) (d : Due) (is : d ≡ dueAt key t at) whe
   unfolding dueAt
   found-is = ap (λ (x : Due). x .found) is ∙ go (isDue key (drop at t))
     where
-      go : (b : Bool) → cond {A = Due} b (record { found = true; start = at + length key; end = at + firstAt 10 (drop at t) }) (record { found = false; start = at; end = at }) .found ≡ b
+      go : (b : Bool) → cond {A = Due} b (record { found = true; start = at + length key; end = at + firstAt 10 (drop at t) })
+          (record { found = false; start = at; end = at }) .found ≡ b
       go true = refl
       go false = refl
 
@@ -125,8 +126,10 @@ reference-declared declared n h = go n (passed (referenceFaults declared n) h .w
 pub counter-inside : (g i : NumberRead) → faultNumber (counterFaults g i) ≡ 0 → (numberIn g ≤ 31) × (numberIn i ≤ numberIn g)
 unfolding counterFaults
 counter-inside g i h =
-    let o = passed (counterFaults g i) h .inside in
-    (ltb-false 31 (numberIn g) (or-left (ltb 31 (numberIn g)) (ltb (numberIn g) (numberIn i)) o), ltb-false (numberIn g) (numberIn i) (or-right (ltb 31 (numberIn g)) (ltb (numberIn g) (numberIn i)) o))
+    let o = passed (counterFaults g i) h .inside in (
+      ltb-false 31 (numberIn g) (or-left (ltb 31 (numberIn g)) (ltb (numberIn g) (numberIn i)) o),
+      ltb-false (numberIn g) (numberIn i) (or-right (ltb 31 (numberIn g)) (ltb (numberIn g) (numberIn i)) o),
+    )
 
 pub number-fits : (least greatest : ℕ) (n : NumberRead) → greatest < 256 → faultNumber (numberFaults least greatest n) ≡ 0 → byteIn n ≡ numberIn n
 number-fits least greatest n l h = narrowed-is n (omega (arith, number-inside least greatest n h .1))

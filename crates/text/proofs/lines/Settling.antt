@@ -41,7 +41,8 @@ unfolding lineNumber
 no-fault true f h = (refl, eqb-true (faultNumber f) 0 h)
 no-fault false f h = absurd (false≢true h)
 
-module _ (key : List ℕ) (faults : Model → List ℕ → Faults) (store : Model → List ℕ → Model) (q : Reading) {t : List ℕ} {r : Reading} {d : Due} {f : Faults} {m : Model}
+module _ (key : List ℕ) (faults : Model → List ℕ → Faults) (store : Model → List ℕ → Model) (q : Reading) {t : List ℕ} {r : Reading} {d : Due} {f : Faults}
+    {m : Model}
     (p : Placed t r) (due : DueLine key t (r .at) d) (fs : f ≡ faults (r .model) (valueIn t d)) (ms : faultNumber f ≡ 0 → m ≡ store (r .model) (valueIn t d))
     (e : told q ≡ settled (told r) d f m) where
   abbrev value : List ℕ
@@ -69,7 +70,8 @@ module _ (key : List ℕ) (faults : Model → List ℕ → Faults) (store : Mode
   settle-is = ap (progressAt t) e ∙ go (eqb (lineTold (r .fault)) 0)
     where
       one : (b : Bool) → eqb number 0 ≡ b
-          → progressAt t (cond b (readTo r d m) (refusedAt r number)) ≡ cond b (advanced (store (r .model) value) (progress t r)) (refused number (progress t r))
+          → progressAt t (cond b (readTo r d m) (refusedAt r number))
+          ≡ cond b (advanced (store (r .model) value) (progress t r)) (refused number (progress t r))
       one true h = read h
       one false h = refl
 
@@ -124,8 +126,7 @@ module _ (r : Reading) (d : Due) (f : Faults) (m : Model) {b : Bool} (is : b ≡
     unfolding lineNumber
     told-number = rw g (sym first)
 
-    pub settle-refused : c ≡ false → {q : Reading} → q ≡ record { fault = k; line = r .line; at = r .at; model = r .model }
-        → told q ≡ settled (told r) d f m
+    pub settle-refused : c ≡ false → {q : Reading} → q ≡ record { fault = k; line = r .line; at = r .at; model = r .model } → told q ≡ settled (told r) d f m
     unfolding settled
     settle-refused n e = ap told e ∙ rw (sound h, fault ∙ n, told-number)
 

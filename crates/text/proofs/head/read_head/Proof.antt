@@ -8,7 +8,8 @@ returns : tie.Need-returns
 unfolding readHead
 returns c =
     let b = c .before .before in
-    next (next (next (next (b .before .before .locations-line .ensures) (b .before .init-line .ensures)) (b .target-line .ensures)) (c .before .clocks-line .ensures))
+    next (next (next (next (b .before .before .locations-line .ensures) (b .before .init-line .ensures)) (b .target-line .ensures))
+    (c .before .clocks-line .ensures))
     (c .vars-line .ensures)
 
 pub read-head-spec : {M : Type 1} → statement M

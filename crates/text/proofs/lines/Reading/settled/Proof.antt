@@ -3,11 +3,6 @@ use Rattle.text.proofs.lines.Settling.{settle-stays, settle-other, sett
 use borrow.Author.Needs.{needs}
 use Rattle.text.proofs.lines.Reading.settled.Statement.{statement}
 use Rattle.text.proofs.lines.Reading.settled.Tie as tie
-use Rattle.text.proofs.lines.Reading.settled.Reads as reads
-use Rattle.text.proofs.lines.Reading.settled.Lts as lts
-use Rattle.text.proofs.lines.Reading.refused.Reads as refused-reads
-use Rattle.text.proofs.bytes.Faults.first.Reads as first-reads
-use Rattle.text.proofs.bytes.LineFault.is_none.Reads as is-none-reads
 
 returns : tie.Need-returns
 returns c =
