@@ -1,3 +1,4 @@
+-- `ended`: refused in a line, bytes left, or read, as `readEnded` asks in this order.
 use Rattle.text.proofs.Ends.{ended-refused, ended-left, ended-read}
 use borrow.Author.Tests.{not-true, not-false}
 use borrow.Author.Needs.{needs}
@@ -24,11 +25,4 @@ returns-3 c =
 pub ended-spec : {M : Type 1} → statement M
 ended-spec =
     tie.close
-    (tie.spec
-    (search needs)
-    (search needs)
-    (search needs)
-    returns
-    (search needs)
-    returns-2
-    returns-3)
+    (tie.spec (search needs) (search needs) (search needs) returns (search needs) returns-2 returns-3)

@@ -1,3 +1,4 @@
+-- `read_bound`: the due line at the start, and its value read as a number (`bound-other`, `bound-found`).
 use Rattle.text.proofs.Ends.{bound-other, bound-found}
 use borrow.Author.Tests.{not-true, not-false}
 use borrow.Author.Needs.{needs}
@@ -16,14 +17,5 @@ returns-2 c =
 pub read-bound-spec : {M : Type 1} → statement M
 read-bound-spec =
     tie.close
-    (tie.spec
-    (search needs)
-    (search needs)
-    returns
-    (search needs)
-    (search needs)
-    (search needs)
-    (search needs)
-    (search needs)
-    (search needs)
-    returns-2)
+    (tie.spec (search needs) (search needs) returns (search needs) (search needs) (search needs)
+    (search needs) (search needs) (search needs) returns-2)

@@ -1,3 +1,4 @@
+-- `atom`: the parts are taken in turn, each by its call, and make the atom (`atom-parts`).
 use Rattle.text.proofs.atoms.Parts.{atom-parts}
 use borrow.Author.Needs.{needs}
 use Rattle.text.proofs.atoms.atom.Statement.{statement}
@@ -15,18 +16,6 @@ returns c =
 pub atom-spec : {M : Type 1} → statement M
 atom-spec =
     tie.close
-    (tie.spec
-    (search needs)
-    (search needs)
-    (search needs)
-    (search needs)
-    (search needs)
-    (search needs)
-    (search needs)
-    (search needs)
-    (search needs)
-    (search needs)
-    (search needs)
-    (search needs)
-    (search needs)
+    (tie.spec (search needs) (search needs) (search needs) (search needs) (search needs) (search needs)
+    (search needs) (search needs) (search needs) (search needs) (search needs) (search needs) (search needs)
     returns)

@@ -1,3 +1,4 @@
+-- `relation`: every path through the tests of the two bytes decides the definition on that path.
 use Rattle.text.specs.atoms.Atoms.{relationAt}
 use borrow.Author.Tests.{eq-eqb, ne-eqb}
 use Rattle.text.proofs.atoms.relation.Statement.{statement}

@@ -1,3 +1,4 @@
+-- `find`: the invariant is that the first byte from the start is the first one from here.
 use Prim.Native.Nat.{_+_, _-_, _≤_}
 use mathlib.Core.Path.{_≡_}
 use native.Mathlib.Omega.{arith}
@@ -32,13 +33,5 @@ returns-2 c = let a = c .before .before .args in omega (arith, firstAt-end (a .b
 pub find-spec : {M : Type 1} → statement M
 find-spec =
     tie.close
-    (tie.spec
-    Inv-loop
-    μ-loop
-    (search needs)
-    (search needs)
-    returns
-    (search needs)
-    (search needs)
-    loop-again
+    (tie.spec Inv-loop μ-loop (search needs) (search needs) returns (search needs) (search needs) loop-again
     returns-2)

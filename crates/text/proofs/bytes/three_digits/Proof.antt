@@ -1,3 +1,4 @@
+-- `three_digits`: what the calls ensure is what the definition asks of three bytes.
 use Rattle.text.specs.bytes.Bytes.{numberOf}
 use borrow.Author.Needs.{needs}
 use Rattle.text.proofs.bytes.three_digits.Statement.{statement}
@@ -21,16 +22,5 @@ returns c =
 pub three-digits-spec : {M : Type 1} → statement M
 three-digits-spec =
     tie.close
-    (tie.spec
-    (search needs)
-    (search needs)
-    (search needs)
-    (search needs)
-    (search needs)
-    (search needs)
-    (search needs)
-    (search needs)
-    (search needs)
-    (search needs)
-    (search needs)
-    returns)
+    (tie.spec (search needs) (search needs) (search needs) (search needs) (search needs) (search needs)
+    (search needs) (search needs) (search needs) (search needs) (search needs) returns)

@@ -1,3 +1,4 @@
+-- `two_digits`: what the calls ensure is what the definition asks of two bytes.
 use Rattle.text.specs.bytes.Bytes.{numberOf}
 use borrow.Author.Needs.{needs}
 use Rattle.text.proofs.bytes.two_digits.Statement.{statement}
@@ -12,12 +13,5 @@ returns c =
 pub two-digits-spec : {M : Type 1} → statement M
 two-digits-spec =
     tie.close
-    (tie.spec
-    (search needs)
-    (search needs)
-    (search needs)
-    (search needs)
-    (search needs)
-    (search needs)
-    (search needs)
-    returns)
+    (tie.spec (search needs) (search needs) (search needs) (search needs) (search needs) (search needs)
+    (search needs) returns)

@@ -1,3 +1,4 @@
+-- `read_edge`: the five lines of an edge, one step after the other.
 use Rattle.text.proofs.lines.Turns.{next}
 use Rattle.text.specs.lines.Sequence.{readEdge}
 use borrow.Author.Needs.{needs}
@@ -14,10 +15,4 @@ returns c =
 pub read-edge-spec : {M : Type 1} → statement M
 read-edge-spec =
     tie.close
-    (tie.spec
-    (search needs)
-    (search needs)
-    (search needs)
-    (search needs)
-    (search needs)
-    returns)
+    (tie.spec (search needs) (search needs) (search needs) (search needs) (search needs) returns)

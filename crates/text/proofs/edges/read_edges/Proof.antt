@@ -29,13 +29,5 @@ returns c = turn-all (c .before .loop .inv) (c .loop-test .left)
 pub read-edges-spec : {M : Type 1} → statement M
 read-edges-spec =
     tie.close
-    (tie.spec
-    Inv-loop
-    μ-loop
-    (search needs)
-    loop-holds
-    read-edge-requires
-    (search needs)
-    (search needs)
-    loop-again
-    returns)
+    (tie.spec Inv-loop μ-loop (search needs) loop-holds read-edge-requires (search needs) (search needs)
+    loop-again returns)

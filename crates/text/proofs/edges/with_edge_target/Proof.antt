@@ -1,3 +1,4 @@
+-- `with_edge_target`: the slot is set, or is not there (`target-out`).
 use Rattle.text.proofs.lines.Stores.{target-out}
 use Rattle.text.specs.lines.Store.{withEdgeTarget, withEdge}
 use Rattle.model.proofs.Known.{lengths}

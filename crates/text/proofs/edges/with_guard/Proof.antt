@@ -1,3 +1,4 @@
+-- `with_guard`: the slot is set, or is not there (`guard-out`).
 use Rattle.text.proofs.lines.Stores.{guard-out}
 use Rattle.text.specs.lines.Store.{withGuard, withEdge}
 use Rattle.model.proofs.Known.{lengths}

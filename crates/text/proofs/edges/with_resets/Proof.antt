@@ -1,3 +1,4 @@
+-- `with_resets`: the slot is set, or is not there (`resets-out`).
 use Rattle.text.proofs.lines.Stores.{resets-out}
 use Rattle.text.specs.lines.Store.{withResets, withEdge}
 use Rattle.model.proofs.Known.{lengths}

@@ -1,3 +1,4 @@
+-- `with_source`: the slot is set, or is not there (`source-out`).
 use Rattle.text.proofs.lines.Stores.{source-out}
 use Rattle.text.specs.lines.Store.{withSource, withEdge}
 use Rattle.model.proofs.Known.{lengths}

@@ -1,3 +1,4 @@
+-- `with_updates`: the slot is set, or is not there (`updates-out`).
 use Rattle.text.proofs.lines.Stores.{updates-out}
 use Rattle.text.specs.lines.Store.{withUpdates, withEdge}
 use Rattle.model.proofs.Known.{lengths}

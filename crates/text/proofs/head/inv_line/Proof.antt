@@ -17,4 +17,6 @@ returns c =
 
 pub inv-line-spec : {M : Type 1} → statement M
 inv-line-spec =
-    tie.close (tie.spec (search needs) (search needs) (search needs) (search needs) (search needs) (search needs) (search needs) (search needs) returns)
+    tie.close
+    (tie.spec (search needs) (search needs) (search needs) (search needs) (search needs) (search needs)
+    (search needs) (search needs) returns)

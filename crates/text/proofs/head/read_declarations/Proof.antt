@@ -1,3 +1,4 @@
+-- `read_declarations`: the lines up to the edges, one step after the other.
 use Rattle.text.proofs.lines.Turns.{next}
 use borrow.Author.Needs.{needs}
 use Rattle.text.proofs.head.read_declarations.Statement.{statement}
@@ -11,9 +12,4 @@ returns c =
 pub read-declarations-spec : {M : Type 1} → statement M
 read-declarations-spec =
     tie.close
-    (tie.spec
-    (search needs)
-    (search needs)
-    (search needs)
-    (search needs)
-    returns)
+    (tie.spec (search needs) (search needs) (search needs) (search needs) returns)

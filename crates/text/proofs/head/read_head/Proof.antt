@@ -1,3 +1,4 @@
+-- `read_head`: the first five lines, one step after the other.
 use Rattle.text.proofs.lines.Turns.{next}
 use Rattle.text.specs.lines.Sequence.{readHead}
 use borrow.Author.Needs.{needs}
@@ -15,10 +16,4 @@ returns c =
 pub read-head-spec : {M : Type 1} → statement M
 read-head-spec =
     tie.close
-    (tie.spec
-    (search needs)
-    (search needs)
-    (search needs)
-    (search needs)
-    (search needs)
-    returns)
+    (tie.spec (search needs) (search needs) (search needs) (search needs) (search needs) returns)

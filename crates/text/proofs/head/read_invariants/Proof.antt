@@ -30,13 +30,5 @@ returns c = turn-all (c .before .loop .inv) (c .loop-test .left)
 pub read-invariants-spec : {M : Type 1} → statement M
 read-invariants-spec =
     tie.close
-    (tie.spec
-    Inv-loop
-    μ-loop
-    (search needs)
-    loop-holds
-    inv-line-requires
-    (search needs)
-    (search needs)
-    loop-again
-    returns)
+    (tie.spec Inv-loop μ-loop (search needs) loop-holds inv-line-requires (search needs) (search needs)
+    loop-again returns)

@@ -1,3 +1,4 @@
+-- `with_counter`: the slot is set, or is not there (`counter-out`).
 use mathlib.Core.Path.{refl}
 use Rattle.text.proofs.lines.Stores.{counter-out}
 use Rattle.text.specs.lines.Store.{withCounter}

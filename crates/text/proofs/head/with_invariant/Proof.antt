@@ -1,3 +1,4 @@
+-- `with_invariant`: the slot is set, or is not there (`invariant-out`).
 use mathlib.Core.Path.{refl}
 use Rattle.text.proofs.lines.Stores.{invariant-out}
 use Rattle.text.specs.lines.Store.{withInvariant}

@@ -1,3 +1,4 @@
+-- `counter_due`: the value is parted at its first comma, and both parts are read as numbers.
 use Rattle.text.specs.bytes.Bytes.{byteIn}
 use Rattle.text.proofs.line.DueLaws.{before-comma, after-comma}
 use Rattle.text.specs.line.DueLines.{valueIn}
@@ -26,18 +27,6 @@ returns c =
 pub counter-due-spec : {M : Type 1} → statement M
 counter-due-spec =
     tie.close
-    (tie.spec
-    (search needs)
-    (search needs)
-    (search needs)
-    (search needs)
-    (search needs)
-    (search needs)
-    (search needs)
-    (search needs)
-    (search needs)
-    (search needs)
-    (search needs)
-    (search needs)
-    (search needs)
+    (tie.spec (search needs) (search needs) (search needs) (search needs) (search needs) (search needs)
+    (search needs) (search needs) (search needs) (search needs) (search needs) (search needs) (search needs)
     returns)

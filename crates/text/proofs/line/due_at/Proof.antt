@@ -1,3 +1,4 @@
+-- `due_at`: no LF, another key, or the due line; `find` gives the end of the line.
 use Rattle.text.proofs.line.DueLaws.{due-unended, due-other, due-found}
 use mathlib.Core.Path.{_∙_, sym}
 use borrow.Author.Needs.{needs}
@@ -24,13 +25,5 @@ returns-3 c =
 pub due-at-spec : {M : Type 1} → statement M
 due-at-spec =
     tie.close
-    (tie.spec
-    (search needs)
-    returns
-    (search needs)
-    (search needs)
-    (search needs)
-    (search needs)
-    (search needs)
-    returns-2
-    returns-3)
+    (tie.spec (search needs) returns (search needs) (search needs) (search needs) (search needs)
+    (search needs) returns-2 returns-3)

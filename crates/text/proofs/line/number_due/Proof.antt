@@ -1,3 +1,4 @@
+-- `number_due`: the value of the due line, read as a number.
 use Rattle.text.specs.bytes.Bytes.{byteIn}
 use Rattle.text.specs.line.Values.{numberFaults}
 use mathlib.Core.Path.{_∙_, ap}
@@ -17,12 +18,5 @@ returns c =
 pub number-due-spec : {M : Type 1} → statement M
 number-due-spec =
     tie.close
-    (tie.spec
-    (search needs)
-    (search needs)
-    (search needs)
-    (search needs)
-    (search needs)
-    (search needs)
-    (search needs)
-    returns)
+    (tie.spec (search needs) (search needs) (search needs) (search needs) (search needs) (search needs)
+    (search needs) returns)

@@ -1,3 +1,4 @@
+-- `reference_due`: the value of the due line, read as a number; `declared` is a byte.
 use Rattle.text.specs.bytes.Bytes.{byteIn}
 use Rattle.text.specs.line.Values.{referenceFaults}
 use mathlib.Core.Path.{_∙_, ap}
@@ -18,12 +19,5 @@ returns c =
 pub reference-due-spec : {M : Type 1} → statement M
 reference-due-spec =
     tie.close
-    (tie.spec
-    (search needs)
-    (search needs)
-    (search needs)
-    (search needs)
-    (search needs)
-    (search needs)
-    (search needs)
-    returns)
+    (tie.spec (search needs) (search needs) (search needs) (search needs) (search needs) (search needs)
+    (search needs) returns)

@@ -1,3 +1,4 @@
+-- `starts_with`: the invariant is that the rest of the key begins the rest of the bytes if and only if the whole does.
 use Prim.Native.Nat.{_-_, _≤_}
 use mathlib.Core.Path.{_≡_, sym, _∙_}
 use lib.ListN.{length, drop}
@@ -33,15 +34,5 @@ returns-3 c = sym (startsWith-done _ _ _ (c .loop-test .left)) ∙ c .before .lo
 pub starts-with-spec : {M : Type 1} → statement M
 starts-with-spec =
     tie.close
-    (tie.spec
-    Inv-loop
-    μ-loop
-    (search needs)
-    returns
-    (search needs)
-    (search needs)
-    returns-2
-    (search needs)
-    (search needs)
-    loop-again
-    returns-3)
+    (tie.spec Inv-loop μ-loop (search needs) returns (search needs) (search needs) returns-2 (search needs)
+    (search needs) loop-again returns-3)

@@ -1,3 +1,4 @@
+-- `item`: the first byte is x, and a number follows; or the item is malformed.
 use Rattle.text.specs.resets.Resets.{resetNamed, resetOf}
 use Rattle.text.specs.bytes.Bytes.{numberOf}
 use borrow.Author.Tests.{eq-eqb, ne-eqb}
@@ -18,6 +19,4 @@ unfolding resetOf
 returns-2 c = rw (← c .before .byte .ensures, ne-eqb _ _ (c .if1 .left))
 
 pub item-spec : {M : Type 1} → statement M
-item-spec =
-    tie.close
-    (tie.spec (search needs) (search needs) (search needs) (search needs) returns returns-2)
+item-spec = tie.close (tie.spec (search needs) (search needs) (search needs) (search needs) returns returns-2)

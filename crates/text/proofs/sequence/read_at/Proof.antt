@@ -1,3 +1,4 @@
+-- `read_at`: from nothing read, the declarations and then the edges (`read-from`); a place past the end is the end.
 use Rattle.text.proofs.sequence.Start.{unread-placed, read-from}
 use borrow.Author.Needs.{needs}
 use Rattle.text.proofs.sequence.read_at.Statement.{statement}
@@ -18,9 +19,4 @@ returns c =
 pub read-at-spec : {M : Type 1} → statement M
 read-at-spec =
     tie.close
-    (tie.spec
-    (search needs)
-    (search needs)
-    read-declarations-requires
-    (search needs)
-    returns)
+    (tie.spec (search needs) (search needs) read-declarations-requires (search needs) returns)

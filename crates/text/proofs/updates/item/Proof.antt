@@ -1,3 +1,4 @@
+-- `item`: the parts are taken in turn, each by its call, and make the item, or it is malformed (`set-parts`, `set-other`).
 use Rattle.text.proofs.updates.Parts.{set-parts, set-other}
 use borrow.Author.Needs.{needs}
 use Rattle.text.proofs.updates.item.Statement.{statement}
@@ -20,15 +21,5 @@ returns-2 c =
 pub item-spec : {M : Type 1} → statement M
 item-spec =
     tie.close
-    (tie.spec
-    (search needs)
-    (search needs)
-    (search needs)
-    (search needs)
-    (search needs)
-    (search needs)
-    (search needs)
-    (search needs)
-    (search needs)
-    returns
-    returns-2)
+    (tie.spec (search needs) (search needs) (search needs) (search needs) (search needs) (search needs)
+    (search needs) (search needs) (search needs) returns returns-2)

@@ -1,3 +1,4 @@
+-- `set_to`: the first byte is v, or the whole is a number.
 use Rattle.text.specs.updates.Sets.{setTo, madeConstant}
 use borrow.Author.Tests.{eq-eqb, ne-eqb}
 use mathlib.Core.Path.{_∙_, ap}

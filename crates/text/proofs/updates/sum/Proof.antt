@@ -1,3 +1,4 @@
+-- `sum`: the parts are taken in turn, each by its call, and make the sum (`sum-parts`).
 use Rattle.text.proofs.updates.Parts.{sum-parts}
 use borrow.Author.Needs.{needs}
 use Rattle.text.proofs.updates.sum.Statement.{statement}
@@ -13,14 +14,5 @@ returns c =
 pub sum-spec : {M : Type 1} → statement M
 sum-spec =
     tie.close
-    (tie.spec
-    (search needs)
-    (search needs)
-    (search needs)
-    (search needs)
-    (search needs)
-    (search needs)
-    (search needs)
-    (search needs)
-    (search needs)
-    returns)
+    (tie.spec (search needs) (search needs) (search needs) (search needs) (search needs) (search needs)
+    (search needs) (search needs) (search needs) returns)

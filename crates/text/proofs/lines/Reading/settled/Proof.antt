@@ -1,3 +1,4 @@
+-- `settled`: refused before, not the due line, a fault in its value, or read, as the definition asks in this order.
 use borrow.Author.Tests.{not-true, not-false}
 use Rattle.text.proofs.lines.Settling.{settle-stays, settle-other, settle-refused, settle-read}
 use borrow.Author.Needs.{needs}
@@ -35,15 +36,5 @@ returns-4 c =
 pub settled-spec : {M : Type 1} → statement M
 settled-spec =
     tie.close
-    (tie.spec
-    (search needs)
-    returns
-    (search needs)
-    returns-2
-    (search needs)
-    (search needs)
-    (search needs)
-    returns-3
-    (search needs)
-    (search needs)
-    returns-4)
+    (tie.spec (search needs) returns (search needs) returns-2 (search needs) (search needs) (search needs)
+    returns-3 (search needs) (search needs) returns-4)

@@ -1,3 +1,4 @@
+-- `absorb`: field by field what each call ensures is the field of `absorbed`.
 use Rattle.text.specs.resets.OnePass.{absorbed}
 use borrow.Author.Needs.{needs}
 use Rattle.text.proofs.resets.ResetsRead.absorb.Statement.{statement}
@@ -13,13 +14,5 @@ returns c =
 pub absorb-spec : {M : Type 1} → statement M
 absorb-spec =
     tie.close
-    (tie.spec
-    (search needs)
-    (search needs)
-    (search needs)
-    (search needs)
-    (search needs)
-    (search needs)
-    (search needs)
-    (search needs)
-    returns)
+    (tie.spec (search needs) (search needs) (search needs) (search needs) (search needs) (search needs)
+    (search needs) (search needs) returns)

@@ -1,3 +1,4 @@
+-- `stored`: case by case; numbers are narrowed to bytes, and the offset is a signed byte that reads back as itself.
 use Rattle.text.proofs.updates.Signed.{sum-stored}
 use mir.Syntax.{w8}
 use mir.Val.{toZ, ofZ}
@@ -19,13 +20,5 @@ returns-3 c =
 pub stored-spec : {M : Type 1} → statement M
 stored-spec =
     tie.close
-    (tie.spec
-    (search needs)
-    (search needs)
-    (search needs)
-    (search needs)
-    (search needs)
-    (search needs)
-    (λ c. search needs)
-    returns-2
-    returns-3)
+    (tie.spec (search needs) (search needs) (search needs) (search needs) (search needs) (search needs)
+    (λ c. search needs) returns-2 returns-3)
