@@ -21,29 +21,31 @@ use Rattle.text.specs.atoms.OnePass.{storedAtom, pushed, absorbed, noAto
 
 -- ---- the flags
 module _ (clocks vars : ℕ) where
-  crowded : (l : List AtomRead) (s : AtomsRead) → s .count ≤ 4
-      → foldl (absorbed clocks vars) s l .faults .crowded ≡ (s .faults .crowded || ltb 4 (s .count + length l))
+  abbrev step : AtomsRead → AtomRead → AtomsRead
+  step = absorbed clocks vars
+
+  abbrev Crowded : List AtomRead → AtomsRead → Type 0
+  Crowded l s = foldl step s l .faults .crowded ≡ (s .faults .crowded || ltb 4 (s .count + length l))
+
+  crowded : (l : List AtomRead) (s : AtomsRead) → s .count ≤ 4 → Crowded l s
   unfolding absorbed
   crowded [] s h = rw (le-ltb 4 (s .count + 0) (omega arith)) (sym (or-false (s .faults .crowded)))
-  crowded (a ∷ l) s h = go (leb 4 (s .count)) refl (crowded l (absorbed clocks vars s a))
+  crowded (a ∷ l) s h = go (leb 4 (s .count)) refl (crowded l (step s a))
     where
-      go : (b : Bool) → leb 4 (s .count) ≡ b
-          → (absorbed clocks vars s a .count ≤ 4 → foldl (absorbed clocks vars) (absorbed clocks vars s a) l .faults .crowded
-          ≡ (absorbed clocks vars s a .faults .crowded || ltb 4 (absorbed clocks vars s a .count + length l)))
-          → foldl (absorbed clocks vars) (absorbed clocks vars s a) l .faults .crowded ≡ (s .faults .crowded || ltb 4 (s .count + suc (length l)))
+      go : (b : Bool) → leb 4 (s .count) ≡ b → (step s a .count ≤ 4 → Crowded l (step s a)) → Crowded (a ∷ l) s
       go true e f =
-          f (rw (le-ltb (s .count) 4 (leb-true 4 (s .count) e)) h)
-          ∙ rw (e, or-true (s .faults .crowded), lt-ltb 4 (s .count + suc (length l)) (omega (arith, leb-true 4 (s .count) e)), or-true (s .faults .crowded))
+          let full : 4 ≤ s .count = leb-true 4 (s .count) e in
+          f (rw (le-ltb (s .count) 4 full) h)
+          ∙ rw (e, or-true (s .faults .crowded), lt-ltb 4 (s .count + suc (length l)) (omega arith), or-true (s .faults .crowded))
       go false e f =
-          let q : s .count < 4 = leb-false 4 (s .count) e in
+          let room : s .count < 4 = leb-false 4 (s .count) e in
           let n : s .count + 1 + length l ≡ s .count + suc (length l) = omega arith in
-          f (rw (lt-ltb (s .count) 4 q) (omega arith))
-          ∙ rw (e, lt-ltb (s .count) 4 q, or-false (s .faults .crowded), n)
+          f (rw (lt-ltb (s .count) 4 room) (omega arith))
+          ∙ rw (e, lt-ltb (s .count) 4 room, or-false (s .faults .crowded), n)
 
   faults-are : (items : List AtomRead) → foldl (absorbed clocks vars) noAtoms items .faults ≡ atomFaults clocks vars items
   unfolding atomFaults noAtoms absorbed
   faults-are items =
-      let step = absorbed clocks vars in
       same-faults (foldl step noAtoms items .faults)
       (flag step (λ s. s .faults .malformed) isMalformed (λ s a. refl) items noAtoms)
       (crowded items noAtoms (omega arith) ∙ ap (ltb 4) (zero-add (length items)))

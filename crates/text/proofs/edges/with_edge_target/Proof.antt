@@ -1,5 +1,5 @@
--- `with_edge_target`: the slot is set, or is not there (`target-out`).
-use Rattle.text.proofs.lines.Stores.{target-out}
+-- `with_edge_target`: the slot is set, or is not there (`edge-out`).
+use Rattle.text.proofs.lines.Stores.{edge-out}
 use Rattle.text.specs.lines.Store.{withEdgeTarget, withEdge}
 use Rattle.model.proofs.Known.{lengths}
 use mathlib.Core.Path.{refl}
@@ -13,9 +13,10 @@ unfolding withEdgeTarget withEdge
 returns c = refl
 
 returns-2 : tie.Need-returns-2
+unfolding withEdgeTarget
 returns-2 c =
     let a = c .before .args in
-    target-out (a .m) (a .e) (omega (arith, lengths (a .m) _ (c .before .good .0) .edges)) (a .n)
+    edge-out (a .m) (a .e) _ (omega (arith, lengths (a .m) _ (c .before .good .0) .edges))
 
 pub with-edge-target-spec : {M : Type 1} → statement M
 with-edge-target-spec =

@@ -1,5 +1,5 @@
--- `with_guard`: the slot is set, or is not there (`guard-out`).
-use Rattle.text.proofs.lines.Stores.{guard-out}
+-- `with_guard`: the slot is set, or is not there (`edge-out`).
+use Rattle.text.proofs.lines.Stores.{edge-out}
 use Rattle.text.specs.lines.Store.{withGuard, withEdge}
 use Rattle.model.proofs.Known.{lengths}
 use mathlib.Core.Path.{refl}
@@ -13,9 +13,10 @@ unfolding withGuard withEdge
 returns c = refl
 
 returns-2 : tie.Need-returns-2
+unfolding withGuard
 returns-2 c =
     let a = c .before .args in
-    guard-out (a .m) (a .e) (omega (arith, lengths (a .m) _ (c .before .good .0) .edges)) (a .atoms)
+    edge-out (a .m) (a .e) _ (omega (arith, lengths (a .m) _ (c .before .good .0) .edges))
 
 pub with-guard-spec : {M : Type 1} → statement M
 with-guard-spec =

@@ -1,5 +1,5 @@
--- `with_resets`: the slot is set, or is not there (`resets-out`).
-use Rattle.text.proofs.lines.Stores.{resets-out}
+-- `with_resets`: the slot is set, or is not there (`edge-out`).
+use Rattle.text.proofs.lines.Stores.{edge-out}
 use Rattle.text.specs.lines.Store.{withResets, withEdge}
 use Rattle.model.proofs.Known.{lengths}
 use mathlib.Core.Path.{refl}
@@ -13,9 +13,10 @@ unfolding withResets withEdge
 returns c = refl
 
 returns-2 : tie.Need-returns-2
+unfolding withResets
 returns-2 c =
     let a = c .before .args in
-    resets-out (a .m) (a .e) (omega (arith, lengths (a .m) _ (c .before .good .0) .edges)) (a .resets)
+    edge-out (a .m) (a .e) _ (omega (arith, lengths (a .m) _ (c .before .good .0) .edges))
 
 pub with-resets-spec : {M : Type 1} → statement M
 with-resets-spec =

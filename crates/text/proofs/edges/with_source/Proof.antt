@@ -1,5 +1,5 @@
--- `with_source`: the slot is set, or is not there (`source-out`).
-use Rattle.text.proofs.lines.Stores.{source-out}
+-- `with_source`: the slot is set, or is not there (`edge-out`).
+use Rattle.text.proofs.lines.Stores.{edge-out}
 use Rattle.text.specs.lines.Store.{withSource, withEdge}
 use Rattle.model.proofs.Known.{lengths}
 use mathlib.Core.Path.{refl}
@@ -13,9 +13,10 @@ unfolding withSource withEdge
 returns c = refl
 
 returns-2 : tie.Need-returns-2
+unfolding withSource
 returns-2 c =
     let a = c .before .args in
-    source-out (a .m) (a .e) (omega (arith, lengths (a .m) _ (c .before .good .0) .edges)) (a .n)
+    edge-out (a .m) (a .e) _ (omega (arith, lengths (a .m) _ (c .before .good .0) .edges))
 
 pub with-source-spec : {M : Type 1} → statement M
 with-source-spec =

@@ -1,5 +1,5 @@
--- `with_updates`: the slot is set, or is not there (`updates-out`).
-use Rattle.text.proofs.lines.Stores.{updates-out}
+-- `with_updates`: the slot is set, or is not there (`edge-out`).
+use Rattle.text.proofs.lines.Stores.{edge-out}
 use Rattle.text.specs.lines.Store.{withUpdates, withEdge}
 use Rattle.model.proofs.Known.{lengths}
 use mathlib.Core.Path.{refl}
@@ -13,9 +13,10 @@ unfolding withUpdates withEdge
 returns c = refl
 
 returns-2 : tie.Need-returns-2
+unfolding withUpdates
 returns-2 c =
     let a = c .before .args in
-    updates-out (a .m) (a .e) (omega (arith, lengths (a .m) _ (c .before .good .0) .edges)) (a .updates)
+    edge-out (a .m) (a .e) _ (omega (arith, lengths (a .m) _ (c .before .good .0) .edges))
 
 pub with-updates-spec : {M : Type 1} → statement M
 with-updates-spec =
