@@ -59,13 +59,13 @@ read-whole t h r p e = e ∙ ap readEnded (p .is) ∙ rw (le-ltb 8192 (length t)
 module _ (t : List ℕ) (d : Due) (p : DueLine (ascii "bound=") t 0 d) where
   pub bound-other : d .found ≡ false → boundRefused ≡ boundReport t
   unfolding boundReport
-  bound-other h = rw (sym (found-is (ascii "bound=") t 0 d (p .is)) ∙ h)
+  bound-other h = rw (sym (found-is p) ∙ h)
 
   pub bound-found : d .found ≡ true → (n : NumberRead) → n ≡ numberOf (valueIn t d) → {b : BoundReport} → b ≡ boundIn n (d .end + 1) → b ≡ boundReport t
   unfolding boundReport
   bound-found h n q e =
-      let f = sym (found-is (ascii "bound=") t 0 d (p .is)) ∙ h in
-      e ∙ rw (f, q, value-is (ascii "bound=") t 0 d (p .is) h, end)
+      let f = sym (found-is p) ∙ h in
+      e ∙ rw (f, q, value-is p h, end)
     where
       end : d .end ≡ firstAt 10 t
-      end = line-end (ascii "bound=") t 0 d (p .is) h ∙ zero-add (firstAt 10 t)
+      end = line-end p h ∙ zero-add (firstAt 10 t)

@@ -53,17 +53,17 @@ module _ (key : List ℕ) (faults : Model → List ℕ → Faults) (store : Mode
 
   number-is : number ≡ lineNumber (isDue key (drop (r .at) t)) (faults (r .model) value)
   unfolding lineNumber
-  number-is = rw (← found-is key t (r .at) d (due .is)) (go (d .found) refl)
+  number-is = rw (← found-is due) (go (d .found) refl)
     where
       go : (b : Bool) → d .found ≡ b → cond b (faultNumber f) 2 ≡ cond b (faultNumber (faults (r .model) value)) 2
-      go true h = ap faultNumber (fs ∙ ap (faults (r .model)) (value-is key t (r .at) d (due .is) h))
+      go true h = ap faultNumber (fs ∙ ap (faults (r .model)) (value-is due h))
       go false h = refl
 
   read : eqb number 0 ≡ true → progressAt t (readTo r d m) ≡ advanced (store (r .model) value) (progress t r)
   read h =
       let g = no-fault (d .found) f h in
-      let model = ms (g .1) ∙ ap (store (r .model)) (value-is key t (r .at) d (due .is) (g .0)) in
-      λ i. record { number = 0; line = r .line + 1; rest = next-is key t (r .at) d (due .is) (g .0) i; model = model i }
+      let model = ms (g .1) ∙ ap (store (r .model)) (value-is due (g .0)) in
+      λ i. record { number = 0; line = r .line + 1; rest = next-is due (g .0) i; model = model i }
 
   settle-is : progress t q ≡ readLine key faults store (progress t r)
   unfolding settled readLine

@@ -14,9 +14,9 @@ returns c =
     let d = b .before .before in
     let e = d .before .before in
     let v = valueIn (e .before .before .before .args .text .now) (e .due-at .result) in
-    let g : b .number .result ≡ greatestOf v = before-comma v (d .find .ensures .place) (b .before .head .ensures) (b .number .ensures) in
+    let g : b .number .result ≡ greatestOf v = before-comma v (d .find .ensures) (b .before .head .ensures) (b .number .ensures) in
     let n = c .before .before .before in
-    let i : n .number2 .result ≡ initialOf v = after-comma v (d .find .ensures .place) (n .before .tail .ensures) (n .number2 .ensures) in
+    let i : n .number2 .result ≡ initialOf v = after-comma v (d .find .ensures) (n .before .tail .ensures) (n .number2 .ensures) in
     record {
       due = e .due-at .ensures;
       faults-are = c .before .before .counter-faults .ensures ∙ rw (g, i);

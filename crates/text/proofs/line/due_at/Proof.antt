@@ -6,21 +6,17 @@ use Rattle.text.proofs.line.due_at.Statement.{statement}
 use Rattle.text.proofs.line.due_at.Tie as tie
 
 returns : tie.Need-returns
-returns c =
-    let f = c .before .find .ensures in
-    due-unended _ _ _ _ (f .low) (f .high) (f .place) (c .if1 .taken)
+returns c = due-unended _ (c .before .find .ensures) (c .if1 .taken)
 
 returns-2 : tie.Need-returns-2
 returns-2 c =
     let b = c .before .before .before in
-    let f = b .before .find .ensures in
-    due-found _ _ _ _ (f .low) (f .high) (f .place) (b .if1 .left) (sym (c .before .starts-with .ensures) ∙ c .if2 .taken)
+    due-found _ (b .before .find .ensures) (b .if1 .left) (sym (c .before .starts-with .ensures) ∙ c .if2 .taken)
 
 returns-3 : tie.Need-returns-3
 returns-3 c =
     let b = c .before .before .before in
-    let f = b .before .find .ensures in
-    due-other _ _ _ _ (f .low) (f .high) (f .place) (b .if1 .left) (sym (c .before .starts-with .ensures) ∙ c .if2 .left)
+    due-other _ (b .before .find .ensures) (b .if1 .left) (sym (c .before .starts-with .ensures) ∙ c .if2 .left)
 
 pub due-at-spec : {M : Type 1} → statement M
 due-at-spec =
