@@ -21,7 +21,7 @@ use Rattle.model.proofs.IndexedLaws.{and-T, all-below}
 use Rattle.text.specs.lines.Store.{withLocations, withInitial, withTarget, withClocks, withVars, withUsed, withCounter, withInvariant}
 use Rattle.text.specs.lines.Store.{withEdge, withSource, withEdgeTarget, withGuard, withUpdates, withResets}
 use Rattle.text.proofs.Laws.Slots.{Filled, fill-none, fill-again, fill-next, fill-count, fill-other}
-use Rattle.text.proofs.Laws.Edges.{EdgeParts, open-edge, shut-edge, weaken}
+use Rattle.text.proofs.Laws.EdgeParts.{EdgeParts, open-edge, shut-edge, weaken}
 
 pub record Head (locations initial target clocks vars used : ℕ) : Type 0 where
   pub locations-least : 1 ≤ locations
