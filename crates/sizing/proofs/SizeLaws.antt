@@ -80,10 +80,12 @@ module _ (t : List ℕ) (b : BoundRead) (is : boundTold b ≡ boundReport t) whe
   pub accepted-is : (n next : ℕ) → b ≡ Bound n next → boundReport t ≡ boundAccepted n next
   accepted-is n next q = sym is ∙ ap boundTold q
 
-  pub bound-refused : b ≡ NotABound → (out : List ℤ) (r : SizeReport) → r ≡ refusedSizes 9 0 → (r ≡ sizeReport t (length out)) × (out ≡ sizeLeft t out)
-  bound-refused q out r e =
+  pub bound-refused : b ≡ NotABound → {n : ℕ} → n ≡ boundTold b .number → (out : List ℤ) {r : SizeReport} → r ≡ refusedSizes n 0
+      → (r ≡ sizeReport t (length out)) × (out ≡ sizeLeft t out)
+  bound-refused q number out e =
       let h : boundReport t ≡ boundRefused = sym is ∙ ap boundTold q in
-      (e ∙ sizes-at t (length out) boundRefused h, left-at t out boundRefused h)
+      let nine = ap (λ (n : ℕ). refusedSizes n 0) (number ∙ ap (λ (x : BoundRead). boundTold x .number) q) in
+      (e ∙ nine ∙ sizes-at t (length out) boundRefused h, left-at t out boundRefused h)
 
   pub bound-accepted : (n next : ℕ) → b ≡ Bound n next → (s : List ℕ) → s ≡ drop next t → (out o : List ℤ) (r : SizeReport) → (r ≡ textSizes (readReport s) n (length out)) × (o ≡ textLeft (readReport s) n out) → (r ≡ sizeReport t (length out)) × (o ≡ sizeLeft t out)
   bound-accepted n next q s part out o r e =

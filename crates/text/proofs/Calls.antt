@@ -9,7 +9,8 @@ use Rattle.model.specs.declared.Model.{Model}
 use Rattle.text.specs.Text.{ReadReport, readReport, readTold, ifRead, outcomeNumber, outcomeLine}
 use Rattle.text.specs.declared.ReadAnswer.{ReadAnswer}
 
-module _ {A : Type 0} (call : Model → A) (refused : ℕ → ℕ → A) (t : List ℕ) (a : ReadAnswer) (is : readTold a ≡ readReport t) (n : ℕ) (number : n ≡ outcomeNumber (a .outcome)) where
+module _ {A : Type 0} (call : Model → A) (refused : ℕ → ℕ → A) (t : List ℕ) (a : ReadAnswer) (is : readTold a ≡ readReport t) (n : ℕ)
+    (number : n ≡ outcomeNumber (a .outcome)) where
   as-read : ifRead (readTold a) call refused ≡ ifRead (readReport t) call refused
   as-read = ap (λ (x : ReadReport). ifRead x call refused) is
 

@@ -30,14 +30,16 @@ module _ (t : List ℕ) (r : Reading) {b : Bool} (is : b ≡ isNoFault (r .fault
   sound : (c : Bool) → b ≡ c → eqb (lineTold (r .fault)) 0 ≡ c
   sound c h = no-fault-number (r .fault) ∙ sym is ∙ h
 
-  pub ended-refused : b ≡ false → (o : ReadOutcome) → Outcome (r .fault) (r .line) o → {a : ReadAnswer} → a ≡ record { outcome = o; model = blankModel } → readTold a ≡ readEnded (progress t r)
+  pub ended-refused : b ≡ false → (o : ReadOutcome) → Outcome (r .fault) (r .line) o → {a : ReadAnswer} → a ≡ record { outcome = o; model = blankModel }
+      → readTold a ≡ readEnded (progress t r)
   unfolding readEnded
   ended-refused h o p e =
       let k : isNoFault (r .fault) ≡ false = sym is ∙ h in
       let line : cond (isNoFault (r .fault)) 0 (r .line) ≡ r .line = rw k in
       ap readTold e ∙ rw (sound false h) (λ i. record { number = p .number-is i; line = (p .line-is ∙ line) i; model = blankModel })
 
-  pub ended-left : b ≡ true → r .at < length t → {a : ReadAnswer} → a ≡ record { outcome = BytesLeft (r .line); model = blankModel } → readTold a ≡ readEnded (progress t r)
+  pub ended-left : b ≡ true → r .at < length t → {a : ReadAnswer} → a ≡ record { outcome = BytesLeft (r .line); model = blankModel }
+      → readTold a ≡ readEnded (progress t r)
   unfolding readEnded
   ended-left h l e = ap readTold e ∙ rw (sound true h, lt-ltb 0 (length (drop (r .at) t)) (omega (arith, length-drop (r .at) t)))
 
@@ -57,13 +59,13 @@ read-whole t h r p e = e ∙ ap readEnded (p .is) ∙ rw (le-ltb 8192 (length t)
 module _ (t : List ℕ) (d : Due) (p : DueLine (ascii "bound=") t 0 d) where
   pub bound-other : d .found ≡ false → boundRefused ≡ boundReport t
   unfolding boundReport
-  bound-other h = rw (sym (found-is (ascii "bound=") t 0 d (p .is)) ∙ h)
+  bound-other h = rw (sym (found-is p) ∙ h)
 
   pub bound-found : d .found ≡ true → (n : NumberRead) → n ≡ numberOf (valueIn t d) → {b : BoundReport} → b ≡ boundIn n (d .end + 1) → b ≡ boundReport t
   unfolding boundReport
   bound-found h n q e =
-      let f = sym (found-is (ascii "bound=") t 0 d (p .is)) ∙ h in
-      e ∙ rw (f, q, value-is (ascii "bound=") t 0 d (p .is) h, end)
+      let f = sym (found-is p) ∙ h in
+      e ∙ rw (f, q, value-is p h, end)
     where
       end : d .end ≡ firstAt 10 t
-      end = line-end (ascii "bound=") t 0 d (p .is) h ∙ zero-add (firstAt 10 t)
+      end = line-end p h ∙ zero-add (firstAt 10 t)

@@ -1,6 +1,6 @@
 pub mod Bytewise
 pub mod Slots
-pub mod Edges
+pub mod EdgeParts
 pub mod Partial
 pub mod Keeping
 pub mod Accepted

@@ -6,7 +6,8 @@ use model::Model;
 ghost use mathlib.Core.Path.{_≡_};
 ghost use Rattle.text.specs.lines.Readings.{told, settled, Follows};
 
-// A reading in progress: no fault, the line that is due next and its place; or the fault of a line, its number and place. The model is what the lines before it say.
+// A reading in progress: no fault, the line that is due next and its place; or the fault of a line, its number and place.
+// The model is what the lines before it say.
 pub struct Reading {
     pub fault: LineFault,
     pub line: usize,

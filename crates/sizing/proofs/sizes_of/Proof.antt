@@ -11,6 +11,9 @@ read-bound-requires c κs = search needs
 enum-told : tie.Need-enum-told
 enum-told c = search needs
 
+number-requires : tie.Need-number-requires
+number-requires c κs = search needs
+
 refused-requires : tie.Need-refused-requires
 refused-requires c κs = search needs
 
@@ -33,7 +36,11 @@ text-sizes-requires : tie.Need-text-sizes-requires
 text-sizes-requires c κs = search needs
 
 returns : tie.Need-returns
-returns c = bound-refused (now (c .before .before .before .before .before .args .input)) (c .before .before .before .read-bound .result) (c .before .before .before .read-bound .ensures) (c .before .enum-told .given .1) (now (c .before .before .before .before .before .args .out)) _ (c .refused .ensures)
+returns c =
+    let e = c .before .before in
+    let first = e .before .before .read-bound in
+    let args = e .before .before .before .before .args in
+    bound-refused (now (args .input)) (first .result) (first .ensures) (e .enum-told .given .1) (c .before .number .ensures) (now (args .out)) (c .refused .ensures)
 
 same-length : tie.Need-same-length
 same-length c = search needs
@@ -47,6 +54,7 @@ sizes-of-spec =
     (tie.spec
     read-bound-requires
     enum-told
+    number-requires
     refused-requires
     enum-known-first
     sub-text-sizes

@@ -16,11 +16,11 @@ use Rattle.model.specs.Record.{blankModel}
 use Rattle.model.specs.Form.{counterFormed, countersFormed, eachFormed, filledFromFirst, atomsFormed, invariantsFormed, updatesFormed, resetsFormed}
 use Rattle.model.specs.Form.{edgeFormed, edgesFormed, headFormed, wellFormed}
 use Rattle.model.proofs.IndexedLaws.{and-T}
-use Rattle.text.specs.atoms.Atoms.{atomSlots, invItems, whenItems}
+use Rattle.text.specs.atoms.Atoms.{atomSlots, invItems}
 use Rattle.text.proofs.atoms.AtomsFormed.{inv-formed, when-formed}
-use Rattle.text.specs.updates.Sets.{updateSlots, setItems}
+use Rattle.text.specs.updates.Sets.{setItems}
 use Rattle.text.proofs.updates.UpdatesFormed.{set-formed}
-use Rattle.text.specs.resets.Resets.{resetSlots, resetItems}
+use Rattle.text.specs.resets.Resets.{resetItems}
 use Rattle.text.proofs.resets.ResetsFormed.{reset-formed}
 use Rattle.text.specs.line.Values.{numberFaults, referenceFaults, greatestOf, initialOf, counterFaults, counterIn}
 use Rattle.text.proofs.line.DueLaws.{number-inside, reference-declared, counter-inside}
@@ -114,7 +114,8 @@ edge-keeps used e l p good =
     (line-keeps Read Read _ _ _ (λ m v q h. (with-edge-target (q .0) (slot-there used e l q) _ (reference-declared (m .locations) (numberOf v) h), q .1)) _
     (line-keeps (EdgesRead used e) Read _ _ _ first p good))))
   where
-    first : (m : Model) (v : List ℕ) → EdgesRead used e m → faultNumber (referenceFaults (m .locations) (numberOf v)) ≡ 0 → EdgesRead used (e + 1) (withSource m e (numberIn (numberOf v)))
+    first : (m : Model) (v : List ℕ) → EdgesRead used e m → faultNumber (referenceFaults (m .locations) (numberOf v)) ≡ 0
+        → EdgesRead used (e + 1) (withSource m e (numberIn (numberOf v)))
     first m v q h = let s = slot-there used e l q in (with-source (with-count (q .0) s) s _ (reference-declared (m .locations) (numberOf v) h), q .1)
 
 all-edges-keep : (p : Progress) → Good Declared p → Good (λ m. Partial (m .vars) (m .locations) (m .used) m) (readEdges p)
@@ -161,7 +162,8 @@ refused-blank t = go (ltb 8192 (length t)) (eqb (readLines t .number) 0) (ltb 0 
 
 -- so every answer holds a well-formed record
 blank-formed : T (wellFormed blankModel)
-unfolding blankModel wellFormed headFormed countersFormed invariantsFormed edgesFormed edgeFormed atomsFormed eachFormed filledFromFirst updatesFormed resetsFormed allBelow
+unfolding blankModel wellFormed headFormed countersFormed invariantsFormed edgesFormed edgeFormed atomsFormed eachFormed filledFromFirst updatesFormed
+    resetsFormed allBelow
 blank-formed = tt
 
 pub answer-formed : (t : List ℕ) → T (wellFormed (readReport t .model))

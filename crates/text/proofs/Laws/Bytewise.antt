@@ -70,7 +70,8 @@ unfolding digitsOf
 digitsOf-end s i h = rw (drop-of-length-le s h)
 
 -- ---- keys
-pub startsWith-next : (k s : List ℕ) (i : ℕ) → i < length k → i < length s → getD s i 0 ≡ getD k i 0 → startsWith (drop i k) (drop i s) ≡ startsWith (drop (i + 1) k) (drop (i + 1) s)
+pub startsWith-next : (k s : List ℕ) (i : ℕ) → i < length k → i < length s → getD s i 0 ≡ getD k i 0
+    → startsWith (drop i k) (drop i s) ≡ startsWith (drop (i + 1) k) (drop (i + 1) s)
 unfolding startsWith
 startsWith-next k s i h j e = rw (drop-cons k i 0 h, drop-cons s i 0 j, eq-eqb _ _ (sym e), add-one)
 

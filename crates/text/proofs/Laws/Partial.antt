@@ -1,11 +1,10 @@
 -- A model that is read in part: its numbers are within their limits, and so many of its counters, invariants and edges are formed, the others
 -- blank. Each part that a line puts in keeps this.
 use Prim.Native.Nat.{ℕ, _+_, _≤_, _<_}
-use mathlib.Core.Path.{_≡_}
 use mathlib.Core.List.{List}
-use mathlib.Core.Bool.{Bool, _&&_}
+use mathlib.Core.Bool.{_&&_}
 use native.Mathlib.Omega.{arith}
-use lib.Dec.{T, ltb, lt→ltb}
+use lib.Dec.{T, lt→ltb}
 use borrow.Author.Tests.{lt-ltb, le-ltb, le-leb}
 use Rattle.model.specs.declared.AtomSlot.{AtomSlot}
 use Rattle.model.specs.declared.UpdateSlot.{UpdateSlot}
@@ -22,7 +21,7 @@ use Rattle.model.proofs.IndexedLaws.{and-T, all-below}
 use Rattle.text.specs.lines.Store.{withLocations, withInitial, withTarget, withClocks, withVars, withUsed, withCounter, withInvariant}
 use Rattle.text.specs.lines.Store.{withEdge, withSource, withEdgeTarget, withGuard, withUpdates, withResets}
 use Rattle.text.proofs.Laws.Slots.{Filled, fill-none, fill-again, fill-next, fill-count, fill-other}
-use Rattle.text.proofs.Laws.Edges.{EdgeParts, open-edge, shut-edge, weaken}
+use Rattle.text.proofs.Laws.EdgeParts.{EdgeParts, open-edge, shut-edge, weaken}
 
 pub record Head (locations initial target clocks vars used : ℕ) : Type 0 where
   pub locations-least : 1 ≤ locations
@@ -111,7 +110,8 @@ with-counter p c h = record { head = p .head; counters = fill-next (p .counters)
 pub with-invariant : {v n k : ℕ} {m : Model} → Partial v n k m → (atoms : List AtomSlot) → T (atomsFormed (m .clocks) 0 atoms)
     → Partial v (n + 1) k (withInvariant m n atoms)
 unfolding withInvariant
-with-invariant p atoms h = record { head = p .head; counters = p .counters; invariants = fill-next (p .invariants) (record { atoms = atoms }) h; edges = p .edges }
+with-invariant p atoms h =
+    record { head = p .head; counters = p .counters; invariants = fill-next (p .invariants) (record { atoms = atoms }) h; edges = p .edges }
 
 -- ---- edge e: it counts as read, and its parts are put in
 pub with-count : {v n e : ℕ} {m : Model} → Partial v n e m → e < 32 → Partial v n (e + 1) m

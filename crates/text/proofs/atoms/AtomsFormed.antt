@@ -14,6 +14,7 @@ use Rattle.text.specs.declared.bytes.NumberRead.the-variants.{Malformed 
 use Rattle.text.proofs.bytes.Flags.{any-head, any-tail, passed}
 use Rattle.model.specs.declared.Relation.{Relation}
 use Rattle.model.specs.declared.Relation.the-variants.{Less, LessEqual, Equal, GreaterEqual, Greater, NotEqual}
+use Rattle.model.specs.declared.AtomSlot.{AtomSlot}
 use Rattle.model.specs.Record.{blankAtom, atomAt}
 use Rattle.model.specs.Form.{isNotEqual, atomFormed, isBlank, noGap, eachFormed, filledFromFirst, atomsFormed}
 use Rattle.model.proofs.IndexedLaws.{and-T, all-below}
@@ -21,7 +22,8 @@ use Rattle.text.specs.declared.atoms.RelationRead.{RelationRead}
 use Rattle.text.specs.declared.atoms.RelationRead.the-variants.{Absent, One, Two}
 use Rattle.text.specs.declared.atoms.AtomRead.{AtomRead}
 use Rattle.text.specs.declared.atoms.AtomRead.the-variants.{Malformed, ClockAtom, CounterAtom}
-use Rattle.text.specs.atoms.Atoms.{clockAtom, namedAtom, relatedAtom, valuedAtom, madeAtom, relationOf, width, afterName, atomOf, onClocks, itemOf, isMalformed, isOutside, isUndeclared, atomFaults, atomIn, slotOf, atomSlots, invItems, whenItems}
+use Rattle.text.specs.atoms.Atoms.{clockAtom, namedAtom, relatedAtom, valuedAtom, madeAtom, relationOf, width, afterName, atomOf, onClocks, itemOf}
+use Rattle.text.specs.atoms.Atoms.{isMalformed, isOutside, isUndeclared, atomFaults, atomIn, slotOf, atomSlots, invItems, whenItems}
 
 -- ---- no clock is compared by !=
 abbrev proper : AtomRead → Bool
@@ -88,32 +90,36 @@ blank-at zero k = refl
 blank-at (suc n) zero = refl
 blank-at (suc n) (suc k) = blank-at n k
 
--- ---- lists of atoms that the items are
-module _ (clocks vars declared : ℕ) (item : List ℕ → AtomRead)
-    (formed : (l : List ℕ) → isOutside (item l) ≡ false → isUndeclared clocks vars (item l) ≡ false → T (atomFormed clocks declared (atomIn (item l)))) where
-  each-formed : (l : List (List ℕ)) (n k : ℕ) → anyOf isOutside (map item l) ≡ false → anyOf (isUndeclared clocks vars) (map item l) ≡ false → T (atomFormed clocks declared (atomAt (map slotOf (map item l) ++ replicate n blankAtom) k))
-  each-formed [] n k o u = rw (blank-at n k) tt
-  each-formed (p ∷ l) n zero o u = formed p (any-head isOutside (item p) (map item l) o) (any-head (isUndeclared clocks vars) (item p) (map item l) u)
-  each-formed (p ∷ l) n (suc k) o u = each-formed l n k (any-tail isOutside (item p) (map item l) o) (any-tail (isUndeclared clocks vars) (item p) (map item l) u)
+-- ---- the slots of a list of items
+abbrev filledTo : ℕ → List AtomRead → List AtomSlot
+filledTo n l = map slotOf l ++ replicate n blankAtom
 
-no-gap : (l : List AtomRead) (n k : ℕ) → anyOf isMalformed l ≡ false → T (noGap (atomAt (map slotOf l ++ replicate n blankAtom) k) (atomAt (map slotOf l ++ replicate n blankAtom) (suc k)))
+no-gap : (l : List AtomRead) (n k : ℕ) → anyOf isMalformed l ≡ false → T (noGap (atomAt (filledTo n l) k) (atomAt (filledTo n l) (suc k)))
 no-gap [] n k m = rw (blank-at n k, blank-at n (suc k)) tt
 no-gap (a ∷ l) n zero m = rw (filled-in a (any-head isMalformed a l m)) tt
 no-gap (a ∷ l) n (suc k) m = no-gap l n k (any-tail isMalformed a l m)
 
 module _ (clocks vars declared : ℕ) (item : List ℕ → AtomRead)
     (formed : (l : List ℕ) → isOutside (item l) ≡ false → isUndeclared clocks vars (item l) ≡ false → T (atomFormed clocks declared (atomIn (item l)))) where
+  each-formed : (l : List (List ℕ)) (n k : ℕ) → anyOf isOutside (map item l) ≡ false → anyOf (isUndeclared clocks vars) (map item l) ≡ false
+      → T (atomFormed clocks declared (atomAt (filledTo n (map item l)) k))
+  each-formed [] n k o u = rw (blank-at n k) tt
+  each-formed (p ∷ l) n zero o u = formed p (any-head isOutside (item p) (map item l) o) (any-head (isUndeclared clocks vars) (item p) (map item l) u)
+  each-formed (p ∷ l) n (suc k) o u =
+      each-formed l n k (any-tail isOutside (item p) (map item l) o) (any-tail (isUndeclared clocks vars) (item p) (map item l) u)
+
   slots-formed : (l : List (List ℕ)) → faultNumber (atomFaults clocks vars (map item l)) ≡ 0 → T (atomsFormed clocks declared (atomSlots (map item l)))
   unfolding atomFaults atomSlots atomsFormed eachFormed filledFromFirst
   slots-formed l h =
       let g = passed (atomFaults clocks vars (map item l)) h in
-      let slots = map slotOf (map item l) ++ replicate (4 - length (map item l)) blankAtom in
-      and-T (eachFormed clocks declared slots) (filledFromFirst slots) .1 (
-        all-below (λ k. atomFormed clocks declared (atomAt slots k)) 4 .1 (λ k p. each-formed clocks vars declared item formed l (4 - length (map item l)) k (g .inside) (g .declared)),
-        all-below (λ k. noGap (atomAt slots k) (atomAt slots (k + 1))) 3 .1 (λ k p. rw (add-one k) (no-gap (map item l) (4 - length (map item l)) k (g .well-formed))),
-      )
+      let n = 4 - length (map item l) in
+      let slots = filledTo n (map item l) in
+      let each = all-below (λ k. atomFormed clocks declared (atomAt slots k)) 4 .1 (λ k p. each-formed l n k (g .inside) (g .declared)) in
+      let gapless = all-below (λ k. noGap (atomAt slots k) (atomAt slots (k + 1))) 3 .1 (λ k p. rw (add-one k) (no-gap (map item l) n k (g .well-formed))) in
+      and-T (eachFormed clocks declared slots) (filledFromFirst slots) .1 (each, gapless)
 
-pub when-formed : (clocks vars : ℕ) (v : List ℕ) → faultNumber (atomFaults clocks vars (whenItems v)) ≡ 0 → T (atomsFormed clocks vars (atomSlots (whenItems v)))
+pub when-formed :
+    (clocks vars : ℕ) (v : List ℕ) → faultNumber (atomFaults clocks vars (whenItems v)) ≡ 0 → T (atomsFormed clocks vars (atomSlots (whenItems v)))
 unfolding whenItems
 when-formed clocks vars v = slots-formed clocks vars vars (itemOf true) (λ l. atom-formed clocks vars (atomOf l) (atom-proper l)) (itemsOf v)
 

@@ -2,13 +2,13 @@
 use Prim.Native.Nat.{ℕ, suc, _+_, _-_, _≤_, _<_}
 use mathlib.Core.Path.{_≡_, refl, sym, ap, _∙_}
 use mathlib.Core.List.{List, [], _∷_, _++_, map, foldl, append-assoc, append-nil}
-use mathlib.Core.Bool.{Bool, true, false, cond, _||_, or-false, or-true}
+use mathlib.Core.Bool.{Bool, true, false, _||_, or-false, or-true}
 use native.Mathlib.Omega.{arith}
 use native.Mathlib.Nat.{zero-add}
 use lib.ListN.{length, replicate, length-append}
 use lib.Seq.{set-at}
-use lib.Dec.{ltb, leb, eqb}
-use borrow.Author.Tests.{lt-ltb, le-ltb, leb-true, leb-false, ltb-false, eqb-true}
+use lib.Dec.{ltb, leb}
+use borrow.Author.Tests.{lt-ltb, le-ltb, leb-true, leb-false, ltb-false}
 use Rattle.text.specs.bytes.Faulty.{faultNumber, anyOf}
 use Rattle.text.proofs.bytes.Flags.{flag, unflagged, any-head, any-tail, same-faults, passed, if-faultless}
 use Rattle.model.specs.declared.AtomSlot.{AtomSlot}
@@ -21,27 +21,31 @@ use Rattle.text.specs.atoms.OnePass.{storedAtom, pushed, absorbed, noAto
 
 -- ---- the flags
 module _ (clocks vars : ℕ) where
-  crowded : (l : List AtomRead) (s : AtomsRead) → s .count ≤ 4 → foldl (absorbed clocks vars) s l .faults .crowded ≡ (s .faults .crowded || ltb 4 (s .count + length l))
+  abbrev step : AtomsRead → AtomRead → AtomsRead
+  step = absorbed clocks vars
+
+  abbrev Crowded : List AtomRead → AtomsRead → Type 0
+  Crowded l s = foldl step s l .faults .crowded ≡ (s .faults .crowded || ltb 4 (s .count + length l))
+
+  crowded : (l : List AtomRead) (s : AtomsRead) → s .count ≤ 4 → Crowded l s
   unfolding absorbed
   crowded [] s h = rw (le-ltb 4 (s .count + 0) (omega arith)) (sym (or-false (s .faults .crowded)))
-  crowded (a ∷ l) s h = go (leb 4 (s .count)) refl (crowded l (absorbed clocks vars s a))
+  crowded (a ∷ l) s h = go (leb 4 (s .count)) refl (crowded l (step s a))
     where
-      go : (b : Bool) → leb 4 (s .count) ≡ b
-          → (absorbed clocks vars s a .count ≤ 4 → foldl (absorbed clocks vars) (absorbed clocks vars s a) l .faults .crowded ≡ (absorbed clocks vars s a .faults .crowded || ltb 4 (absorbed clocks vars s a .count + length l)))
-          → foldl (absorbed clocks vars) (absorbed clocks vars s a) l .faults .crowded ≡ (s .faults .crowded || ltb 4 (s .count + suc (length l)))
+      go : (b : Bool) → leb 4 (s .count) ≡ b → (step s a .count ≤ 4 → Crowded l (step s a)) → Crowded (a ∷ l) s
       go true e f =
-          f (rw (le-ltb (s .count) 4 (leb-true 4 (s .count) e)) h)
-          ∙ rw (e, or-true (s .faults .crowded), lt-ltb 4 (s .count + suc (length l)) (omega (arith, leb-true 4 (s .count) e)), or-true (s .faults .crowded))
+          let full : 4 ≤ s .count = leb-true 4 (s .count) e in
+          f (rw (le-ltb (s .count) 4 full) h)
+          ∙ rw (e, or-true (s .faults .crowded), lt-ltb 4 (s .count + suc (length l)) (omega arith), or-true (s .faults .crowded))
       go false e f =
-          let q : s .count < 4 = leb-false 4 (s .count) e in
+          let room : s .count < 4 = leb-false 4 (s .count) e in
           let n : s .count + 1 + length l ≡ s .count + suc (length l) = omega arith in
-          f (rw (lt-ltb (s .count) 4 q) (omega arith))
-          ∙ rw (e, lt-ltb (s .count) 4 q, or-false (s .faults .crowded), n)
+          f (rw (lt-ltb (s .count) 4 room) (omega arith))
+          ∙ rw (e, lt-ltb (s .count) 4 room, or-false (s .faults .crowded), n)
 
   faults-are : (items : List AtomRead) → foldl (absorbed clocks vars) noAtoms items .faults ≡ atomFaults clocks vars items
   unfolding atomFaults noAtoms absorbed
   faults-are items =
-      let step = absorbed clocks vars in
       same-faults (foldl step noAtoms items .faults)
       (flag step (λ s. s .faults .malformed) isMalformed (λ s a. refl) items noAtoms)
       (crowded items noAtoms (omega arith) ∙ ap (ltb 4) (zero-add (length items)))
@@ -56,7 +60,8 @@ module _ (clocks vars : ℕ) (p : clocks < 256) (q : vars < 256) where
   stored-is (ClockAtom x r c) o u = rw (lt-ltb x 256 (omega (arith, leb-false clocks x u)), lt-ltb c 256 (omega (arith, ltb-false 30 c o)))
   stored-is (CounterAtom v r c) o u = rw (lt-ltb v 256 (omega (arith, leb-false vars v u)), lt-ltb c 256 (omega (arith, ltb-false 31 c o)))
 
-  slots-are : (l : List AtomRead) (s : AtomsRead) (front : List AtomSlot) → length front ≡ s .count → s .count + length l ≤ 4 → s .atoms ≡ front ++ replicate (4 - s .count) blankAtom
+  slots-are : (l : List AtomRead) (s : AtomsRead) (front : List AtomSlot) → length front ≡ s .count → s .count + length l ≤ 4
+      → s .atoms ≡ front ++ replicate (4 - s .count) blankAtom
       → anyOf isOutside l ≡ false → anyOf (isUndeclared clocks vars) l ≡ false
       → foldl (absorbed clocks vars) s l .atoms ≡ (front ++ map slotOf l) ++ replicate (4 - (s .count + length l)) blankAtom
   unfolding absorbed pushed
@@ -68,7 +73,13 @@ module _ (clocks vars : ℕ) (p : clocks < 256) (q : vars < 256) where
       slots-are l (absorbed clocks vars s a) (front ++ (slotOf a ∷ []))
       (length-append front (slotOf a ∷ []) ∙ rw (lt-ltb (s .count) 4 small, n))
       (rw (lt-ltb (s .count) 4 small) (omega arith))
-      (rw (lt-ltb (s .count) 4 small, e, room, stored-is a (any-head isOutside a l o) (any-head (isUndeclared clocks vars) a l u), set-at front blankAtom (replicate (4 - (s .count + 1)) blankAtom) (slotOf a) (s .count) n)
+      (rw (
+        lt-ltb (s .count) 4 small,
+        e,
+        room,
+        stored-is a (any-head isOutside a l o) (any-head (isUndeclared clocks vars) a l u),
+        set-at front blankAtom (replicate (4 - (s .count + 1)) blankAtom) (slotOf a) (s .count) n,
+      )
       (sym (append-assoc front (slotOf a ∷ []) (replicate (4 - (s .count + 1)) blankAtom))))
       (any-tail isOutside a l o)
       (any-tail (isUndeclared clocks vars) a l u)

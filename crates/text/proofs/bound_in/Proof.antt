@@ -1,3 +1,4 @@
+-- `bound_in`: the number is read, or not.
 use borrow.Author.Needs.{needs}
 use Rattle.text.proofs.bound_in.Statement.{statement}
 use Rattle.text.proofs.bound_in.Tie as tie

@@ -25,15 +25,18 @@ module _ {S A : Type 0} (step : S → A → S) where
   unflagged get h (a ∷ l) s = unflagged get h l (step s a) ∙ h s a
 
   -- a flag that is raised where a number is less than the least allowed, one more than the number before
-  pub unrising : (get : S → Bool) (least : S → ℕ) (key : A → ℕ) → ((s : S) (a : A) → get (step s a) ≡ (get s || ltb (key a) (least s))) → ((s : S) (a : A) → least (step s a) ≡ key a + 1)
+  pub unrising : (get : S → Bool) (least : S → ℕ) (key : A → ℕ) → ((s : S) (a : A) → get (step s a) ≡ (get s || ltb (key a) (least s)))
+      → ((s : S) (a : A) → least (step s a) ≡ key a + 1)
       → (l : List A) (s : S) → get (foldl step s l) ≡ (get s || not (risesFrom (least s) (map key l)))
   unfolding risesFrom
   unrising get least key h g [] s = sym (or-false (get s))
   unrising get least key h g (a ∷ l) s =
       unrising get least key h g l (step s a)
-      ∙ rw (h s a, g s a) (or-assoc (get s) (ltb (key a) (least s)) (not (risesFrom (key a + 1) (map key l))) ∙ ap (λ (x : Bool). get s || x) (go (leb (least s) (key a)) refl))
+      ∙ rw (h s a, g s a)
+      (or-assoc (get s) (ltb (key a) (least s)) (not (risesFrom (key a + 1) (map key l))) ∙ ap (λ (x : Bool). get s || x) (go (leb (least s) (key a)) refl))
     where
-      go : (b : Bool) → leb (least s) (key a) ≡ b → (ltb (key a) (least s) || not (risesFrom (key a + 1) (map key l))) ≡ not (b && risesFrom (key a + 1) (map key l))
+      go : (b : Bool) → leb (least s) (key a) ≡ b
+          → (ltb (key a) (least s) || not (risesFrom (key a + 1) (map key l))) ≡ not (b && risesFrom (key a + 1) (map key l))
       go true e = rw (le-ltb (key a) (least s) (leb-true (least s) (key a) e))
       go false e = rw (lt-ltb (key a) (least s) (leb-false (least s) (key a) e))
 
@@ -74,7 +77,8 @@ passed f h =
     let g = go (f .malformed) (f .crowded) (f .outside) (f .undeclared) (f .unordered) h in
     record { well-formed = g .0; few = g .1; inside = g .2; declared = g .3; ordered = g .4 }
   where
-    go : (a b c d e : Bool) → _≡_ {A = ℕ} (cond a 3 (cond b 7 (cond c 4 (cond d 5 (cond e 6 0))))) 0 → (a ≡ false) × (b ≡ false) × (c ≡ false) × (d ≡ false) × (e ≡ false)
+    go : (a b c d e : Bool) → _≡_ {A = ℕ} (cond a 3 (cond b 7 (cond c 4 (cond d 5 (cond e 6 0))))) 0
+        → (a ≡ false) × (b ≡ false) × (c ≡ false) × (d ≡ false) × (e ≡ false)
     go true b c d e h = absurd (omega arith)
     go false true c d e h = absurd (omega arith)
     go false false true d e h = absurd (omega arith)

@@ -1,6 +1,6 @@
 -- The items of a value: a list is split at its commas, and a state absorbs one item after the other.
 use Prim.Native.Nat.{ℕ, suc, _+_, _-_, _≤_, _<_}
-use mathlib.Core.Path.{_≡_, refl, ap, _∙_}
+use mathlib.Core.Path.{_≡_, refl, _∙_}
 use mathlib.Core.List.{List, [], _∷_, map, foldl}
 use mathlib.Core.Bool.{Bool, true, false, cond}
 use native.Mathlib.Numerals.{add-one}
@@ -10,7 +10,6 @@ use lib.Seq.{drop-drop}
 use lib.Dec.{eqb, ltb, leb·suc-suc}
 use borrow.Author.Tests.{lt-ltb, le-ltb}
 use Rattle.text.specs.bytes.Bytes.{firstAt, FirstFrom, splitOn, grow, isHyphen, itemsOf}
-use Rattle.text.proofs.Laws.Bytewise.{firstAt-le}
 
 -- what a list is split into after the place k of its first b
 abbrev othersFrom : ℕ → ℕ → List ℕ → List (List ℕ)

@@ -1,15 +1,15 @@
--- Laws of the due line at a place.
+-- The due line at a place of the text: when it is found, what it tells of the text, and which numbers it lets pass.
 use Prim.Native.Nat.{ℕ, zero, suc, _+_, _-_, _≤_, _<_}
 use mathlib.Core.Path.{_≡_, refl, sym, ap, _∙_}
 use mathlib.Core.List.{List, [], _∷_}
-use mathlib.Core.Bool.{Bool, true, false, cond, _&&_, _||_, false≢true}
+use mathlib.Core.Bool.{Bool, true, false, cond, _&&_, false≢true}
 use native.Mathlib.Omega.{arith}
 use native.Mathlib.Nat.{zero-add}
 use lib.ListN.{length, take, drop, length-take, length-drop}
 use lib.Seq.{drop-drop, take-nil}
 use lib.Dec.{eqb, ltb}
 use borrow.Author.Tests.{lt-ltb, le-ltb, leb-false, ltb-false}
-use Rattle.text.specs.bytes.Bytes.{firstAt, startsWith, isDue, valueOf, after, numberOf, isMalformed, numberIn, byteIn}
+use Rattle.text.specs.bytes.Bytes.{firstAt, FirstFrom, startsWith, isDue, valueOf, after, numberOf, isMalformed, numberIn, byteIn}
 use Rattle.text.specs.bytes.Faulty.{faultNumber}
 use Rattle.text.specs.declared.bytes.NumberRead.{NumberRead}
 use Rattle.text.specs.declared.bytes.NumberRead.the-variants.{Malformed, Number}
@@ -29,23 +29,27 @@ startsWith-length (x ∷ k) (y ∷ l) h = go (eqb x y) (startsWith-length k l) h
     go true f h = omega (arith, f h)
     go false f h = absurd (false≢true h)
 
-module _ (key t : List ℕ) (at e : ℕ) (low : at ≤ e) (high : e ≤ length t) (p : e ≡ at + firstAt 10 (drop at t)) where
+abbrev notDue : ℕ → Due
+notDue at = record { found = false; start = at; end = at }
+
+-- e is where the line at the place `at` ends
+module _ (key : List ℕ) {t : List ℕ} {at e : ℕ} (p : FirstFrom 10 at t e) where
   first-is : firstAt 10 (drop at t) ≡ e - at
-  first-is = omega arith
+  first-is = omega (arith, p .place)
 
-  other : isDue key (drop at t) ≡ false → DueLine key t at (record { found = false; start = at; end = at })
+  other : isDue key (drop at t) ≡ false → DueLine key t at (notDue at)
   unfolding dueAt
-  other h = record { is = rw h; ordered = omega arith; low = omega arith; within = omega arith; ended = λ q. absurd (false≢true q) }
+  other h = record { is = rw h; ordered = omega arith; low = omega arith; within = omega (arith, p .low, p .high); ended = λ q. absurd (false≢true q) }
 
-  pub due-unended : e ≡ length t → DueLine key t at (record { found = false; start = at; end = at })
+  pub due-unended : e ≡ length t → DueLine key t at (notDue at)
   unfolding isDue
-  due-unended h = other (rw (le-ltb (firstAt 10 (drop at t)) (length (drop at t)) (omega (arith, length-drop at t))))
+  due-unended h = other (rw (le-ltb (firstAt 10 (drop at t)) (length (drop at t)) (omega (arith, first-is, length-drop at t))))
 
   module _ (h : e ≡ length t → ⊥) where
     ends : ltb (firstAt 10 (drop at t)) (length (drop at t)) ≡ true
-    ends = lt-ltb (firstAt 10 (drop at t)) (length (drop at t)) (omega (arith, length-drop at t, h))
+    ends = lt-ltb (firstAt 10 (drop at t)) (length (drop at t)) (omega (arith, p .place, p .high, length-drop at t, h))
 
-    pub due-other : startsWith key (take (e - at) (drop at t)) ≡ false → DueLine key t at (record { found = false; start = at; end = at })
+    pub due-other : startsWith key (take (e - at) (drop at t)) ≡ false → DueLine key t at (notDue at)
     unfolding isDue
     due-other s = other (rw (ends, first-is, s))
 
@@ -53,16 +57,14 @@ module _ (key t : List ℕ) (at e : ℕ) (low : at ≤ e) (high : e ≤ length t
     unfolding isDue dueAt
     due-found s =
         let n : length key ≤ length (take (e - at) (drop at t)) = startsWith-length key _ s in
+        let back : e ≡ at + (e - at) = omega (arith, p .low) in
         record {
           is = rw (ends, first-is, s) (λ i. record { found = true; start = at + length key; end = back i });
-          ordered = omega (arith, simp length-take at n);
-          low = low;
-          within = high;
-          ended = λ q. omega (arith, h);
+          ordered = omega (arith, p .low, simp length-take at n);
+          low = p .low;
+          within = p .high;
+          ended = λ q. omega (arith, p .high, h);
         }
-      where
-        back : e ≡ at + (e - at)
-        back = omega arith
 
 -- ---- what it tells of the text
 drop-take : (k n : ℕ) (l : List ℕ) → take (n - k) (drop k l) ≡ drop k (take n l)
@@ -71,18 +73,21 @@ drop-take (suc k) zero l = let e : 0 - suc k ≡ 0 = omega arith in rw e
 drop-take (suc k) (suc n) [] = take-nil (suc n - suc k)
 drop-take (suc k) (suc n) (x ∷ l) = let e : suc n - suc k ≡ n - k = omega arith in rw e (drop-take k n l)
 
-module _ (key t : List ℕ) (at : ℕ) (d : Due) (is : d ≡ dueAt key t at) where
+abbrev dueLine : List ℕ → List ℕ → ℕ → Due
+dueLine key t at = record { found = true; start = at + length key; end = at + firstAt 10 (drop at t) }
+
+module _ {key t : List ℕ} {at : ℕ} {d : Due} (due : DueLine key t at d) where
   pub found-is : d .found ≡ isDue key (drop at t)
   unfolding dueAt
-  found-is = ap (λ (x : Due). x .found) is ∙ go (isDue key (drop at t))
+  found-is = ap (λ (x : Due). x .found) (due .is) ∙ go (isDue key (drop at t))
     where
-      go : (b : Bool) → cond {A = Due} b (record { found = true; start = at + length key; end = at + firstAt 10 (drop at t) }) (record { found = false; start = at; end = at }) .found ≡ b
+      go : (b : Bool) → cond b (dueLine key t at) (notDue at) .found ≡ b
       go true = refl
       go false = refl
 
-  at-found : d .found ≡ true → d ≡ record { found = true; start = at + length key; end = at + firstAt 10 (drop at t) }
+  at-found : d .found ≡ true → d ≡ dueLine key t at
   unfolding dueAt
-  at-found h = is ∙ rw (sym found-is ∙ h)
+  at-found h = due .is ∙ rw (sym found-is ∙ h)
 
   pub line-end : d .found ≡ true → d .end ≡ at + firstAt 10 (drop at t)
   line-end h = ap (λ (x : Due). x .end) (at-found h)
@@ -92,8 +97,9 @@ module _ (key t : List ℕ) (at : ℕ) (d : Due) (is : d ≡ dueAt key t at) whe
   unfolding valueOf
   value-is h = ap (valueIn t) (at-found h) ∙ part
     where
-      part : take (at + firstAt 10 (drop at t) - (at + length key)) (drop (at + length key) t) ≡ drop (length key) (take (firstAt 10 (drop at t)) (drop at t))
-      part = let e : at + firstAt 10 (drop at t) - (at + length key) ≡ firstAt 10 (drop at t) - length key = omega arith in
+      part : valueIn t (dueLine key t at) ≡ drop (length key) (take (firstAt 10 (drop at t)) (drop at t))
+      part =
+          let e : at + firstAt 10 (drop at t) - (at + length key) ≡ firstAt 10 (drop at t) - length key = omega arith in
           rw (e, ← drop-drop (length key) at t) (drop-take (length key) (firstAt 10 (drop at t)) (drop at t))
 
   -- what follows the line
@@ -125,8 +131,10 @@ reference-declared declared n h = go n (passed (referenceFaults declared n) h .w
 pub counter-inside : (g i : NumberRead) → faultNumber (counterFaults g i) ≡ 0 → (numberIn g ≤ 31) × (numberIn i ≤ numberIn g)
 unfolding counterFaults
 counter-inside g i h =
-    let o = passed (counterFaults g i) h .inside in
-    (ltb-false 31 (numberIn g) (or-left (ltb 31 (numberIn g)) (ltb (numberIn g) (numberIn i)) o), ltb-false (numberIn g) (numberIn i) (or-right (ltb 31 (numberIn g)) (ltb (numberIn g) (numberIn i)) o))
+    let o = passed (counterFaults g i) h .inside in (
+      ltb-false 31 (numberIn g) (or-left (ltb 31 (numberIn g)) (ltb (numberIn g) (numberIn i)) o),
+      ltb-false (numberIn g) (numberIn i) (or-right (ltb 31 (numberIn g)) (ltb (numberIn g) (numberIn i)) o),
+    )
 
 pub number-fits : (least greatest : ℕ) (n : NumberRead) → greatest < 256 → faultNumber (numberFaults least greatest n) ≡ 0 → byteIn n ≡ numberIn n
 number-fits least greatest n l h = narrowed-is n (omega (arith, number-inside least greatest n h .1))
@@ -141,8 +149,12 @@ pub initial-fits : (g i : NumberRead) → faultNumber (counterFaults g i) ≡ 0 
 initial-fits g i h = narrowed-is i (omega (arith, counter-inside g i h .0, counter-inside g i h .1))
 
 -- ---- a value parted at its first comma
-pub before-comma : (v : List ℕ) {e : ℕ} {h : List ℕ} {n : NumberRead} → e ≡ 0 + firstAt 44 (drop 0 v) → h ≡ take e v → n ≡ numberOf h → n ≡ greatestOf v
-before-comma v p q r = let k : 0 + firstAt 44 (drop 0 v) ≡ firstAt 44 v = zero-add (firstAt 44 v) in r ∙ rw (q, p, k)
+module _ (v : List ℕ) {e : ℕ} (p : FirstFrom 44 0 v e) where
+  comma-is : e ≡ firstAt 44 v
+  comma-is = p .place ∙ zero-add (firstAt 44 v)
 
-pub after-comma : (v : List ℕ) {e : ℕ} {h : List ℕ} {n : NumberRead} → e ≡ 0 + firstAt 44 (drop 0 v) → h ≡ drop (e + 1) v → n ≡ numberOf h → n ≡ initialOf v
-after-comma v p q r = let k : 0 + firstAt 44 (drop 0 v) ≡ firstAt 44 v = zero-add (firstAt 44 v) in r ∙ rw (q, p, k)
+  pub before-comma : {h : List ℕ} {n : NumberRead} → h ≡ take e v → n ≡ numberOf h → n ≡ greatestOf v
+  before-comma q r = r ∙ rw (q, comma-is)
+
+  pub after-comma : {h : List ℕ} {n : NumberRead} → h ≡ drop (e + 1) v → n ≡ numberOf h → n ≡ initialOf v
+  after-comma q r = r ∙ rw (q, comma-is)

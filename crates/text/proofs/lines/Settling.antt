@@ -41,7 +41,8 @@ unfolding lineNumber
 no-fault true f h = (refl, eqb-true (faultNumber f) 0 h)
 no-fault false f h = absurd (false≢true h)
 
-module _ (key : List ℕ) (faults : Model → List ℕ → Faults) (store : Model → List ℕ → Model) (q : Reading) {t : List ℕ} {r : Reading} {d : Due} {f : Faults} {m : Model}
+module _ (key : List ℕ) (faults : Model → List ℕ → Faults) (store : Model → List ℕ → Model) (q : Reading) {t : List ℕ} {r : Reading} {d : Due} {f : Faults}
+    {m : Model}
     (p : Placed t r) (due : DueLine key t (r .at) d) (fs : f ≡ faults (r .model) (valueIn t d)) (ms : faultNumber f ≡ 0 → m ≡ store (r .model) (valueIn t d))
     (e : told q ≡ settled (told r) d f m) where
   abbrev value : List ℕ
@@ -52,24 +53,25 @@ module _ (key : List ℕ) (faults : Model → List ℕ → Faults) (store : Mode
 
   number-is : number ≡ lineNumber (isDue key (drop (r .at) t)) (faults (r .model) value)
   unfolding lineNumber
-  number-is = rw (← found-is key t (r .at) d (due .is)) (go (d .found) refl)
+  number-is = rw (← found-is due) (go (d .found) refl)
     where
       go : (b : Bool) → d .found ≡ b → cond b (faultNumber f) 2 ≡ cond b (faultNumber (faults (r .model) value)) 2
-      go true h = ap faultNumber (fs ∙ ap (faults (r .model)) (value-is key t (r .at) d (due .is) h))
+      go true h = ap faultNumber (fs ∙ ap (faults (r .model)) (value-is due h))
       go false h = refl
 
   read : eqb number 0 ≡ true → progressAt t (readTo r d m) ≡ advanced (store (r .model) value) (progress t r)
   read h =
       let g = no-fault (d .found) f h in
-      let model = ms (g .1) ∙ ap (store (r .model)) (value-is key t (r .at) d (due .is) (g .0)) in
-      λ i. record { number = 0; line = r .line + 1; rest = next-is key t (r .at) d (due .is) (g .0) i; model = model i }
+      let model = ms (g .1) ∙ ap (store (r .model)) (value-is due (g .0)) in
+      λ i. record { number = 0; line = r .line + 1; rest = next-is due (g .0) i; model = model i }
 
   settle-is : progress t q ≡ readLine key faults store (progress t r)
   unfolding settled readLine
   settle-is = ap (progressAt t) e ∙ go (eqb (lineTold (r .fault)) 0)
     where
       one : (b : Bool) → eqb number 0 ≡ b
-          → progressAt t (cond b (readTo r d m) (refusedAt r number)) ≡ cond b (advanced (store (r .model) value) (progress t r)) (refused number (progress t r))
+          → progressAt t (cond b (readTo r d m) (refusedAt r number))
+          ≡ cond b (advanced (store (r .model) value) (progress t r)) (refused number (progress t r))
       one true h = read h
       one false h = refl
 
@@ -124,8 +126,7 @@ module _ (r : Reading) (d : Due) (f : Faults) (m : Model) {b : Bool} (is : b ≡
     unfolding lineNumber
     told-number = rw g (sym first)
 
-    pub settle-refused : c ≡ false → {q : Reading} → q ≡ record { fault = k; line = r .line; at = r .at; model = r .model }
-        → told q ≡ settled (told r) d f m
+    pub settle-refused : c ≡ false → {q : Reading} → q ≡ record { fault = k; line = r .line; at = r .at; model = r .model } → told q ≡ settled (told r) d f m
     unfolding settled
     settle-refused n e = ap told e ∙ rw (sound h, fault ∙ n, told-number)
 

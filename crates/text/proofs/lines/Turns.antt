@@ -1,5 +1,5 @@
--- Steps of a reading, one after the other.
-use Prim.Native.Nat.{ℕ, _+_, _≤_}
+-- Steps of a reading, one after the other, and the turns of a loop over such steps.
+use Prim.Native.Nat.{ℕ, _+_, _≤_, _<_}
 use mathlib.Core.Path.{_≡_, refl, sym, ap, _∙_}
 use mathlib.Core.List.{List}
 use native.Mathlib.Numerals.{add-one}
@@ -9,23 +9,28 @@ use Rattle.text.specs.lines.Progress.{Progress}
 use Rattle.text.specs.lines.Readings.{Placed, progress, Reads}
 use Rattle.text.specs.lines.Sequence.{inTurn}
 
-module _ (t : List ℕ) where
-  -- four steps, and five
-  pub four : {f g h j : Progress → Progress} {r a b c q : Reading} → Reads f t r a → Reads g t a b → Reads h t b c → Reads j t c q → Reads (λ p. j (h (g (f p)))) t r q
-  four {f} {g} {h} {j} p₁ p₂ p₃ p₄ = record { is = p₄ .is ∙ ap j (p₃ .is ∙ ap h (p₂ .is ∙ ap g (p₁ .is))); placed = p₄ .placed }
+pub next : {t : List ℕ} {f g : Progress → Progress} {r a q : Reading} → Reads f t r a → Reads g t a q → Reads (λ p. g (f p)) t r q
+next {g = g} p q = record { is = q .is ∙ ap g (p .is); placed = q .placed }
 
-  pub five : {f g h j k : Progress → Progress} {r a b c d q : Reading} → Reads f t r a → Reads g t a b → Reads h t b c → Reads j t c d → Reads k t d q → Reads (λ p. k (j (h (g (f p))))) t r q
-  five {f} {g} {h} {j} {k} p₁ p₂ p₃ p₄ p₅ = record { is = p₅ .is ∙ ap k (p₄ .is ∙ ap j (p₃ .is ∙ ap h (p₂ .is ∙ ap g (p₁ .is)))); placed = p₅ .placed }
+-- q is r after i of n turns, as many as r's progress tells
+pub record Turning (f : ℕ → Progress → Progress) (count : Progress → ℕ) (t : List ℕ) (n : ℕ) (r q : Reading) (i : ℕ) : Type 0 where
+  pub most : i ≤ n
+  pub counted : n ≡ count (progress t r)
+  pub turned : Reads (inTurn f i) t r q
 
-  -- the turns of a loop
-  module _ (f : ℕ → Progress → Progress) {r : Reading} where
-    pub turn-none : Placed t r → Reads (inTurn f 0) t r r
-    unfolding inTurn
-    turn-none p = record { is = refl; placed = p }
+pub turn-none : {f : ℕ → Progress → Progress} {count : Progress → ℕ} {t : List ℕ} {n : ℕ} {r : Reading}
+    → Placed t r → n ≡ count (progress t r) → Turning f count t n r r 0
+unfolding inTurn
+turn-none p e = record { most = omega arith; counted = e; turned = record { is = refl; placed = p } }
 
-    pub turn-more : (i : ℕ) {q s : Reading} → Reads (inTurn f i) t r q → Reads (f i) t q s → Reads (inTurn f (i + 1)) t r s
-    unfolding inTurn
-    turn-more i p q = record { is = q .is ∙ ap (f i) (p .is) ∙ ap (λ (n : ℕ). inTurn f n (progress t r)) (sym (add-one i)); placed = q .placed }
+module _ {f : ℕ → Progress → Progress} {count : Progress → ℕ} {t : List ℕ} {n : ℕ} {r q : Reading} {i : ℕ} (h : Turning f count t n r q i) where
+  pub turn-more : {s : Reading} → i < n → Reads (f i) t q s → Turning f count t n r s (i + 1)
+  unfolding inTurn
+  turn-more l p =
+      let again : inTurn f (i + 1) (progress t r) ≡ f i (inTurn f i (progress t r)) = rw (add-one i) in
+      record { most = omega arith; counted = h .counted; turned = record { is = p .is ∙ ap (f i) (h .turned .is) ∙ sym again; placed = p .placed } }
 
-    pub turn-all : (count : Progress → ℕ) (i n : ℕ) → i ≤ n → n ≤ i → n ≡ count (progress t r) → {q : Reading} → Reads (inTurn f i) t r q → Reads (λ p. inTurn f (count p) p) t r q
-    turn-all count i n l g c p = let e : i ≡ count (progress t r) = omega arith in record { is = p .is ∙ ap (λ (k : ℕ). inTurn f k (progress t r)) e; placed = p .placed }
+  pub turn-all : n ≤ i → Reads (λ p. inTurn f (count p) p) t r q
+  turn-all l =
+      let e : i ≡ count (progress t r) = omega (arith, h .most, h .counted) in
+      record { is = h .turned .is ∙ ap (λ (k : ℕ). inTurn f k (progress t r)) e; placed = h .turned .placed }

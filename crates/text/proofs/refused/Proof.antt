@@ -1,3 +1,4 @@
+-- `refused`: the model is the blank one.
 use borrow.Author.Needs.{needs}
 use Rattle.text.proofs.refused.Statement.{statement}
 use Rattle.text.proofs.refused.Tie as tie

@@ -1,16 +1,10 @@
 -- One pass over the items comes to the tests over all items, and to the slots.
 use Prim.Native.Nat.{ℕ}
-use mathlib.Core.Path.{_≡_, refl, sym, _∙_}
+use mathlib.Core.Path.{_≡_, refl, _∙_}
 use mathlib.Core.List.{List, [], _∷_, foldl}
-use mathlib.Core.Bool.{Bool, true, false, cond}
-use native.Mathlib.Omega.{arith}
-use lib.ListN.{length, set, replicate, length-set}
-use lib.Seq.{set-out}
-use lib.Dec.{ltb}
-use borrow.Author.Tests.{ltb-false}
+use lib.ListN.{length, replicate, length-set}
 use Rattle.text.proofs.bytes.Flags.{flag, unflagged, unrising, same-faults}
 use Rattle.text.proofs.Laws.Slots.{put-is}
-use Rattle.model.specs.declared.ClockUpdate.{ClockUpdate}
 use Rattle.model.specs.declared.ClockSlot.{ClockSlot}
 use Rattle.model.specs.Record.{blankReset}
 use Rattle.text.specs.declared.resets.ResetRead.{ResetRead}
@@ -29,11 +23,13 @@ faults-are clocks items =
     (flag step (λ s. s .faults .undeclared) (isUndeclared clocks) (λ s a. refl) items noResets)
     (unrising step (λ s. s .faults .unordered) (λ s. s .least) clockOf (λ s a. refl) (λ s a. refl) items noResets)
 
-slots-are : (clocks : ℕ) (l : List ResetRead) (s : ResetsRead) (slots : List ClockSlot) → length slots ≡ 4 → s .resets ≡ slots → foldl (absorbed clocks) s l .resets ≡ foldl placed slots l
+slots-are : (clocks : ℕ) (l : List ResetRead) (s : ResetsRead) (slots : List ClockSlot) → length slots ≡ 4 → s .resets ≡ slots
+    → foldl (absorbed clocks) s l .resets ≡ foldl placed slots l
 unfolding absorbed put
 slots-are clocks [] s slots n e = e
 slots-are clocks (a ∷ l) s slots n e =
-    slots-are clocks l (absorbed clocks s a) (placed slots a) (length-set slots (clockOf a) (record { update = updateIn a }) ∙ n) (rw e (put-is slots (clockOf a) 4 _ n))
+    slots-are clocks l (absorbed clocks s a) (placed slots a) (length-set slots (clockOf a) (record { update = updateIn a }) ∙ n)
+    (rw e (put-is slots (clockOf a) 4 _ n))
 
 filled : (clocks : ℕ) (items : List ResetRead) → foldl (absorbed clocks) noResets items .resets ≡ resetSlots items
 unfolding resetSlots noResets

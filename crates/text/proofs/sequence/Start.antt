@@ -19,7 +19,10 @@ use Rattle.text.specs.lines.Readings.{ReadsFrom}
 module _ (t : List ℕ) where
   -- a place past the end is the end
   drop-within : (at : ℕ) → drop (min at (length t)) t ≡ drop at t
-  drop-within at = ⊎-elim (λ l. let e : min at (length t) ≡ at = omega arith in rw e) (λ l. let e : min at (length t) ≡ length t = omega arith in ap (λ (n : ℕ). drop n t) e ∙ drop-length t ∙ sym (drop-of-length-le t l)) (lt-or-le at (length t))
+  drop-within at =
+      ⊎-elim (λ l. let e : min at (length t) ≡ at = omega arith in rw e)
+      (λ l. let e : min at (length t) ≡ length t = omega arith in ap (λ (n : ℕ). drop n t) e ∙ drop-length t ∙ sym (drop-of-length-le t l))
+      (lt-or-le at (length t))
 
   pub unread-placed : (at n : ℕ) (r : Reading) → n ≡ min at (length t) → r ≡ record { fault = NoFault; line = 1; at = n; model = blankModel } → Placed t r
   unread-placed at n r p e = rw e (record { counted = omega arith; within = omega arith })
@@ -29,4 +32,8 @@ module _ (t : List ℕ) where
   unfolding readLines
   read-from at n r p e declared edges =
       let s : progress t r ≡ unread (drop at t) = ap (progress t) e ∙ rw (p, drop-within at) in
-      record { is = edges .is ∙ ap readEdges (declared .is) ∙ ap (λ (x : Progress). readEdges (edgesLine (readInvariants (readCounters (readHead x))))) s; within = edges .placed .within }
+      record {
+        is = edges .is ∙ ap readEdges (declared .is)
+            ∙ ap (λ (x : Progress). readEdges (edgesLine (readInvariants (readCounters (readHead x))))) s;
+        within = edges .placed .within;
+      }

@@ -31,5 +31,6 @@ pub minus-read : (n : ℕ) → n ≤ 31 → toZ w8 (ofZ w8 (pos 0 -ℤ toZ w8 n)
 minus-read n h = toZ-ofZ (minus-fits n h) ∙ minus-is n h
 
 -- a sum as it is stored
-pub sum-stored : (v w : ℕ) (negative : Bool) (n : ℕ) {x : ℕ} {y z : ℤ} → x ≡ narrowed w → y ≡ z → z ≡ storedOffset negative n → Sum x y ≡ storedUpdate (ToSum v w negative n)
+pub sum-stored : (v w : ℕ) (negative : Bool) (n : ℕ) {x : ℕ} {y z : ℤ} → x ≡ narrowed w → y ≡ z → z ≡ storedOffset negative n
+    → Sum x y ≡ storedUpdate (ToSum v w negative n)
 sum-stored v w negative n p q r = λ i. Sum (p i) ((q ∙ r) i)

@@ -1,17 +1,15 @@
 -- One pass over the items comes to the tests over all items, and to the slots where none fails.
 use Prim.Native.Nat.{ℕ, _<_}
-use mathlib.Core.Path.{_≡_, refl, sym, _∙_}
+use mathlib.Core.Path.{_≡_, refl, _∙_}
 use mathlib.Core.List.{List, [], _∷_, foldl}
-use mathlib.Core.Bool.{Bool, true, false, cond, _||_}
+use mathlib.Core.Bool.{false}
 use native.Mathlib.Omega.{arith}
-use lib.ListN.{length, set, replicate, length-set}
-use lib.Seq.{set-out}
-use lib.Dec.{ltb, leb, eqb}
-use borrow.Author.Tests.{lt-ltb, leb-false, ltb-false, eqb-true}
+use lib.ListN.{length, replicate, length-set}
+use lib.Dec.{leb}
+use borrow.Author.Tests.{lt-ltb, leb-false, ltb-false}
 use Rattle.text.specs.bytes.Faulty.{faultNumber, anyOf}
 use Rattle.text.proofs.bytes.Flags.{flag, unflagged, unrising, or-right, any-head, any-tail, same-faults, passed, if-faultless}
 use Rattle.text.proofs.Laws.Slots.{put-is}
-use Rattle.model.specs.declared.Update.{Update}
 use Rattle.model.specs.declared.UpdateSlot.{UpdateSlot}
 use Rattle.model.specs.Record.{blankUpdate}
 use Rattle.text.specs.declared.updates.SetRead.{SetRead}
@@ -37,7 +35,8 @@ module _ (vars : ℕ) (p : vars < 256) where
   stored-is (ToConstant v c) o u = rw (lt-ltb c 256 (omega (arith, ltb-false 31 c o)))
   stored-is (ToSum v w negative n) o u = rw (lt-ltb w 256 (omega (arith, leb-false vars w (or-right (leb vars v) (leb vars w) u))), o)
 
-  slots-are : (l : List SetRead) (s : SetsRead) (slots : List UpdateSlot) → length slots ≡ 4 → s .updates ≡ slots → anyOf isOutside l ≡ false → anyOf (isUndeclared vars) l ≡ false
+  slots-are : (l : List SetRead) (s : SetsRead) (slots : List UpdateSlot) → length slots ≡ 4 → s .updates ≡ slots → anyOf isOutside l ≡ false
+      → anyOf (isUndeclared vars) l ≡ false
       → foldl (absorbed vars) s l .updates ≡ foldl placed slots l
   unfolding absorbed put
   slots-are [] s slots n e o u = e

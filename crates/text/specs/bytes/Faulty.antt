@@ -7,7 +7,8 @@ use Rattle.text.specs.declared.bytes.Faults.{Faults}
 use Rattle.text.specs.declared.bytes.LineFault.{LineFault}
 use Rattle.text.specs.declared.bytes.LineFault.the-variants.{NoFault, NotDue, NotOfItsForm, TooManyItems, OutOfRange, NotDeclared, NotRising}
 
--- the number of the first test of a value that fails, or 0. The value is tried whole in this order: 3 not of its form; 7 more than four items in inv or when; 4 number outside its range; 5 location, clock or counter not declared; 6 set or reset not strictly rising.
+-- the number of the first test of a value that fails, or 0. The value is tried whole in this order: 3 not of its form; 7 more than four items in
+-- inv or when; 4 number outside its range; 5 location, clock or counter not declared; 6 set or reset not strictly rising.
 unfoldable pub faultNumber : Faults → ℕ
 faultNumber f = cond (f .malformed) 3 (cond (f .crowded) 7 (cond (f .outside) 4 (cond (f .undeclared) 5 (cond (f .unordered) 6 0))))
 

@@ -6,7 +6,8 @@ use Rattle.text.specs.atoms.Atoms.{atomFaults, atomSlots, invItems, when
 use Rattle.text.specs.updates.Sets.{setFaults, updateSlots, setItems}
 use Rattle.text.specs.resets.Resets.{resetFaults, resetSlots, resetItems}
 use Rattle.text.specs.line.Values.{numberFaults, referenceFaults, greatestOf, initialOf, counterFaults, counterIn}
-use Rattle.text.specs.lines.Store.{withLocations, withInitial, withTarget, withClocks, withVars, withUsed, withCounter, withInvariant, withSource, withEdgeTarget, withGuard, withUpdates, withResets}
+use Rattle.text.specs.lines.Store.{withLocations, withInitial, withTarget, withClocks, withVars, withUsed, withCounter, withInvariant}
+use Rattle.text.specs.lines.Store.{withSource, withEdgeTarget, withGuard, withUpdates, withResets}
 use Rattle.text.specs.lines.Progress.{Progress, readLine}
 
 -- 1 to 16 locations

@@ -9,7 +9,8 @@ use Rattle.text.specs.declared.bytes.Faults.{Faults}
 use Rattle.model.specs.declared.Model.{Model}
 use Rattle.model.specs.Record.{blankModel}
 
--- A reading in progress: the number of its refusal, or 0; the line that is due next, or the one refused, from 1; the bytes that are not read; what was read so far.
+-- A reading in progress: the number of its refusal, or 0; the line that is due next, or the one refused, from 1; the bytes that are not read;
+-- what was read so far.
 pub record Progress : Type 0 where
   pub number : ℕ
   pub line : ℕ
@@ -32,7 +33,8 @@ advanced m p = record { number = 0; line = p .line + 1; rest = after 10 (p .rest
 abbrev pub tried : ℕ → Model → Progress → Progress
 tried number m p = cond (eqb number 0) (advanced m p) (refused number p)
 
--- one due line: its key and =, the faults of its value, and the model that it gives; all but the key look at the model read so far. After a refusal nothing more is read.
+-- one due line: its key and =, the faults of its value, and the model that it gives; all but the key look at the model read so far. After a
+-- refusal nothing more is read.
 unfoldable pub readLine : List ℕ → (Model → List ℕ → Faults) → (Model → List ℕ → Model) → Progress → Progress
 readLine key faults store p =
     cond (eqb (p .number) 0)

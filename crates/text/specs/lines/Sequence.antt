@@ -2,7 +2,8 @@
 use Prim.Native.Nat.{ℕ, zero, suc}
 use mathlib.Core.List.{List}
 use Rattle.text.specs.lines.Progress.{Progress, unread}
-use Rattle.text.specs.lines.Lines.{locationsLine, initLine, targetLine, clocksLine, varsLine, varLine, invLine, edgesLine, fromLine, toLine, whenLine, setLine, resetLine}
+use Rattle.text.specs.lines.Lines.{locationsLine, initLine, targetLine, clocksLine, varsLine, varLine, invLine, edgesLine}
+use Rattle.text.specs.lines.Lines.{fromLine, toLine, whenLine, setLine, resetLine}
 
 -- f 0, then f 1, .., n of them
 unfoldable pub inTurn : {A : Type 0} → (ℕ → A → A) → ℕ → A → A

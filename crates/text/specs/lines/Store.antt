@@ -7,50 +7,70 @@ use Rattle.model.specs.declared.UpdateSlot.{UpdateSlot}
 use Rattle.model.specs.declared.ClockSlot.{ClockSlot}
 use Rattle.model.specs.declared.Counter.{Counter}
 use Rattle.model.specs.declared.Edge.{Edge}
+use Rattle.model.specs.declared.Invariant.{Invariant}
 use Rattle.model.specs.declared.Model.{Model}
 use Rattle.model.specs.Record.{edgeAt}
 
+-- the model, and the edge, of these parts
+abbrev modelOf : ℕ → ℕ → ℕ → ℕ → ℕ → List Counter → List Invariant → ℕ → List Edge → Model
+modelOf l i t c v counters invariants u edges = record {
+  locations = l;
+  initial = i;
+  target = t;
+  clocks = c;
+  vars = v;
+  counters = counters;
+  invariants = invariants;
+  used = u;
+  edges = edges;
+}
+
+abbrev edgeOf : ℕ → ℕ → List AtomSlot → List UpdateSlot → List ClockSlot → Edge
+edgeOf s t guard updates resets = record { source = s; target = t; guard = guard; updates = updates; resets = resets }
+
 -- ---- the numbers of the model
 unfoldable pub withLocations : Model → ℕ → Model
-withLocations m n = record { locations = n; initial = m .initial; target = m .target; clocks = m .clocks; vars = m .vars; counters = m .counters; invariants = m .invariants; used = m .used; edges = m .edges }
+withLocations m n = modelOf n (m .initial) (m .target) (m .clocks) (m .vars) (m .counters) (m .invariants) (m .used) (m .edges)
 
 unfoldable pub withInitial : Model → ℕ → Model
-withInitial m n = record { locations = m .locations; initial = n; target = m .target; clocks = m .clocks; vars = m .vars; counters = m .counters; invariants = m .invariants; used = m .used; edges = m .edges }
+withInitial m n = modelOf (m .locations) n (m .target) (m .clocks) (m .vars) (m .counters) (m .invariants) (m .used) (m .edges)
 
 unfoldable pub withTarget : Model → ℕ → Model
-withTarget m n = record { locations = m .locations; initial = m .initial; target = n; clocks = m .clocks; vars = m .vars; counters = m .counters; invariants = m .invariants; used = m .used; edges = m .edges }
+withTarget m n = modelOf (m .locations) (m .initial) n (m .clocks) (m .vars) (m .counters) (m .invariants) (m .used) (m .edges)
 
 unfoldable pub withClocks : Model → ℕ → Model
-withClocks m n = record { locations = m .locations; initial = m .initial; target = m .target; clocks = n; vars = m .vars; counters = m .counters; invariants = m .invariants; used = m .used; edges = m .edges }
+withClocks m n = modelOf (m .locations) (m .initial) (m .target) n (m .vars) (m .counters) (m .invariants) (m .used) (m .edges)
 
 unfoldable pub withVars : Model → ℕ → Model
-withVars m n = record { locations = m .locations; initial = m .initial; target = m .target; clocks = m .clocks; vars = n; counters = m .counters; invariants = m .invariants; used = m .used; edges = m .edges }
+withVars m n = modelOf (m .locations) (m .initial) (m .target) (m .clocks) n (m .counters) (m .invariants) (m .used) (m .edges)
 
 unfoldable pub withUsed : Model → ℕ → Model
-withUsed m n = record { locations = m .locations; initial = m .initial; target = m .target; clocks = m .clocks; vars = m .vars; counters = m .counters; invariants = m .invariants; used = n; edges = m .edges }
+withUsed m n = modelOf (m .locations) (m .initial) (m .target) (m .clocks) (m .vars) (m .counters) (m .invariants) n (m .edges)
 
 -- ---- a slot of the model
 unfoldable pub withCounter : Model → ℕ → Counter → Model
-withCounter m i c = record { locations = m .locations; initial = m .initial; target = m .target; clocks = m .clocks; vars = m .vars; counters = set (m .counters) i c; invariants = m .invariants; used = m .used; edges = m .edges }
+withCounter m i c = modelOf (m .locations) (m .initial) (m .target) (m .clocks) (m .vars) (set (m .counters) i c) (m .invariants) (m .used) (m .edges)
 
 unfoldable pub withInvariant : Model → ℕ → List AtomSlot → Model
-withInvariant m l atoms = record { locations = m .locations; initial = m .initial; target = m .target; clocks = m .clocks; vars = m .vars; counters = m .counters; invariants = set (m .invariants) l (record { atoms = atoms }); used = m .used; edges = m .edges }
+withInvariant m l atoms =
+    let slots = set (m .invariants) l (record { atoms = atoms }) in
+    modelOf (m .locations) (m .initial) (m .target) (m .clocks) (m .vars) (m .counters) slots (m .used) (m .edges)
 
 unfoldable pub withEdge : Model → ℕ → Edge → Model
-withEdge m e edge = record { locations = m .locations; initial = m .initial; target = m .target; clocks = m .clocks; vars = m .vars; counters = m .counters; invariants = m .invariants; used = m .used; edges = set (m .edges) e edge }
+withEdge m e edge = modelOf (m .locations) (m .initial) (m .target) (m .clocks) (m .vars) (m .counters) (m .invariants) (m .used) (set (m .edges) e edge)
 
 -- ---- a part of edge e
 unfoldable pub withSource : Model → ℕ → ℕ → Model
-withSource m e n = let edge = edgeAt m e in withEdge m e (record { source = n; target = edge .target; guard = edge .guard; updates = edge .updates; resets = edge .resets })
+withSource m e n = let edge = edgeAt m e in withEdge m e (edgeOf n (edge .target) (edge .guard) (edge .updates) (edge .resets))
 
 unfoldable pub withEdgeTarget : Model → ℕ → ℕ → Model
-withEdgeTarget m e n = let edge = edgeAt m e in withEdge m e (record { source = edge .source; target = n; guard = edge .guard; updates = edge .updates; resets = edge .resets })
+withEdgeTarget m e n = let edge = edgeAt m e in withEdge m e (edgeOf (edge .source) n (edge .guard) (edge .updates) (edge .resets))
 
 unfoldable pub withGuard : Model → ℕ → List AtomSlot → Model
-withGuard m e atoms = let edge = edgeAt m e in withEdge m e (record { source = edge .source; target = edge .target; guard = atoms; updates = edge .updates; resets = edge .resets })
+withGuard m e atoms = let edge = edgeAt m e in withEdge m e (edgeOf (edge .source) (edge .target) atoms (edge .updates) (edge .resets))
 
 unfoldable pub withUpdates : Model → ℕ → List UpdateSlot → Model
-withUpdates m e slots = let edge = edgeAt m e in withEdge m e (record { source = edge .source; target = edge .target; guard = edge .guard; updates = slots; resets = edge .resets })
+withUpdates m e slots = let edge = edgeAt m e in withEdge m e (edgeOf (edge .source) (edge .target) (edge .guard) slots (edge .resets))
 
 unfoldable pub withResets : Model → ℕ → List ClockSlot → Model
-withResets m e slots = let edge = edgeAt m e in withEdge m e (record { source = edge .source; target = edge .target; guard = edge .guard; updates = edge .updates; resets = slots })
+withResets m e slots = let edge = edgeAt m e in withEdge m e (edgeOf (edge .source) (edge .target) (edge .guard) (edge .updates) slots)

@@ -1,3 +1,4 @@
+-- `atom_value`: what one pass collects comes to the tests over all items (`by-stages`).
 use Rattle.text.proofs.atoms.Stages.{by-stages}
 use Rattle.text.specs.atoms.OnePass.{collected}
 use mathlib.Core.Path.{_∙_, ap}

@@ -1,3 +1,4 @@
+-- `clock_atom`: case by case; the relation is what the match says.
 use borrow.Author.Needs.{needs}
 use Rattle.text.proofs.atoms.clock_atom.Statement.{statement}
 use Rattle.text.proofs.atoms.clock_atom.Tie as tie
@@ -20,16 +21,5 @@ returns-6 c = rw (c .enum-told6 .given .1)
 pub clock-atom-spec : {M : Type 1} → statement M
 clock-atom-spec =
     tie.close
-    (tie.spec
-    (search needs)
-    (search needs)
-    (search needs)
-    (search needs)
-    (search needs)
-    (search needs)
-    (λ c. search needs)
-    returns-2
-    returns-3
-    returns-4
-    returns-5
-    returns-6)
+    (tie.spec (search needs) (search needs) (search needs) (search needs) (search needs) (search needs)
+    (λ c. search needs) returns-2 returns-3 returns-4 returns-5 returns-6)

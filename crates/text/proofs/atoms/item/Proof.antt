@@ -1,3 +1,4 @@
+-- `item`: the atom as it is, or on clocks alone, by the flag.
 use Rattle.text.specs.atoms.Atoms.{onClocks}
 use mathlib.Core.Path.{_∙_, ap}
 use borrow.Author.Needs.{needs}

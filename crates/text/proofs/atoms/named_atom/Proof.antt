@@ -1,3 +1,4 @@
+-- `named_atom`: the name is x, or v, or neither, as the definition asks in this order.
 use mathlib.Core.Path.{_∙_}
 use borrow.Author.Tests.{eq-eqb, ne-eqb}
 use borrow.Author.Needs.{needs}

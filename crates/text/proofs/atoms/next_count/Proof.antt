@@ -1,3 +1,4 @@
+-- `next_count`: the test of the code decides the definition.
 use borrow.Author.Tests.{lt-ltb, le-ltb}
 use borrow.Author.Needs.{needs}
 use Rattle.text.proofs.atoms.next_count.Statement.{statement}

@@ -1,3 +1,4 @@
+-- `push`: the test of the code decides the definition.
 use Rattle.text.specs.atoms.OnePass.{pushed}
 use borrow.Author.Tests.{lt-ltb, le-ltb}
 use borrow.Author.Needs.{needs}

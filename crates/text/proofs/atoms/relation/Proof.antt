@@ -1,3 +1,4 @@
+-- `relation`: every path through the tests of the two bytes decides the definition on that path.
 use Rattle.text.specs.atoms.Atoms.{relationAt}
 use borrow.Author.Tests.{eq-eqb, ne-eqb}
 use Rattle.text.proofs.atoms.relation.Statement.{statement}
@@ -25,15 +26,33 @@ returns-5 c = rw (ne-eqb _ _ (c .before .before .if1 .left), ne-eqb _ _ (c .befo
 
 returns-6 : tie.Need-returns-6
 unfolding relationAt
-returns-6 c = rw (ne-eqb _ _ (c .before .before .before .before .if1 .left), ne-eqb _ _ (c .before .before .before .if3 .left), ne-eqb _ _ (c .before .before .if5 .left), eq-eqb _ _ (c .before .if6 .taken), eq-eqb _ _ (c .if7 .taken))
+returns-6 c =
+    let b = c .before .before in
+    rw (
+      ne-eqb _ _ (b .before .before .if1 .left),
+      ne-eqb _ _ (b .before .if3 .left),
+      ne-eqb _ _ (b .if5 .left),
+      eq-eqb _ _ (c .before .if6 .taken),
+      eq-eqb _ _ (c .if7 .taken),
+    )
 
 returns-7 : tie.Need-returns-7
 unfolding relationAt
-returns-7 c = rw (ne-eqb _ _ (c .before .before .before .before .if1 .left), ne-eqb _ _ (c .before .before .before .if3 .left), ne-eqb _ _ (c .before .before .if5 .left), eq-eqb _ _ (c .before .if6 .taken), ne-eqb _ _ (c .if7 .left))
+returns-7 c =
+    let b = c .before .before in
+    rw (
+      ne-eqb _ _ (b .before .before .if1 .left),
+      ne-eqb _ _ (b .before .if3 .left),
+      ne-eqb _ _ (b .if5 .left),
+      eq-eqb _ _ (c .before .if6 .taken),
+      ne-eqb _ _ (c .if7 .left),
+    )
 
 returns-8 : tie.Need-returns-8
 unfolding relationAt
-returns-8 c = rw (ne-eqb _ _ (c .before .before .before .if1 .left), ne-eqb _ _ (c .before .before .if3 .left), ne-eqb _ _ (c .before .if5 .left), ne-eqb _ _ (c .if6 .left))
+returns-8 c =
+    let b = c .before .before in
+    rw (ne-eqb _ _ (b .before .if1 .left), ne-eqb _ _ (b .if3 .left), ne-eqb _ _ (c .before .if5 .left), ne-eqb _ _ (c .if6 .left))
 
 pub relation-spec : {M : Type 1} → statement M
 relation-spec =

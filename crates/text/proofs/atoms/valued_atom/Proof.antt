@@ -1,3 +1,4 @@
+-- `valued_atom`: the constant is read, or not.
 use borrow.Author.Needs.{needs}
 use Rattle.text.proofs.atoms.valued_atom.Statement.{statement}
 use Rattle.text.proofs.atoms.valued_atom.Tie as tie
@@ -7,4 +8,5 @@ returns-2 c = rw (c .before .before .c .given .1) (c .related-atom .ensures)
 
 pub valued-atom-spec : {M : Type 1} → statement M
 valued-atom-spec =
-    tie.close (tie.spec (search needs) (search needs) (search needs) (λ c. search needs) returns-2)
+    tie.close
+    (tie.spec (search needs) (search needs) (search needs) (λ c. search needs) returns-2)

@@ -1,3 +1,4 @@
+-- `byte`: past the end the definition gives 0 too.
 use mathlib.Core.Path.{sym}
 use lib.ListN.{List·getD-eq-default}
 use borrow.Author.Needs.{needs}

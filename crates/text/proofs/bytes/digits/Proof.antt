@@ -1,3 +1,4 @@
+-- `digits`: the invariant is that the digits of the whole are those passed and the leading ones of the rest.
 use Prim.Native.Nat.{_+_, _-_, _≤_}
 use mathlib.Core.Path.{_≡_, sym, _∙_}
 use native.Mathlib.Omega.{arith}
@@ -15,10 +16,16 @@ abbrev μ-loop : tie.MeasureT-loop
 μ-loop s i₀ i = length s - i
 
 loop-again : tie.Need-loop-again Inv-loop μ-loop
-loop-again c = let b = c .before .before .before in omega (arith, digitsOf-next (b .before .before .before .args .s .now) (b .before .loop .i) (b .loop-test .taken) (sym (c .before .is-digit .ensures) ∙ c .if1 .taken))
+loop-again c =
+    let b = c .before .before .before in
+    let digit = sym (c .before .is-digit .ensures) ∙ c .if1 .taken in
+    omega (arith, digitsOf-next (b .before .before .before .args .s .now) (b .before .loop .i) (b .loop-test .taken) digit)
 
 returns : tie.Need-returns Inv-loop μ-loop
-returns c = let b = c .before .before .before in omega (arith, digitsOf-here (b .before .before .before .args .s .now) (b .before .loop .i) (b .loop-test .taken) (sym (c .before .is-digit .ensures) ∙ c .if1 .left))
+returns c =
+    let b = c .before .before .before in
+    let other = sym (c .before .is-digit .ensures) ∙ c .if1 .left in
+    omega (arith, digitsOf-here (b .before .before .before .args .s .now) (b .before .loop .i) (b .loop-test .taken) other)
 
 returns-2 : tie.Need-returns-2 Inv-loop μ-loop
 returns-2 c = omega (arith, digitsOf-end (c .before .before .before .args .s .now) (c .before .loop .i) (c .loop-test .left))
@@ -26,14 +33,5 @@ returns-2 c = omega (arith, digitsOf-end (c .before .before .before .args .s .no
 pub digits-spec : {M : Type 1} → statement M
 digits-spec =
     tie.close
-    (tie.spec
-    Inv-loop
-    μ-loop
-    (search needs)
-    (search needs)
-    (search needs)
-    (search needs)
-    (search needs)
-    loop-again
-    returns
-    returns-2)
+    (tie.spec Inv-loop μ-loop (search needs) (search needs) (search needs) (search needs) (search needs)
+    loop-again returns returns-2)

@@ -1,3 +1,4 @@
+-- `find`: the invariant is that the first byte from the start is the first one from here.
 use Prim.Native.Nat.{_+_, _-_, _≤_}
 use mathlib.Core.Path.{_≡_}
 use native.Mathlib.Omega.{arith}
@@ -15,10 +16,16 @@ abbrev μ-loop : tie.MeasureT-loop
 μ-loop s at b i₀ i = length s - i
 
 returns : tie.Need-returns Inv-loop μ-loop
-returns c = let a = c .before .before .before .before .args in omega (arith, firstAt-here (a .b) (a .s .now) (c .before .before .before .loop .i) (c .before .before .loop-test .taken) (c .if1 .taken))
+returns c =
+    let b = c .before .before in
+    let a = b .before .before .args in
+    omega (arith, firstAt-here (a .b) (a .s .now) (b .before .loop .i) (b .loop-test .taken) (c .if1 .taken))
 
 loop-again : tie.Need-loop-again Inv-loop μ-loop
-loop-again c = let a = c .before .before .before .before .args in omega (arith, firstAt-next (a .b) (a .s .now) (c .before .before .before .loop .i) (c .before .before .loop-test .taken) (c .if1 .left))
+loop-again c =
+    let b = c .before .before in
+    let a = b .before .before .args in
+    omega (arith, firstAt-next (a .b) (a .s .now) (b .before .loop .i) (b .loop-test .taken) (c .if1 .left))
 
 returns-2 : tie.Need-returns-2 Inv-loop μ-loop
 returns-2 c = let a = c .before .before .args in omega (arith, firstAt-end (a .b) (a .s .now) (c .before .loop .i) (c .loop-test .left))
@@ -26,13 +33,5 @@ returns-2 c = let a = c .before .before .args in omega (arith, firstAt-end (a .b
 pub find-spec : {M : Type 1} → statement M
 find-spec =
     tie.close
-    (tie.spec
-    Inv-loop
-    μ-loop
-    (search needs)
-    (search needs)
-    returns
-    (search needs)
-    (search needs)
-    loop-again
+    (tie.spec Inv-loop μ-loop (search needs) (search needs) returns (search needs) (search needs) loop-again
     returns-2)

@@ -1,3 +1,4 @@
+-- `head`: all bytes, where the slice has no more.
 use mathlib.Core.Path.{sym}
 use native.Mathlib.Nat.{le-of-lt}
 use lib.Seq.{take-all, length-take-le}

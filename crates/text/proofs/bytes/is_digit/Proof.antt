@@ -1,3 +1,4 @@
+-- `is_digit`: the two tests are those of the definition; the second is not tried where the first fails.
 use borrow.Author.Tests.{le-leb, lt-leb}
 use Rattle.text.proofs.bytes.is_digit.Statement.{statement}
 use Rattle.text.proofs.bytes.is_digit.Tie as tie

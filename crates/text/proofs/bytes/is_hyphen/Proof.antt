@@ -1,3 +1,4 @@
+-- `is_hyphen`: a list of one byte is its first byte; no other list is a hyphen.
 use Rattle.text.proofs.Laws.Bytewise.{isHyphen-one, isHyphen-more}
 use borrow.Author.Needs.{needs}
 use Rattle.text.proofs.bytes.is_hyphen.Statement.{statement}

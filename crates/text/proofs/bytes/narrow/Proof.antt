@@ -1,3 +1,4 @@
+-- `narrow`: the test of the code decides the definition.
 use borrow.Author.Tests.{lt-ltb, le-ltb}
 use borrow.Author.Needs.{needs}
 use Rattle.text.proofs.bytes.narrow.Statement.{statement}

@@ -1,3 +1,4 @@
+-- `number`: a list of one, two or three bytes is made of its bytes; any other is no number.
 use Rattle.text.specs.bytes.Bytes.{numberOf}
 use mathlib.Core.Path.{_∙_, ap}
 use Rattle.text.proofs.Laws.Bytewise.{list1, list2, list3, numberOf-none}
@@ -20,17 +21,5 @@ returns-4 c = numberOf-none _ (c .before .before .if1 .left) (c .before .if2 .le
 pub number-spec : {M : Type 1} → statement M
 number-spec =
     tie.close
-    (tie.spec
-    (search needs)
-    (search needs)
-    returns
-    (search needs)
-    (search needs)
-    (search needs)
-    returns-2
-    (search needs)
-    (search needs)
-    (search needs)
-    (search needs)
-    returns-3
-    returns-4)
+    (tie.spec (search needs) (search needs) returns (search needs) (search needs) (search needs) returns-2
+    (search needs) (search needs) (search needs) (search needs) returns-3 returns-4)

@@ -1,3 +1,4 @@
+-- `number_if`: the flag decides the definition.
 use borrow.Author.Needs.{needs}
 use Rattle.text.proofs.bytes.number_if.Statement.{statement}
 use Rattle.text.proofs.bytes.number_if.Tie as tie

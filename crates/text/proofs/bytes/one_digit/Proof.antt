@@ -1,3 +1,4 @@
+-- `one_digit`: what the calls ensure is what the definition asks of one byte.
 use Rattle.text.specs.bytes.Bytes.{numberOf}
 use borrow.Author.Needs.{needs}
 use Rattle.text.proofs.bytes.one_digit.Statement.{statement}

@@ -10,7 +10,8 @@ returns : tie.Need-returns
 unfolding fromLine
 returns c =
     let b = c .before .before .before .before in
-    reference-reads (b .before .before .before .before .pre) (λ m. withSource m _) (b .reference-due .ensures) (c .before .with-source .ensures) (c .settled .ensures)
+    reference-reads (b .before .before .before .before .pre) (λ m. withSource m _) (b .reference-due .ensures) (c .before .with-source .ensures)
+    (c .settled .ensures)
 
 pub from-line-spec : {M : Type 1} → statement M
 from-line-spec = tie.close (tie.spec (search needs) (search needs) (search needs) (search needs) returns)

@@ -1,4 +1,5 @@
-use Rattle.text.proofs.lines.Turns.{five}
+-- `read_edge`: the five lines of an edge, one step after the other.
+use Rattle.text.proofs.lines.Turns.{next}
 use Rattle.text.specs.lines.Sequence.{readEdge}
 use borrow.Author.Needs.{needs}
 use Rattle.text.proofs.edges.read_edge.Statement.{statement}
@@ -6,15 +7,12 @@ use Rattle.text.proofs.edges.read_edge.Tie as tie
 
 returns : tie.Need-returns
 unfolding readEdge
-returns c = five _ (c .before .before .before .before .from-line .ensures) (c .before .before .before .to-line .ensures) (c .before .before .when-line .ensures) (c .before .set-line .ensures) (c .reset-line .ensures)
+returns c =
+    let b = c .before .before in
+    next (next (next (next (b .before .before .from-line .ensures) (b .before .to-line .ensures)) (b .when-line .ensures)) (c .before .set-line .ensures))
+    (c .reset-line .ensures)
 
 pub read-edge-spec : {M : Type 1} → statement M
 read-edge-spec =
     tie.close
-    (tie.spec
-    (search needs)
-    (search needs)
-    (search needs)
-    (search needs)
-    (search needs)
-    returns)
+    (tie.spec (search needs) (search needs) (search needs) (search needs) (search needs) returns)

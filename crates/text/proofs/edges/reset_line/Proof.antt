@@ -10,8 +10,13 @@ use Rattle.text.proofs.edges.reset_line.Tie as tie
 returns : tie.Need-returns
 unfolding resetLine resetItems
 returns c =
+    let reset-value = c .before .before .before .before .reset-value in
     let b = c .before .before .before .before .before .before in
-    reset-reads (b .before .before .before .before .pre) (b .due-at .ensures) (λ m. withResets m _) (c .before .before .before .before .reset-value .ensures) (c .before .with-resets .ensures) (c .settled .ensures)
+    reset-reads (b .before .before .before .before .pre) (b .due-at .ensures) (λ m. withResets m _) (reset-value .ensures) (c .before .with-resets .ensures)
+    (c .settled .ensures)
 
 pub reset-line-spec : {M : Type 1} → statement M
-reset-line-spec = tie.close (tie.spec (search needs) (search needs) (search needs) (search needs) (search needs) (search needs) (search needs) (search needs) returns)
+reset-line-spec =
+    tie.close
+    (tie.spec (search needs) (search needs) (search needs) (search needs) (search needs) (search needs)
+    (search needs) (search needs) returns)

@@ -10,7 +10,8 @@ returns : tie.Need-returns
 unfolding toLine
 returns c =
     let b = c .before .before .before .before in
-    reference-reads (b .before .before .before .before .pre) (λ m. withEdgeTarget m _) (b .reference-due .ensures) (c .before .with-edge-target .ensures) (c .settled .ensures)
+    reference-reads (b .before .before .before .before .pre) (λ m. withEdgeTarget m _) (b .reference-due .ensures) (c .before .with-edge-target .ensures)
+    (c .settled .ensures)
 
 pub to-line-spec : {M : Type 1} → statement M
 to-line-spec = tie.close (tie.spec (search needs) (search needs) (search needs) (search needs) returns)

@@ -10,8 +10,13 @@ use Rattle.text.proofs.edges.when_line.Tie as tie
 returns : tie.Need-returns
 unfolding whenLine whenItems
 returns c =
+    let atom-value = c .before .before .before .before .atom-value in
     let b = c .before .before .before .before .before .before in
-    atoms-reads (b .before .before .before .before .pre) (b .due-at .ensures) whenItems (λ m. withGuard m _) (c .before .before .before .before .atom-value .ensures) (c .before .with-guard .ensures) (c .settled .ensures)
+    atoms-reads (b .before .before .before .before .pre) (b .due-at .ensures) whenItems (λ m. withGuard m _) (atom-value .ensures)
+    (c .before .with-guard .ensures) (c .settled .ensures)
 
 pub when-line-spec : {M : Type 1} → statement M
-when-line-spec = tie.close (tie.spec (search needs) (search needs) (search needs) (search needs) (search needs) (search needs) (search needs) (search needs) returns)
+when-line-spec =
+    tie.close
+    (tie.spec (search needs) (search needs) (search needs) (search needs) (search needs) (search needs)
+    (search needs) (search needs) returns)

@@ -1,4 +1,5 @@
-use Rattle.text.proofs.lines.Stores.{guard-out}
+-- `with_guard`: the slot is set, or is not there (`edge-out`).
+use Rattle.text.proofs.lines.Stores.{edge-out}
 use Rattle.text.specs.lines.Store.{withGuard, withEdge}
 use Rattle.model.proofs.Known.{lengths}
 use mathlib.Core.Path.{refl}
@@ -12,7 +13,10 @@ unfolding withGuard withEdge
 returns c = refl
 
 returns-2 : tie.Need-returns-2
-returns-2 c = guard-out (c .before .args .m) (c .before .args .e) (omega (arith, lengths (c .before .args .m) _ (c .before .good .0) .edges)) (c .before .args .atoms)
+unfolding withGuard
+returns-2 c =
+    let a = c .before .args in
+    edge-out (a .m) (a .e) _ (omega (arith, lengths (a .m) _ (c .before .good .0) .edges))
 
 pub with-guard-spec : {M : Type 1} → statement M
 with-guard-spec =

@@ -1,4 +1,5 @@
-use Rattle.text.proofs.lines.Stores.{resets-out}
+-- `with_resets`: the slot is set, or is not there (`edge-out`).
+use Rattle.text.proofs.lines.Stores.{edge-out}
 use Rattle.text.specs.lines.Store.{withResets, withEdge}
 use Rattle.model.proofs.Known.{lengths}
 use mathlib.Core.Path.{refl}
@@ -12,7 +13,10 @@ unfolding withResets withEdge
 returns c = refl
 
 returns-2 : tie.Need-returns-2
-returns-2 c = resets-out (c .before .args .m) (c .before .args .e) (omega (arith, lengths (c .before .args .m) _ (c .before .good .0) .edges)) (c .before .args .resets)
+unfolding withResets
+returns-2 c =
+    let a = c .before .args in
+    edge-out (a .m) (a .e) _ (omega (arith, lengths (a .m) _ (c .before .good .0) .edges))
 
 pub with-resets-spec : {M : Type 1} → statement M
 with-resets-spec =

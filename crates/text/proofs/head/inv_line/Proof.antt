@@ -10,8 +10,13 @@ use Rattle.text.proofs.head.inv_line.Tie as tie
 returns : tie.Need-returns
 unfolding invLine invItems
 returns c =
+    let atom-value = c .before .before .before .before .atom-value in
     let b = c .before .before .before .before .before .before in
-    atoms-reads (b .before .before .before .before .pre) (b .due-at .ensures) invItems (λ m. withInvariant m _) (c .before .before .before .before .atom-value .ensures) (c .before .with-invariant .ensures) (c .settled .ensures)
+    atoms-reads (b .before .before .before .before .pre) (b .due-at .ensures) invItems (λ m. withInvariant m _) (atom-value .ensures)
+    (c .before .with-invariant .ensures) (c .settled .ensures)
 
 pub inv-line-spec : {M : Type 1} → statement M
-inv-line-spec = tie.close (tie.spec (search needs) (search needs) (search needs) (search needs) (search needs) (search needs) (search needs) (search needs) returns)
+inv-line-spec =
+    tie.close
+    (tie.spec (search needs) (search needs) (search needs) (search needs) (search needs) (search needs)
+    (search needs) (search needs) returns)

@@ -1,3 +1,4 @@
+-- `with_invariant`: the slot is set, or is not there (`invariant-out`).
 use mathlib.Core.Path.{refl}
 use Rattle.text.proofs.lines.Stores.{invariant-out}
 use Rattle.text.specs.lines.Store.{withInvariant}
@@ -12,7 +13,9 @@ unfolding withInvariant
 returns c = refl
 
 returns-2 : tie.Need-returns-2
-returns-2 c = invariant-out (c .before .args .m) (c .before .args .l) (c .before .args .atoms) (omega (arith, lengths (c .before .args .m) _ (c .before .good .0) .invariants))
+returns-2 c =
+    let a = c .before .args in
+    invariant-out (a .m) (a .l) (a .atoms) (omega (arith, lengths (a .m) _ (c .before .good .0) .invariants))
 
 pub with-invariant-spec : {M : Type 1} → statement M
 with-invariant-spec = tie.close (tie.spec (search needs) (search needs) returns returns-2)

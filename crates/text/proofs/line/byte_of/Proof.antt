@@ -1,3 +1,4 @@
+-- `byte_of`: the number read, narrowed to a byte.
 use mathlib.Core.Path.{_∙_}
 use borrow.Author.Needs.{needs}
 use Rattle.text.proofs.line.byte_of.Statement.{statement}

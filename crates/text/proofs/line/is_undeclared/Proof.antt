@@ -1,3 +1,4 @@
+-- `is_undeclared`: a number is read, or not.
 use borrow.Author.Needs.{needs}
 use Rattle.text.proofs.line.is_undeclared.Statement.{statement}
 use Rattle.text.proofs.line.is_undeclared.Tie as tie

@@ -1,3 +1,4 @@
+-- `lies_outside`: a number is read, or not.
 use borrow.Author.Needs.{needs}
 use Rattle.text.proofs.line.lies_outside.Statement.{statement}
 use Rattle.text.proofs.line.lies_outside.Tie as tie

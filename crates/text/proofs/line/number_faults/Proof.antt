@@ -1,3 +1,4 @@
+-- `number_faults`: flag by flag what the calls ensure.
 use Rattle.text.specs.line.Values.{numberFaults}
 use borrow.Author.Needs.{needs}
 use Rattle.text.proofs.line.number_faults.Statement.{statement}

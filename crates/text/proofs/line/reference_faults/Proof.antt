@@ -1,3 +1,4 @@
+-- `reference_faults`: flag by flag what the calls ensure.
 use Rattle.text.specs.line.Values.{referenceFaults}
 use borrow.Author.Needs.{needs}
 use Rattle.text.proofs.line.reference_faults.Statement.{statement}

@@ -1,3 +1,4 @@
+-- `starts_with`: the invariant is that the rest of the key begins the rest of the bytes if and only if the whole does.
 use Prim.Native.Nat.{_-_, _≤_}
 use mathlib.Core.Path.{_≡_, sym, _∙_}
 use lib.ListN.{length, drop}
@@ -17,10 +18,15 @@ returns : tie.Need-returns Inv-loop μ-loop
 returns c = sym (startsWith-short _ _ _ (c .before .loop-test .taken) (c .if1 .taken)) ∙ c .before .before .loop .inv .1
 
 returns-2 : tie.Need-returns-2 Inv-loop μ-loop
-returns-2 c = sym (startsWith-other _ _ _ (c .before .before .before .before .loop-test .taken) (c .before .before .before .if1 .left) (c .if2 .taken)) ∙ c .before .before .before .before .before .loop .inv .1
+returns-2 c =
+    let b = c .before .before .before .before in
+    sym (startsWith-other _ _ _ (b .loop-test .taken) (c .before .before .before .if1 .left) (c .if2 .taken)) ∙ b .before .loop .inv .1
 
 loop-again : tie.Need-loop-again Inv-loop μ-loop
-loop-again c = (search needs, sym (startsWith-next _ _ _ (c .before .before .before .before .loop-test .taken) (c .before .before .before .if1 .left) (c .if2 .left)) ∙ c .before .before .before .before .before .loop .inv .1)
+loop-again c =
+    let b = c .before .before .before .before in
+    let next = sym (startsWith-next _ _ _ (b .loop-test .taken) (c .before .before .before .if1 .left) (c .if2 .left)) in
+    (search needs, next ∙ b .before .loop .inv .1)
 
 returns-3 : tie.Need-returns-3 Inv-loop μ-loop
 returns-3 c = sym (startsWith-done _ _ _ (c .loop-test .left)) ∙ c .before .loop .inv .1
@@ -28,15 +34,5 @@ returns-3 c = sym (startsWith-done _ _ _ (c .loop-test .left)) ∙ c .before .lo
 pub starts-with-spec : {M : Type 1} → statement M
 starts-with-spec =
     tie.close
-    (tie.spec
-    Inv-loop
-    μ-loop
-    (search needs)
-    returns
-    (search needs)
-    (search needs)
-    returns-2
-    (search needs)
-    (search needs)
-    loop-again
-    returns-3)
+    (tie.spec Inv-loop μ-loop (search needs) returns (search needs) (search needs) returns-2 (search needs)
+    (search needs) loop-again returns-3)

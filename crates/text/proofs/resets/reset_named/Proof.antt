@@ -1,3 +1,4 @@
+-- `reset_named`: the number is read, or not.
 use borrow.Author.Needs.{needs}
 use Rattle.text.proofs.resets.reset_named.Statement.{statement}
 use Rattle.text.proofs.resets.reset_named.Tie as tie

@@ -1,3 +1,4 @@
+-- `reset_value`: what one pass collects comes to the tests over all items (`by-stages`).
 use borrow.Author.Needs.{needs}
 use Rattle.text.proofs.resets.Stages.{by-stages}
 use Rattle.text.specs.resets.OnePass.{collected}

@@ -1,3 +1,4 @@
+-- `unread`: the model is the blank one.
 use borrow.Author.Needs.{needs}
 use Rattle.text.proofs.sequence.unread.Statement.{statement}
 use Rattle.text.proofs.sequence.unread.Tie as tie

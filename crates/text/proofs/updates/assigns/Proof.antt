@@ -1,3 +1,4 @@
+-- `assigns`: the two bytes are those of the definition.
 use borrow.Author.Needs.{needs}
 use Rattle.text.proofs.updates.assigns.Statement.{statement}
 use Rattle.text.proofs.updates.assigns.Tie as tie

@@ -1,3 +1,4 @@
+-- `made_constant`: the number is read, or not.
 use borrow.Author.Needs.{needs}
 use Rattle.text.proofs.updates.made_constant.Statement.{statement}
 use Rattle.text.proofs.updates.made_constant.Tie as tie

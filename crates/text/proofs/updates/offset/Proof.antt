@@ -1,3 +1,4 @@
+-- `offset`: out of range, or a signed byte; minus a number up to 31 does not wrap (`minus-fits`).
 use Rattle.text.proofs.updates.Signed.{minus-fits, minus-read, read-offset}
 use borrow.Author.Tests.{lt-ltb, le-ltb}
 use native.Mathlib.Omega.{arith}

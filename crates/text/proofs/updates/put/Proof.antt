@@ -1,3 +1,4 @@
+-- `put`: the test of the code decides the definition.
 use Rattle.text.specs.updates.OnePass.{put}
 use borrow.Author.Tests.{lt-ltb, le-ltb}
 use borrow.Author.Needs.{needs}

@@ -1,3 +1,4 @@
+-- `set_value`: what one pass collects comes to the tests over all items (`by-stages`).
 use Rattle.text.proofs.updates.Stages.{by-stages}
 use Rattle.text.specs.updates.OnePass.{collected}
 use mathlib.Core.Path.{_∙_, ap}

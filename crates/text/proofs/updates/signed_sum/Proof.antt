@@ -1,3 +1,4 @@
+-- `signed_sum`: plus, minus and a number other than 0, or neither.
 use borrow.Author.Tests.{eq-eqb, ne-eqb}
 use Rattle.text.proofs.updates.signed_sum.Statement.{statement}
 use Rattle.text.proofs.updates.signed_sum.Tie as tie

@@ -1,3 +1,4 @@
+-- `collected`: the test for a fault decides both sides (`fault-test`).
 use mathlib.Core.Path.{_∙_}
 use Rattle.text.proofs.bytes.Flags.{fault-test}
 use Rattle.text.specs.atoms.OnePass.{collected}
@@ -7,11 +8,17 @@ use Rattle.text.proofs.atoms.AtomsRead.collected.Tie as tie
 
 returns : tie.Need-returns
 unfolding collected
-returns c = rw (fault-test (c .before .before .before .before .before .args .self .faults) (c .before .before .before .first .result) (c .before .before .before .first .ensures) (c .before .before .is-none .ensures) ∙ c .before .if1 .taken)
+returns c =
+    let b = c .before .before .before in
+    let none = fault-test (b .before .before .args .self .faults) (b .first .result) (b .first .ensures) (c .before .before .is-none .ensures) in
+    rw (none ∙ c .before .if1 .taken)
 
 returns-2 : tie.Need-returns-2
 unfolding collected
-returns-2 c = rw (fault-test (c .before .before .before .before .args .self .faults) (c .before .before .first .result) (c .before .before .first .ensures) (c .before .is-none .ensures) ∙ c .if1 .left)
+returns-2 c =
+    let b = c .before .before in
+    let some = fault-test (b .before .before .args .self .faults) (b .first .result) (b .first .ensures) (c .before .is-none .ensures) in
+    rw (some ∙ c .if1 .left)
 
 pub collected-spec : {M : Type 1} → statement M
 collected-spec = tie.close (tie.spec (search needs) (search needs) returns returns-2)

@@ -1,3 +1,4 @@
+-- `none`: no faults, no atom, which is what the definition starts with.
 use Rattle.text.specs.atoms.OnePass.{noAtoms}
 use borrow.Author.Needs.{needs}
 use Rattle.text.proofs.atoms.AtomsRead.none.Statement.{statement}

@@ -1,3 +1,4 @@
+-- `is_undeclared`: a clock is named, or none.
 use borrow.Author.Needs.{needs}
 use Rattle.text.proofs.resets.ResetRead.is_undeclared.Statement.{statement}
 use Rattle.text.proofs.resets.ResetRead.is_undeclared.Tie as tie

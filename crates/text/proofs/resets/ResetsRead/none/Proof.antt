@@ -1,3 +1,4 @@
+-- `none`: no faults, no reset, which is what the definition starts with.
 use Rattle.text.specs.resets.OnePass.{noResets}
 use borrow.Author.Needs.{needs}
 use Rattle.text.proofs.resets.ResetsRead.none.Statement.{statement}

@@ -1,3 +1,4 @@
+-- `none`: no faults, no update, which is what the definition starts with.
 use Rattle.text.specs.updates.OnePass.{noSets}
 use borrow.Author.Needs.{needs}
 use Rattle.text.proofs.updates.SetsRead.none.Statement.{statement}

@@ -73,7 +73,8 @@ weaken-atoms : (clocks vars : ℕ) (atoms : List AtomSlot) → T (atomsFormed 0 
 unfolding atomsFormed eachFormed
 weaken-atoms clocks vars atoms h =
     let g = and-T (eachFormed 0 0 atoms) (filledFromFirst atoms) .0 h in
-    let each = all-weaken (λ k. atomFormed 0 0 (atomAt atoms k)) (λ k. atomFormed clocks vars (atomAt atoms k)) 4 (λ k. weaken-atom clocks vars (atomAt atoms k)) (g .0) in
+    let each = all-weaken (λ k. atomFormed 0 0 (atomAt atoms k)) (λ k. atomFormed clocks vars (atomAt atoms k)) 4
+    (λ k. weaken-atom clocks vars (atomAt atoms k)) (g .0) in
     and-T (eachFormed clocks vars atoms) (filledFromFirst atoms) .1 (each, g .1)
 
 keep-formed : (vars : ℕ) (u : Update) (b : Bool) → T (isKeep u) → T (cond b (updateFormed vars u) (isKeep u))
