@@ -56,7 +56,7 @@ returns-3 c =
     let q = p .before .before .before in
     let a = q .before .args in
     let x = room-is _ _ (q .smaller .ensures)
-        (refused-22 (a .m) (a .bound) (q .smaller .result) (now (a .out)) (formed-is p) (p .if2 .left) (n .result) (n .ensures) (c .if3 .taken)) in
+    (refused-22 (a .m) (a .bound) (q .smaller .result) (now (a .out)) (formed-is p) (p .if2 .left) (n .result) (n .ensures) (c .if3 .taken)) in
     (x .report, x .left)
 
 put-list-requires : tie.Need-put-list-requires
@@ -82,8 +82,8 @@ returns-4 c =
     let q = p .before .before .before in
     let a = q .before .args in
     let x = room-is _ _ (q .smaller .ensures)
-        (accepted (a .m) (a .bound) (q .smaller .result) (now (a .out)) (formed-is p) (p .if2 .left) (n .result) (n .ensures) (s .if3 .left) _ _
-        (c .before .put-list .ensures)) in
+    (accepted (a .m) (a .bound) (q .smaller .result) (now (a .out)) (formed-is p) (p .if2 .left) (n .result) (n .ensures) (s .if3 .left) _ _
+    (c .before .put-list .ensures)) in
     (x .report, x .left)
 
 pub emit-within-spec : {M : Type 1} → statement M
