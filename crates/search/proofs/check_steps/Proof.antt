@@ -302,7 +302,7 @@ check-state-requires :
     μ-edges
     Inv-steps
     μ-steps
-check-state-requires c κs = (c .before .before .before .before .before .before .before .before .before .before .before .before .pre .0, c .before .before .before .before .before .before .before .before .before .before .before .before .pre .1, omega (arith, step-small (c .before .before .before .before .before .before .before .before .before .before .before .before .pre .0) (c .before .before .before .before .before .before .steps .o) (c .before .before .before .before .before .before .steps .t) (c .before .before .before .before .before .before .before .before .before .before .before .before .args .bound) (c .before .before .before .before .before .before .steps .inv .1) (c .before .before .before .before .before .steps-test .taken) (c .before .before .before .before .before .before .before .before .before .before .before .before .pre .3), known-bounded (c .before .before .before .before .before .before .before .before .before .before .before .before .pre .0) .state-le, known-bounded (c .before .before .before .before .before .before .before .before .before .before .before .before .pre .0) .choices-le), omega (arith, known-state (c .before .before .before .before .before .before .before .before .before .before .before .before .pre .0), known-choices (c .before .before .before .before .before .before .before .before .before .before .before .before .pre .0), step-lies (c .before .before .before .before .before .before .before .before .before .before .before .before .pre .0) (c .before .before .before .before .before .before .steps .o) (c .before .before .before .before .before .before .steps .t) (c .before .before .before .before .before .before .before .before .before .before .before .before .args .bound) (length (now (c .before .before .before .before .before .before .before .before .before .before .before .before .args .a))) (c .before .before .before .before .before .before .steps .inv .1) (c .before .before .before .before .before .steps-test .taken) (c .before .before .before .before .before .before .before .before .before .before .before .before .pre .4)), omega (arith, wf (c .before .before .before .before .before .before .before .before .before .before .before .before .pre .0) .used-le))
+check-state-requires c κs = (c .before .before .before .before .before .before .before .before .before .before .before .before .pre .0, c .before .before .before .before .before .before .before .before .before .before .before .before .pre .1, omega (arith, step-small (c .before .before .before .before .before .before .before .before .before .before .before .before .pre .0) (c .before .before .before .before .before .before .steps .o) (c .before .before .before .before .before .before .steps .t) (c .before .before .before .before .before .before .before .before .before .before .before .before .args .bound) (c .before .before .before .before .before .before .steps .inv .1) (c .before .before .before .before .before .steps-test .taken) (c .before .before .before .before .before .before .before .before .before .before .before .before .pre .3), known-state (c .before .before .before .before .before .before .before .before .before .before .before .before .pre .0), known-choices (c .before .before .before .before .before .before .before .before .before .before .before .before .pre .0)), omega (arith, known-state (c .before .before .before .before .before .before .before .before .before .before .before .before .pre .0), known-choices (c .before .before .before .before .before .before .before .before .before .before .before .before .pre .0), step-lies (c .before .before .before .before .before .before .before .before .before .before .before .before .pre .0) (c .before .before .before .before .before .before .steps .o) (c .before .before .before .before .before .before .steps .t) (c .before .before .before .before .before .before .before .before .before .before .before .before .args .bound) (length (now (c .before .before .before .before .before .before .before .before .before .before .before .before .args .a))) (c .before .before .before .before .before .before .steps .inv .1) (c .before .before .before .before .before .steps-test .taken) (c .before .before .before .before .before .before .before .before .before .before .before .before .pre .4)), omega (arith, wf (c .before .before .before .before .before .before .before .before .before .before .before .before .pre .0) .used-le))
 
 -- src/lib.rt:92:9
 add-t : tie.Need-add-t Inv-values μ-values Inv-parts μ-parts Inv-edges μ-edges Inv-steps μ-steps
