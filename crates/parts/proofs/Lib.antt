@@ -5,3 +5,4 @@ pub mod PartFits
 pub mod NumberingLaws
 pub mod PartLengths
 pub mod KnownLaws
+pub mod Shifts

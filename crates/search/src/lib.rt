@@ -1,15 +1,15 @@
 // The search for the first clause of the list that an assignment makes false. It stores no list.
-use checks::check_front;
-use checks::check_start;
-use checks::check_state;
+use crate::pieces::check_front;
+use crate::pieces::check_start;
+use crate::pieces::check_state;
+use crate::truth::PieceCheck;
+use crate::truth::check_value;
+use crate::truth::is_true;
 use model::Model;
 use parts::GroupTable;
 use parts::group_table;
 use piece_tables::edge_table;
 use piece_tables::invariant_table;
-use truth::Scan;
-use truth::check_value;
-use truth::is_true;
 ghost use mathlib.Core.Path.{_≡_};
 ghost use Prim.Native.Nat.{_≤_};
 ghost use lib.Dec.{T};
@@ -21,9 +21,12 @@ ghost use Rattle.list.specs.Items.{invariantOf, edgeOf};
 ghost use Rattle.list.specs.Clauses.{oneHotWidth, clauses};
 ghost use Rattle.list.specs.Assignments.{firstFalse};
 ghost use Rattle.piece_tables.specs.Tables.{Table};
-ghost use Rattle.truth.specs.Scanning.{Checked};
+ghost use Rattle.search.specs.Checking.{Checked};
 ghost use Rattle.parts.specs.Pieces.{Known, stepClauses};
 ghost use Rattle.search.specs.Answer.{found};
+
+mod pieces;
+mod truth;
 
 // The index of the first false clause, or none.
 pub enum Found {
@@ -41,7 +44,7 @@ fn check_steps(
     bound: usize,
     a: &[u8],
     at: usize,
-) -> Scan
+) -> PieceCheck
     requires { ⌜ Known m b × Table (invariantOf oneHotWidth m) (m .locations) 16 1024 invariants × Table (edgeOf oneHotWidth m) (m .used) 32 3074 table × (bound ≤ 64) × (length (now a) ≡ variables m bound) × (at ≤ 100000) ⌝ }
     ensures { λ r. ⌜ Checked (now (a .entry)) (each bound (stepClauses m)) at 12800000 r ⌝ }
 {
@@ -93,12 +96,12 @@ fn check_steps(
         t += 1;
     }
     if t < bound {
-        Scan {
+        PieceCheck {
             ok: false,
             at: count,
         }
     } else {
-        Scan {
+        PieceCheck {
             ok: true,
             at: count,
         }

@@ -1,5 +1,5 @@
 use Rattle.model.specs.Automaton.{shifted, newValue}
-use Rattle.truth.proofs.Shifts.{value-some, out-none}
+use Rattle.parts.proofs.Shifts.{value-some, out-none}
 use lib.IntN.{ℤ}
 use mir.Val.{toZ, ofZ}
 use mir.Syntax.{w8}

@@ -10,11 +10,11 @@ use Rattle.list.specs.Items.{blockAt}
 use Rattle.list.specs.Clauses.{oneHotWidth}
 use Rattle.parts.specs.declared.Part.{Part}
 use Rattle.parts.specs.Rules.{valueClauses, Fits}
-use Rattle.truth.proofs.Scans.{Passed, passed-each, passed-each-none, passed-scan, failed-scan, checked-passed, checked-failed}
+use Rattle.search.proofs.CheckLaws.{Passed, passed-each, passed-each-none, passed-check, failed-check, checked-passed, checked-failed}
 use Rattle.piece_tables.proofs.TableLaws.{slots-are}
 use Rattle.parts.specs.Pieces.{edgePiece, edgeClauses, stepClauses}
 use Rattle.parts.proofs.KnownLaws.{wf, known-bounded, known-state, known-choices, known-top, step-in, edge-fits-of}
-use Rattle.search.proofs.StepPieces.{block-next, step-lies, step-small, front-failed, value-failed, state-failed, step-passed, edge-passed, part-passed, edge-skipped}
+use Rattle.search.proofs.StepLaws.{block-next, step-lies, step-small, front-failed, value-failed, state-failed, step-passed, edge-passed, part-passed, edge-skipped}
 use Rattle.model.proofs.FormLaws.{choices-is}
 use borrow.Author.Needs.{needs}
 use Rattle.search.proofs.check_steps.Statement.{statement}
@@ -172,7 +172,7 @@ edges-less c = search needs
 -- src/lib.rt:61:9
 edges-again :
     tie.Need-edges-again Inv-values μ-values Inv-parts μ-parts Inv-edges μ-edges Inv-steps μ-steps
-edges-again c = (omega arith, omega (arith, c .before .before .before .before .before .before .before .before .before .before .before .before .before .before .pre .2 .few (c .before .before .before .edges .e) (c .before .before .edges-test .taken)), edge-skipped (c .before .before .before .before .before .before .before .before .before .before .before .before .before .before .pre .0) (c .before .before .before .before .before .before .before .before .steps .o) (c .before .before .before .before .before .before .before .before .steps .t) (c .before .before .before .before .before .before .before .before .before .before .before .before .before .before .args .bound) (c .before .before .before .before .before .before .before .before .steps .inv .1) (c .before .before .before .before .before .before .before .steps-test .taken) (c .before .before .before .before .before .before .before .before .steps .inv .3) (passed-scan (c .before .before .before .before .before .before .check-front .ensures) (not-false _ (c .before .before .before .before .if1 .left))) (c .before .before .before .edges .e) (c .before .before .before .before .before .before .before .before .steps .o + (c .before .before .before .before .before .before .before .before .before .before .before .before .before .before .args .b .state + c .before .before .before .before .before .before .before .before .before .before .before .before .before .before .args .b .top + 1) + c .before .before .before .edges .e) (c .before .before .edges-test .taken) (omega (arith, known-state (c .before .before .before .before .before .before .before .before .before .before .before .before .before .before .pre .0), known-top (c .before .before .before .before .before .before .before .before .before .before .before .before .before .before .pre .0))) (c .before .before .before .edges .inv .2) (c .before .before .before .before .before .before .before .before .before .before .before .before .before .before .pre .2) (sym (c .before .is-true .ensures) ∙ not-true _ (c .if2 .taken)) refl)
+edges-again c = (omega arith, omega (arith, c .before .before .before .before .before .before .before .before .before .before .before .before .before .before .pre .2 .few (c .before .before .before .edges .e) (c .before .before .edges-test .taken)), edge-skipped (c .before .before .before .before .before .before .before .before .before .before .before .before .before .before .pre .0) (c .before .before .before .before .before .before .before .before .steps .o) (c .before .before .before .before .before .before .before .before .steps .t) (c .before .before .before .before .before .before .before .before .before .before .before .before .before .before .args .bound) (c .before .before .before .before .before .before .before .before .steps .inv .1) (c .before .before .before .before .before .before .before .steps-test .taken) (c .before .before .before .before .before .before .before .before .steps .inv .3) (passed-check (c .before .before .before .before .before .before .check-front .ensures) (not-false _ (c .before .before .before .before .if1 .left))) (c .before .before .before .edges .e) (c .before .before .before .before .before .before .before .before .steps .o + (c .before .before .before .before .before .before .before .before .before .before .before .before .before .before .args .b .state + c .before .before .before .before .before .before .before .before .before .before .before .before .before .before .args .b .top + 1) + c .before .before .before .edges .e) (c .before .before .edges-test .taken) (omega (arith, known-state (c .before .before .before .before .before .before .before .before .before .before .before .before .before .before .pre .0), known-top (c .before .before .before .before .before .before .before .before .before .before .before .before .before .before .pre .0))) (c .before .before .before .edges .inv .2) (c .before .before .before .before .before .before .before .before .before .before .before .before .before .before .pre .2) (sym (c .before .is-true .ensures) ∙ not-true _ (c .if2 .taken)) refl)
 
 -- src/lib.rt:68:24
 mul-edge :
@@ -242,7 +242,7 @@ values-less c = search needs
 -- src/lib.rt:74:17
 values-again :
     tie.Need-values-again Inv-values μ-values Inv-parts μ-parts Inv-edges μ-edges Inv-steps μ-steps
-values-again c = (omega arith, omega (arith, c .before .before .check-value .ensures .most), passed-each _ _ (c .before .before .before .before .values .inv .2) (passed-scan (c .before .before .check-value .ensures) (not-false _ (c .if3 .left))))
+values-again c = (omega arith, omega (arith, c .before .before .check-value .ensures .most), passed-each _ _ (c .before .before .before .before .values .inv .2) (passed-check (c .before .before .check-value .ensures) (not-false _ (c .if3 .left))))
 
 -- src/lib.rt:82:17
 add-j : tie.Need-add-j Inv-values μ-values Inv-parts μ-parts Inv-edges μ-edges Inv-steps μ-steps
@@ -285,7 +285,7 @@ edges-again-2 :
     μ-steps
 edges-again-2 c =
     let done : c .before .parts .j ≡ c .before .before .before .before .before .before .before .before .before .before .before .before .before .before .before .before .before .args .b .groups + 5 = omega arith in
-    (omega arith, omega (arith, known-bounded (c .before .before .before .before .before .before .before .before .before .before .before .before .before .before .before .before .before .pre .0) .groups-le, known-bounded (c .before .before .before .before .before .before .before .before .before .before .before .before .before .before .before .before .before .pre .0) .vars-le), edge-passed (c .before .before .before .before .before .before .before .before .before .before .before .before .before .before .before .before .before .pre .0) (c .before .before .before .before .before .before .before .before .before .before .before .steps .o) (c .before .before .before .before .before .before .before .before .before .before .before .steps .t) (c .before .before .before .before .before .before .before .before .before .before .before .before .before .before .before .before .before .args .bound) (c .before .before .before .before .before .before .before .before .before .before .before .steps .inv .1) (c .before .before .before .before .before .before .before .before .before .before .steps-test .taken) (c .before .before .before .before .before .before .before .before .before .before .before .steps .inv .3) (passed-scan (c .before .before .before .before .before .before .before .before .before .check-front .ensures) (not-false _ (c .before .before .before .before .before .before .before .if1 .left))) (c .before .before .before .before .before .before .edges .e) _ (c .before .before .before .before .before .edges-test .taken) (omega (arith, known-state (c .before .before .before .before .before .before .before .before .before .before .before .before .before .before .before .before .before .pre .0), known-top (c .before .before .before .before .before .before .before .before .before .before .before .before .before .before .before .before .before .pre .0))) (c .before .before .before .before .before .before .edges .inv .2) (rw done at (c .before .parts .inv .2)))
+    (omega arith, omega (arith, known-bounded (c .before .before .before .before .before .before .before .before .before .before .before .before .before .before .before .before .before .pre .0) .groups-le, known-bounded (c .before .before .before .before .before .before .before .before .before .before .before .before .before .before .before .before .before .pre .0) .vars-le), edge-passed (c .before .before .before .before .before .before .before .before .before .before .before .before .before .before .before .before .before .pre .0) (c .before .before .before .before .before .before .before .before .before .before .before .steps .o) (c .before .before .before .before .before .before .before .before .before .before .before .steps .t) (c .before .before .before .before .before .before .before .before .before .before .before .before .before .before .before .before .before .args .bound) (c .before .before .before .before .before .before .before .before .before .before .before .steps .inv .1) (c .before .before .before .before .before .before .before .before .before .before .steps-test .taken) (c .before .before .before .before .before .before .before .before .before .before .before .steps .inv .3) (passed-check (c .before .before .before .before .before .before .before .before .before .check-front .ensures) (not-false _ (c .before .before .before .before .before .before .before .if1 .left))) (c .before .before .before .before .before .before .edges .e) _ (c .before .before .before .before .before .edges-test .taken) (omega (arith, known-state (c .before .before .before .before .before .before .before .before .before .before .before .before .before .before .before .before .before .pre .0), known-top (c .before .before .before .before .before .before .before .before .before .before .before .before .before .before .before .before .before .pre .0))) (c .before .before .before .before .before .before .edges .inv .2) (rw done at (c .before .parts .inv .2)))
 
 -- src/lib.rt:86:9
 add-o : tie.Need-add-o Inv-values μ-values Inv-parts μ-parts Inv-edges μ-edges Inv-steps μ-steps
@@ -318,7 +318,7 @@ steps-again :
     tie.Need-steps-again Inv-values μ-values Inv-parts μ-parts Inv-edges μ-edges Inv-steps μ-steps
 steps-again c =
     let done : c .before .before .before .before .edges .e ≡ c .before .before .before .before .before .before .before .before .before .before .before .before .before .before .before .args .t1 .used = omega arith in
-    (omega arith, block-next (c .before .before .before .before .before .before .before .before .before .before .before .before .before .before .before .pre .0) (c .before .before .before .before .before .before .before .before .before .steps .o) (c .before .before .before .before .before .before .before .before .before .steps .t) (c .before .before .before .before .before .before .before .before .before .steps .inv .1), omega (arith, c .before .before .check-state .ensures .most, wf (c .before .before .before .before .before .before .before .before .before .before .before .before .before .before .before .pre .0) .used-le), step-passed (c .before .before .before .before .before .before .before .before .before .before .before .before .before .before .before .pre .0) (c .before .before .before .before .before .before .before .before .before .steps .o) (c .before .before .before .before .before .before .before .before .before .steps .t) (c .before .before .before .before .before .before .before .before .before .before .before .before .before .before .before .args .bound) (c .before .before .before .before .before .before .before .before .before .steps .inv .1) (c .before .before .before .before .before .before .before .before .steps-test .taken) (c .before .before .before .before .before .before .before .before .before .steps .inv .3) (passed-scan (c .before .before .before .before .before .before .before .check-front .ensures) (not-false _ (c .before .before .before .before .before .if1 .left))) (rw done at (c .before .before .before .before .edges .inv .2)) (passed-scan (c .before .before .check-state .ensures) (not-false _ (c .if4 .left))))
+    (omega arith, block-next (c .before .before .before .before .before .before .before .before .before .before .before .before .before .before .before .pre .0) (c .before .before .before .before .before .before .before .before .before .steps .o) (c .before .before .before .before .before .before .before .before .before .steps .t) (c .before .before .before .before .before .before .before .before .before .steps .inv .1), omega (arith, c .before .before .check-state .ensures .most, wf (c .before .before .before .before .before .before .before .before .before .before .before .before .before .before .before .pre .0) .used-le), step-passed (c .before .before .before .before .before .before .before .before .before .before .before .before .before .before .before .pre .0) (c .before .before .before .before .before .before .before .before .before .steps .o) (c .before .before .before .before .before .before .before .before .before .steps .t) (c .before .before .before .before .before .before .before .before .before .before .before .before .before .before .before .args .bound) (c .before .before .before .before .before .before .before .before .before .steps .inv .1) (c .before .before .before .before .before .before .before .before .steps-test .taken) (c .before .before .before .before .before .before .before .before .before .steps .inv .3) (passed-check (c .before .before .before .before .before .before .before .check-front .ensures) (not-false _ (c .before .before .before .before .before .if1 .left))) (rw done at (c .before .before .before .before .edges .inv .2)) (passed-check (c .before .before .check-state .ensures) (not-false _ (c .if4 .left))))
 
 -- src/lib.rt:35:1
 returns :
@@ -326,10 +326,10 @@ returns :
 returns c =
     let i = c .before .before .steps .inv in
     ⊎-elim (λ w. absurd (omega arith)) (⊎-elim
-    (λ w. rw (w .4) (checked-failed (front-failed (c .before .before .before .before .before .before .before .before .pre .0) (c .before .before .steps .o) (c .before .before .steps .t) (c .before .before .before .before .before .before .before .before .args .bound) (i .1) (w .0 .taken) (i .3) (failed-scan (w .1 .ensures) (not-true _ (w .3 .taken)))) (omega (arith, w .1 .ensures .most, i .2, c .before .before .before .before .before .before .before .before .pre .3))))
+    (λ w. rw (w .4) (checked-failed (front-failed (c .before .before .before .before .before .before .before .before .pre .0) (c .before .before .steps .o) (c .before .before .steps .t) (c .before .before .before .before .before .before .before .before .args .bound) (i .1) (w .0 .taken) (i .3) (failed-check (w .1 .ensures) (not-true _ (w .3 .taken)))) (omega (arith, w .1 .ensures .most, i .2, c .before .before .before .before .before .before .before .before .pre .3))))
     (⊎-elim
-    (λ w. rw (w .17) (checked-failed (value-failed (c .before .before .before .before .before .before .before .before .pre .0) (c .before .before .steps .o) (c .before .before .steps .t) (c .before .before .before .before .before .before .before .before .args .bound) (i .1) (w .0 .taken) (i .3) (passed-scan (w .1 .ensures) (not-false _ (w .3 .left))) (w .4 .e) _ (w .5 .taken) (omega (arith, known-state (c .before .before .before .before .before .before .before .before .pre .0), known-top (c .before .before .before .before .before .before .before .before .pre .0))) (w .4 .inv .2) (w .9 .j) (w .12 .v) (w .10 .taken) (w .9 .inv .2) (w .11 .ensures) (w .13 .taken) (w .12 .inv .2) (failed-scan (w .14 .ensures) (not-true _ (w .16 .taken)))) (omega (arith, w .14 .ensures .most, w .12 .inv .1, w .10 .taken, w .5 .taken, w .0 .taken, c .before .before .before .before .before .before .before .before .pre .3, wf (c .before .before .before .before .before .before .before .before .pre .0) .used-le, known-bounded (c .before .before .before .before .before .before .before .before .pre .0) .groups-le, known-bounded (c .before .before .before .before .before .before .before .before .pre .0) .vars-le, w .13 .taken, edge-fits-of (c .before .before .before .before .before .before .before .before .pre .0) (c .before .before .steps .o) (length (now (c .before .before .before .before .before .before .before .before .args .a))) (step-lies (c .before .before .before .before .before .before .before .before .pre .0) (c .before .before .steps .o) (c .before .before .steps .t) (c .before .before .before .before .before .before .before .before .args .bound) (length (now (c .before .before .before .before .before .before .before .before .args .a))) (i .1) (w .0 .taken) (c .before .before .before .before .before .before .before .before .pre .4)) (w .4 .e) (w .5 .taken) (w .9 .j) (w .10 .taken) .size-le, ap (λ (p : Part). p .size) (w .11 .ensures)))))
-    (λ w. rw (w .9) (checked-failed (state-failed (c .before .before .before .before .before .before .before .before .pre .0) (c .before .before .steps .o) (c .before .before .steps .t) (c .before .before .before .before .before .before .before .before .args .bound) (i .1) (w .0 .taken) (i .3) (passed-scan (w .1 .ensures) (not-false _ (w .3 .left))) (let done : w .4 .e ≡ c .before .before .before .before .before .before .before .before .args .t1 .used = omega (arith, w .4 .inv .0, w .5 .left) in rw done at (w .4 .inv .2)) (failed-scan (w .6 .ensures) (not-true _ (w .8 .taken)))) (omega (arith, w .6 .ensures .most, w .4 .inv .1, w .4 .inv .0, w .0 .taken, c .before .before .before .before .before .before .before .before .pre .3, wf (c .before .before .before .before .before .before .before .before .pre .0) .used-le)))))) (c .before .steps-test .came)
+    (λ w. rw (w .17) (checked-failed (value-failed (c .before .before .before .before .before .before .before .before .pre .0) (c .before .before .steps .o) (c .before .before .steps .t) (c .before .before .before .before .before .before .before .before .args .bound) (i .1) (w .0 .taken) (i .3) (passed-check (w .1 .ensures) (not-false _ (w .3 .left))) (w .4 .e) _ (w .5 .taken) (omega (arith, known-state (c .before .before .before .before .before .before .before .before .pre .0), known-top (c .before .before .before .before .before .before .before .before .pre .0))) (w .4 .inv .2) (w .9 .j) (w .12 .v) (w .10 .taken) (w .9 .inv .2) (w .11 .ensures) (w .13 .taken) (w .12 .inv .2) (failed-check (w .14 .ensures) (not-true _ (w .16 .taken)))) (omega (arith, w .14 .ensures .most, w .12 .inv .1, w .10 .taken, w .5 .taken, w .0 .taken, c .before .before .before .before .before .before .before .before .pre .3, wf (c .before .before .before .before .before .before .before .before .pre .0) .used-le, known-bounded (c .before .before .before .before .before .before .before .before .pre .0) .groups-le, known-bounded (c .before .before .before .before .before .before .before .before .pre .0) .vars-le, w .13 .taken, edge-fits-of (c .before .before .before .before .before .before .before .before .pre .0) (c .before .before .steps .o) (length (now (c .before .before .before .before .before .before .before .before .args .a))) (step-lies (c .before .before .before .before .before .before .before .before .pre .0) (c .before .before .steps .o) (c .before .before .steps .t) (c .before .before .before .before .before .before .before .before .args .bound) (length (now (c .before .before .before .before .before .before .before .before .args .a))) (i .1) (w .0 .taken) (c .before .before .before .before .before .before .before .before .pre .4)) (w .4 .e) (w .5 .taken) (w .9 .j) (w .10 .taken) .size-le, ap (λ (p : Part). p .size) (w .11 .ensures)))))
+    (λ w. rw (w .9) (checked-failed (state-failed (c .before .before .before .before .before .before .before .before .pre .0) (c .before .before .steps .o) (c .before .before .steps .t) (c .before .before .before .before .before .before .before .before .args .bound) (i .1) (w .0 .taken) (i .3) (passed-check (w .1 .ensures) (not-false _ (w .3 .left))) (let done : w .4 .e ≡ c .before .before .before .before .before .before .before .before .args .t1 .used = omega (arith, w .4 .inv .0, w .5 .left) in rw done at (w .4 .inv .2)) (failed-check (w .6 .ensures) (not-true _ (w .8 .taken)))) (omega (arith, w .6 .ensures .most, w .4 .inv .1, w .4 .inv .0, w .0 .taken, c .before .before .before .before .before .before .before .before .pre .3, wf (c .before .before .before .before .before .before .before .before .pre .0) .used-le)))))) (c .before .steps-test .came)
 
 -- src/lib.rt:35:1
 returns-2 :
