@@ -1,9 +1,10 @@
--- A search for the first false clause: what has been passed, and where it stopped.
+-- Checks of pieces of the list: what has been passed, where a check stopped, and checks one after the other, by hand or in a loop.
 use mathlib.Core.Path.{_≡_, refl, sym, ap, subst, _∙_}
 use mathlib.Core.List.{List, [], _∷_, _++_}
 use mathlib.Core.Bool.{Bool, true, false, _||_, cond}
-use Prim.Native.Nat.{ℕ, suc, _+_, _≤_, _<_}
+use Prim.Native.Nat.{ℕ, suc, _+_, _*_, _≤_, _<_}
 use native.Mathlib.Decide.{le-ind}
+use native.Mathlib.Nat.{suc-mul}
 use native.Mathlib.Omega.{arith}
 use borrow.Author.Tests.{lt-ltb, le-ltb, ltb-true, ltb-false, not-true, not-false}
 use lib.ListN.{length, length-append}
@@ -79,7 +80,7 @@ pub clause-failed : (a : List ℕ) (c : Clause) (i : ℕ) → clauseTrue a c ≡
 unfolding trueBefore one
 clause-failed a c i h = record { count = rw h (omega arith); some = rw h (omega arith) }
 
--- ---- a loop that checks a piece a turn
+-- ---- pieces by number
 pub passed-each-none : (a : List ℕ) (f : ℕ → List Clause) (i : ℕ) → Passed a (each 0 f) i i
 passed-each-none a f i = rw (each-zero f) (passed-none a i)
 
@@ -122,6 +123,70 @@ checked-passed p l = record { is = check-passed p; most = l }
 
 pub checked-failed : {a : List ℕ} {cs : List Clause} {i j n : ℕ} → Failed a cs i j → j ≤ i + n → Checked a cs i n (record { ok = false; at = j })
 checked-failed p l = record { is = check-failed p; most = l }
+
+-- an answer that is not ok, or is, by its count
+told-false : (r : PieceCheck) → r .ok ≡ false → r ≡ record { ok = false; at = r .at }
+told-false r h = λ t. record { ok = h t; at = r .at }
+
+told-true : (r : PieceCheck) → r .ok ≡ true → r ≡ record { ok = true; at = r .at }
+told-true r h = λ t. record { ok = h t; at = r .at }
+
+pub checked-failing : {a : List ℕ} {cs : List Clause} {i n : ℕ} {r : PieceCheck} → Failed a cs i (r .at) → r .ok ≡ false → r .at ≤ i + n → Checked a cs i n r
+checked-failing {r} p h l = record { is = told-false r h ∙ check-failed p; most = l }
+
+pub checked-false : (a : List ℕ) (c : Clause) (i : ℕ) → clauseTrue a c ≡ false → Checked a (one c) i 1 (record { ok = false; at = i })
+checked-false a c i h = checked-failed (clause-failed a c i h) (omega arith)
+
+-- the count may rise by more
+pub checked-within : {a : List ℕ} {cs : List Clause} {i n : ℕ} (more : ℕ) {r : PieceCheck} → Checked a cs i n r → n ≤ more → Checked a cs i more r
+checked-within more k l = record { is = k .is; most = omega (arith, k .most) }
+
+-- ---- two checks one after the other
+-- the first check fails
+pub checked-stop : {a : List ℕ} {cs : List Clause} (ds : List Clause) {i n : ℕ} (more : ℕ) {r : PieceCheck}
+    → Checked a cs i n r → r .ok ≡ false → n ≤ more → Checked a (cs ++ ds) i more r
+checked-stop ds more {r} k h l = checked-failing (failed-more ds (failed-check k h)) h (omega (arith, k .most))
+
+-- the first check passes, and the second one answers
+pub checked-then : {a : List ℕ} {cs ds : List Clause} {i j n : ℕ} (more : ℕ) {r : PieceCheck}
+    → Passed a cs i j → Checked a ds j n r → j + n ≤ i + more → Checked a (cs ++ ds) i more r
+checked-then {a} {cs} {ds} {i} more {r} p k l = by (r .ok) refl
+  where
+    by : (b : Bool) → r .ok ≡ b → Checked a (cs ++ ds) i more r
+    by true h = record { is = told-true r h ∙ check-passed (passed-then p (passed-check k h)); most = omega (arith, k .most) }
+    by false h = checked-failing (failed-then p (failed-check k h)) h (omega (arith, k .most))
+
+-- ---- a loop that checks a piece a turn
+-- The first n of N pieces are passed, each of `most` clauses at most.
+pub record Upto (a : List ℕ) (f : ℕ → List Clause) (most i n N j : ℕ) : Type 0 where
+  pub le : n ≤ N
+  pub few : j ≤ i + n * most
+  pub passed : Passed a (each n f) i j
+
+pub upto-none : {a : List ℕ} {f : ℕ → List Clause} {most i N : ℕ} → Upto a f most i 0 N i
+upto-none {a} {f} {most} {i} = record { le = omega arith; few = omega arith; passed = passed-each-none a f i }
+
+module _ {a : List ℕ} {f : ℕ → List Clause} {most i n N j : ℕ} (u : Upto a f most i n N j) where
+  -- the next piece is passed
+  pub upto-over : {k : ℕ} → n < N → Passed a (f n) j k → k ≤ j + most → Upto a f most i (n + 1) N k
+  upto-over l p h = record { le = omega arith; few = omega (arith, u .few, suc-mul n most); passed = passed-each f n (u .passed) p }
+
+  pub upto-next : {r : PieceCheck} → n < N → Checked a (f n) j most r → r .ok ≡ true → Upto a f most i (n + 1) N (r .at)
+  upto-next l k h = upto-over l (passed-check k h) (k .most)
+
+  -- the next piece has a false clause
+  pub upto-failed : {r : PieceCheck} (more : ℕ) → n < N → Checked a (f n) j most r → r .ok ≡ false → (n + 1) * most ≤ more → Checked a (each N f) i more r
+  upto-failed more l k h s =
+      checked-failing (failed-each f n N l (u .passed) (failed-check k h)) h (omega (arith, u .few, k .most, suc-mul n most))
+
+  -- all are passed
+  pub upto-all : N ≤ n → Passed a (each N f) i j
+  upto-all l =
+      let e : n ≡ N = omega (arith, u .le) in
+      rw e at (u .passed)
+
+  pub upto-done : (more : ℕ) → N ≤ n → n * most ≤ more → Checked a (each N f) i more (record { ok = true; at = j })
+  upto-done more l s = checked-passed (upto-all l) (omega (arith, u .few))
 
 -- ---- the truth of a clause
 pub or-false : (b : Bool) → (b || false) ≡ b

@@ -7,7 +7,7 @@ use model::AtomSlot;
 use model::Model;
 use parts::GroupTable;
 ghost use mathlib.Core.Path.{_≡_};
-ghost use Prim.Native.Nat.{ℕ, _+_, _<_, _≤_};
+ghost use Prim.Native.Nat.{ℕ, _+_, _*_, _<_, _≤_};
 ghost use lib.Dec.{T};
 ghost use lib.ListN.{length};
 ghost use Rattle.model.specs.Indexed.{each};
@@ -17,6 +17,7 @@ ghost use Rattle.model.specs.Form.{wellFormed};
 ghost use Rattle.list.specs.Items.{stateItems, initialItems, startItems, invariantOf};
 ghost use Rattle.list.specs.Clauses.{oneHotWidth, clausesOf};
 ghost use Rattle.search.specs.Checking.{Checked};
+ghost use Rattle.search.specs.Limits.{mostPartClauses, mostBlockClauses, mostInvariantClauses, mostStateClauses, mostStartClauses, mostDelayClauses, mostFrontClauses, mostClauses};
 ghost use Rattle.parts.specs.Rules.{Fits};
 ghost use Rattle.piece_tables.specs.Tables.{Table};
 ghost use Rattle.parts.specs.Numbering.{mostVariables};
@@ -26,24 +27,18 @@ ghost use Rattle.parts.specs.Pieces.{Known, BlockIn, StepIn, groupPiece, atomPi
 
 // The group clauses of the state block that begins at `o`.
 fn check_groups(b: GroupTable, a: &[u8], o: usize, at: usize) -> PieceCheck
-    requires { ⌜ BlockIn b o (length (now a)) × (at ≤ 900000000) ⌝ }
-    ensures { λ r. ⌜ Checked (now (a .entry)) (each (b .groups) (groupPiece b o)) at 37800 r ⌝ }
+    requires { ⌜ BlockIn b o (length (now a)) × (at + mostBlockClauses ≤ mostClauses) ⌝ }
+    ensures { λ r. ⌜ Checked (now (a .entry)) (each (b .groups) (groupPiece b o)) at mostBlockClauses r ⌝ }
 {
-    let n = b.groups;
     let mut count = at;
-    let mut g = 0;
-    while g < n {
+    for g in 0..b.groups {
         let first = b.first[g] as usize;
         let size = b.size[g] as usize;
         let s = check_group(a, o + first, size, count);
-        count = s.at;
         if !s.ok {
-            return PieceCheck {
-                ok: false,
-                at: count,
-            };
+            return s;
         }
-        g += 1;
+        count = s.at;
     }
     PieceCheck {
         ok: true,
@@ -52,24 +47,26 @@ fn check_groups(b: GroupTable, a: &[u8], o: usize, at: usize) -> PieceCheck
 }
 
 // The clauses of the atoms of an invariant, for the location with variable `x`.
-fn check_atoms(b: GroupTable, a: &[u8], o: usize, x: usize, atoms: [AtomSlot; 4], at: usize) -> PieceCheck
-    requires { ⌜ Bounded b × (o ≤ mostVariables) × (x < length (now a)) × ((k : ℕ) → k < 4 → Fits (atomPart b o (atomAt atoms k)) (length (now a))) × (at ≤ 800000000) ⌝ }
-    ensures { λ r. ⌜ Checked (now (a .entry)) (each 4 (atomPiece b o x atoms)) at 128 r ⌝ }
+fn check_atoms(
+    b: GroupTable,
+    a: &[u8],
+    o: usize,
+    x: usize,
+    atoms: [AtomSlot; Model::ATOMS],
+    at: usize,
+) -> PieceCheck
+    requires { ⌜ Bounded b × (o ≤ mostVariables) × (x < length (now a)) × ((k : ℕ) → k < 4 → Fits (atomPart b o (atomAt atoms k)) (length (now a))) × (at + 4 * mostPartClauses ≤ mostClauses) ⌝ }
+    ensures { λ r. ⌜ Checked (now (a .entry)) (each 4 (atomPiece b o x atoms)) at (4 * mostPartClauses) r ⌝ }
 {
     let mut count = at;
-    let mut k = 0;
-    while k < 4 {
+    for k in 0..Model::ATOMS {
         let slot = atoms[k];
         let atom = slot.atom;
         let s = check_part(a, x, b.atom_part(o, atom), count);
-        count = s.at;
         if !s.ok {
-            return PieceCheck {
-                ok: false,
-                at: count,
-            };
+            return s;
         }
-        k += 1;
+        count = s.at;
     }
     PieceCheck {
         ok: true,
@@ -82,38 +79,31 @@ fn check_atoms(b: GroupTable, a: &[u8], o: usize, x: usize, atoms: [AtomSlot; 4]
 pub fn check_state(
     m: Model,
     b: GroupTable,
-    table: [usize; 16],
+    table: [usize; Model::LOCATIONS],
     a: &[u8],
     o: usize,
     at: usize,
 ) -> PieceCheck
-    requires { ⌜ Known m b × Table (invariantOf oneHotWidth m) (m .locations) 16 1024 table × (o ≤ mostVariables) × (o + stateSize m ≤ length (now a)) × (at ≤ 600000000) ⌝ }
-    ensures { λ r. ⌜ Checked (now (a .entry)) (clausesOf (stateItems oneHotWidth m o)) at 60000 r ⌝ }
+    requires { ⌜ Known m b × Table (invariantOf oneHotWidth m) (m .locations) 16 mostInvariantClauses table × (o ≤ mostVariables) × (o + stateSize m ≤ length (now a)) × (at + mostStateClauses ≤ mostClauses) ⌝ }
+    ensures { λ r. ⌜ Checked (now (a .entry)) (clausesOf (stateItems oneHotWidth m o)) at mostStateClauses r ⌝ }
 {
     let s = check_groups(b, a, o, at);
     if !s.ok {
         return s;
     }
-    let n = m.locations as usize;
     let mut count = s.at;
-    let mut l = 0;
-    while l < n {
+    for l in 0..m.locations as usize {
         if !is_true(a, o + l) {
             count += table[l];
-            l += 1;
             continue;
         }
         let v = m.invariants[l];
         let atoms = v.atoms;
-        let z = check_atoms(b, a, o, o + l, atoms, count);
-        count = z.at;
-        if !z.ok {
-            return PieceCheck {
-                ok: false,
-                at: count,
-            };
+        let c = check_atoms(b, a, o, o + l, atoms, count);
+        if !c.ok {
+            return c;
         }
-        l += 1;
+        count = c.at;
     }
     PieceCheck {
         ok: true,
@@ -139,13 +129,11 @@ fn initial_value(m: Model, g: usize) -> u8
 
 // The clauses of the initial values.
 fn check_initial(m: Model, b: GroupTable, a: &[u8], at: usize) -> PieceCheck
-    requires { ⌜ Known m b × (stateSize m ≤ length (now a)) × (at ≤ 900000000) ⌝ }
+    requires { ⌜ Known m b × (stateSize m ≤ length (now a)) × (at + 9 ≤ mostClauses) ⌝ }
     ensures { λ r. ⌜ Checked (now (a .entry)) (clausesOf (initialItems oneHotWidth m)) at 9 r ⌝ }
 {
-    let n = b.groups;
     let mut count = at;
-    let mut g = 0;
-    while g < n {
+    for g in 0..b.groups {
         let first = b.first[g] as usize;
         let value = initial_value(m, g);
         if !is_true(a, first + value as usize) {
@@ -155,7 +143,6 @@ fn check_initial(m: Model, b: GroupTable, a: &[u8], at: usize) -> PieceCheck
             };
         }
         count += 1;
-        g += 1;
     }
     PieceCheck {
         ok: true,
@@ -164,9 +151,14 @@ fn check_initial(m: Model, b: GroupTable, a: &[u8], at: usize) -> PieceCheck
 }
 
 // The clauses of the start.
-pub fn check_start(m: Model, b: GroupTable, table: [usize; 16], a: &[u8]) -> PieceCheck
-    requires { ⌜ Known m b × Table (invariantOf oneHotWidth m) (m .locations) 16 1024 table × (stateSize m ≤ length (now a)) ⌝ }
-    ensures { λ r. ⌜ Checked (now (a .entry)) (clausesOf (startItems oneHotWidth m)) 0 70000 r ⌝ }
+pub fn check_start(
+    m: Model,
+    b: GroupTable,
+    table: [usize; Model::LOCATIONS],
+    a: &[u8],
+) -> PieceCheck
+    requires { ⌜ Known m b × Table (invariantOf oneHotWidth m) (m .locations) 16 mostInvariantClauses table × (stateSize m ≤ length (now a)) ⌝ }
+    ensures { λ r. ⌜ Checked (now (a .entry)) (clausesOf (startItems oneHotWidth m)) 0 mostStartClauses r ⌝ }
 {
     let s = check_state(m, b, table, a, 0, 0);
     if !s.ok {
@@ -177,23 +169,17 @@ pub fn check_start(m: Model, b: GroupTable, table: [usize; 16], a: &[u8]) -> Pie
 
 // The clauses of delay `d` from the state block that begins at `o`.
 fn check_delay(b: GroupTable, a: &[u8], o: usize, d: u8, at: usize) -> PieceCheck
-    requires { ⌜ Bounded b × (o ≤ mostVariables) × StepIn b o (length (now a)) × (d ≤ b .top) × (at ≤ 800000000) ⌝ }
-    ensures { λ r. ⌜ Checked (now (a .entry)) (each (b .groups) (delayPiece b o d)) at 288 r ⌝ }
+    requires { ⌜ Bounded b × (o ≤ mostVariables) × StepIn b o (length (now a)) × (d ≤ b .top) × (at + mostDelayClauses ≤ mostClauses) ⌝ }
+    ensures { λ r. ⌜ Checked (now (a .entry)) (each (b .groups) (delayPiece b o d)) at mostDelayClauses r ⌝ }
 {
-    let n = b.groups;
     let x = o + b.state + d as usize;
     let mut count = at;
-    let mut g = 0;
-    while g < n {
+    for g in 0..b.groups {
         let s = check_part(a, x, b.delay_part(o, d, g), count);
-        count = s.at;
         if !s.ok {
-            return PieceCheck {
-                ok: false,
-                at: count,
-            };
+            return s;
         }
-        g += 1;
+        count = s.at;
     }
     PieceCheck {
         ok: true,
@@ -204,27 +190,20 @@ fn check_delay(b: GroupTable, a: &[u8], o: usize, d: u8, at: usize) -> PieceChec
 // The clauses of all delays from the state block that begins at `o`. All clauses of a delay that is false are true, one for
 // each member of the state block.
 fn check_delays(b: GroupTable, a: &[u8], o: usize, at: usize) -> PieceCheck
-    requires { ⌜ Bounded b × (o ≤ mostVariables) × StepIn b o (length (now a)) × (at ≤ 700000000) ⌝ }
-    ensures { λ r. ⌜ Checked (now (a .entry)) (each (b .top + 1) (delayPieces b o)) at 9216 r ⌝ }
+    requires { ⌜ Bounded b × (o ≤ mostVariables) × StepIn b o (length (now a)) × (at + 32 * mostDelayClauses ≤ mostClauses) ⌝ }
+    ensures { λ r. ⌜ Checked (now (a .entry)) (each (b .top + 1) (delayPieces b o)) at (32 * mostDelayClauses) r ⌝ }
 {
-    let n = b.top as usize + 1;
     let mut count = at;
-    let mut d = 0;
-    while d < n {
+    for d in 0..b.top as usize + 1 {
         if !is_true(a, o + b.state + d) {
             count += b.state;
-            d += 1;
             continue;
         }
         let s = check_delay(b, a, o, d as u8, count);
-        count = s.at;
         if !s.ok {
-            return PieceCheck {
-                ok: false,
-                at: count,
-            };
+            return s;
         }
-        d += 1;
+        count = s.at;
     }
     PieceCheck {
         ok: true,
@@ -234,8 +213,8 @@ fn check_delays(b: GroupTable, a: &[u8], o: usize, at: usize) -> PieceCheck
 
 // The clauses of a step up to its edges: the choice's group, then the delays.
 pub fn check_front(b: GroupTable, a: &[u8], o: usize, at: usize) -> PieceCheck
-    requires { ⌜ Bounded b × (o ≤ mostVariables) × StepIn b o (length (now a)) × (at ≤ 600000000) ⌝ }
-    ensures { λ r. ⌜ Checked (now (a .entry)) (frontPiece b o) at 13500 r ⌝ }
+    requires { ⌜ Bounded b × (o ≤ mostVariables) × StepIn b o (length (now a)) × (at + mostFrontClauses ≤ mostClauses) ⌝ }
+    ensures { λ r. ⌜ Checked (now (a .entry)) (frontPiece b o) at mostFrontClauses r ⌝ }
 {
     let s = check_group(a, o + b.state, b.choices, at);
     if !s.ok {

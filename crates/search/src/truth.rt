@@ -4,13 +4,15 @@ use new_values::NewValue;
 use new_values::shift;
 use parts::Part;
 use parts::Rule;
+use parts::smaller;
 ghost use mathlib.Core.Path.{_≡_};
 ghost use mathlib.Core.List.{List, [], _∷_};
-ghost use Prim.Native.Nat.{ℕ, _+_, _<_, _≤_, min};
+ghost use Prim.Native.Nat.{ℕ, _+_, _<_, _≤_};
 ghost use lib.ListN.{length};
 ghost use Rattle.list.specs.Clauses.{bare, negated, members, groupClauses};
 ghost use Rattle.list.specs.Assignments.{bit, clauseTrue};
 ghost use Rattle.search.specs.Checking.{Checked, counted};
+ghost use Rattle.search.specs.Limits.{mostGroupClauses, mostPartClauses, mostClauses};
 ghost use Rattle.parts.specs.Rules.{ruleClauses, valueClauses, partClauses, Fits};
 
 // A piece of the list has been checked: whether all its clauses are true, and the count of clauses where the check stopped.
@@ -77,7 +79,7 @@ fn members_true(a: &[u8], b: usize, n: usize) -> bool
 
 // One clause has been looked at.
 fn counted(ok: bool, at: usize) -> PieceCheck
-    requires { ⌜ at ≤ 1000000000 ⌝ }
+    requires { ⌜ at < mostClauses ⌝ }
     ensures { λ r. ⌜ r ≡ counted ok at ⌝ }
 {
     if ok {
@@ -92,42 +94,33 @@ fn counted(ok: bool, at: usize) -> PieceCheck
 
 // Checks a group's clauses, counting on from `at`. All pairs of a member that is false are true.
 pub fn check_group(a: &[u8], b: usize, n: usize, at: usize) -> PieceCheck
-    requires { ⌜ (b + n ≤ length (now a)) × (n ≤ 64) × (at ≤ 1000000000) ⌝ }
-    ensures { λ r. ⌜ Checked (now (a .entry)) (groupClauses b n) at 4200 r ⌝ }
+    requires { ⌜ (b + n ≤ length (now a)) × (n ≤ 64) × (at + mostGroupClauses ≤ mostClauses) ⌝ }
+    ensures { λ r. ⌜ Checked (now (a .entry)) (groupClauses b n) at mostGroupClauses r ⌝ }
 {
     if !members_true(a, b, n) {
         return PieceCheck { ok: false, at };
     }
-    let mut o = at + 1;
-    let mut i = 0;
-    'lower: while i < n {
-        let m = n - (i + 1);
+    let mut count = at + 1;
+    'lower: for i in 0..n {
+        let rest = n - (i + 1);
         if !is_true(a, b + i) {
-            o += m;
-            i += 1;
+            count += rest;
             continue 'lower;
         }
-        let mut d = 0;
-        'upper: while d < m {
+        'upper: for d in 0..rest {
             if !not_both(a, b + i, b + i + 1 + d) {
-                break 'lower;
+                return PieceCheck {
+                    ok: false,
+                    at: count,
+                };
             }
-            o += 1;
-            d += 1;
+            count += 1;
         }
-        i += 1;
     }
-    if i < n {
-        PieceCheck { ok: false, at: o }
-    } else {
-        PieceCheck { ok: true, at: o }
+    PieceCheck {
+        ok: true,
+        at: count,
     }
-}
-
-fn smaller(a: usize, b: usize) -> usize
-    ensures { λ r. ⌜ r ≡ min a b ⌝ }
-{
-    if a < b { a } else { b }
 }
 
 // Checks the clause that rules value `v` out if it fails the comparison.
@@ -140,7 +133,7 @@ fn check_excluded(
     constant: u8,
     at: usize,
 ) -> PieceCheck
-    requires { ⌜ (x < length (now a)) × (y < length (now a)) × (at ≤ 1000000000) ⌝ }
+    requires { ⌜ (x < length (now a)) × (y < length (now a)) × (at < mostClauses) ⌝ }
     ensures { λ r. ⌜ Checked (now (a .entry)) (ruleClauses x y 0 v (Rule.Exclude relation constant)) at 1 r ⌝ }
 {
     if relation.holds(v, constant) {
@@ -160,7 +153,7 @@ fn check_shifted(
     greatest: u8,
     at: usize,
 ) -> PieceCheck
-    requires { ⌜ (x < length (now a)) × (y < length (now a)) × (after + greatest < length (now a)) × (at ≤ 1000000000) ⌝ }
+    requires { ⌜ (x < length (now a)) × (y < length (now a)) × (after + greatest < length (now a)) × (at < mostClauses) ⌝ }
     ensures { λ r. ⌜ Checked (now (a .entry)) (ruleClauses x y after v (Rule.Shift offset greatest)) at 1 r ⌝ }
 {
     match shift(v, offset, greatest) {
@@ -171,7 +164,7 @@ fn check_shifted(
 
 // Checks the clauses of a part for value `v`.
 pub fn check_value(a: &[u8], x: usize, p: Part, v: usize, at: usize) -> PieceCheck
-    requires { ⌜ (x < length (now a)) × Fits p (length (now a)) × (v < p .size) × (at ≤ 1000000000) ⌝ }
+    requires { ⌜ (x < length (now a)) × Fits p (length (now a)) × (v < p .size) × (at < mostClauses) ⌝ }
     ensures { λ r. ⌜ Checked (now (a .entry)) (valueClauses x p v) at 1 r ⌝ }
 {
     let y = p.before + v;
@@ -196,19 +189,19 @@ pub fn check_value(a: &[u8], x: usize, p: Part, v: usize, at: usize) -> PieceChe
 
 // Checks the clauses of a part, value after value.
 pub fn check_part(a: &[u8], x: usize, p: Part, at: usize) -> PieceCheck
-    requires { ⌜ (x < length (now a)) × Fits p (length (now a)) × (at ≤ 900000000) ⌝ }
-    ensures { λ r. ⌜ Checked (now (a .entry)) (partClauses x p) at 32 r ⌝ }
+    requires { ⌜ (x < length (now a)) × Fits p (length (now a)) × (at + mostPartClauses ≤ mostClauses) ⌝ }
+    ensures { λ r. ⌜ Checked (now (a .entry)) (partClauses x p) at mostPartClauses r ⌝ }
 {
-    let n = p.size;
-    let mut o = at;
-    let mut v = 0;
-    while v < n {
-        let s = check_value(a, x, p, v, o);
-        o = s.at;
+    let mut count = at;
+    for v in 0..p.size {
+        let s = check_value(a, x, p, v, count);
         if !s.ok {
-            return PieceCheck { ok: false, at: o };
+            return s;
         }
-        v += 1;
+        count = s.at;
     }
-    PieceCheck { ok: true, at: o }
+    PieceCheck {
+        ok: true,
+        at: count,
+    }
 }

@@ -1,26 +1,27 @@
-use Rattle.parts.specs.Rules.{partClauses, Fits}
-use Rattle.parts.specs.declared.Part.{Part}
-use borrow.Author.Needs.{needs}
-use Rattle.parts.specs.Pieces.{atomPiece}
-use Rattle.search.proofs.CheckLaws.{Passed, passed-each, passed-each-none, failed-each, passed-check, failed-check, checked-passed, checked-failed, checked-as}
-use Rattle.model.specs.Indexed.{each}
-use lib.ListN.{length}
-use denote.Ref.{now}
-use borrow.Author.Tests.{not-true, not-false}
-use Prim.Native.Nat.{_+_, _*_, _-_, _≤_}
-use mathlib.Core.Path.{_≡_, sym, ap, subst}
+-- check_atoms: a loop of checks over the parts of the atoms.
+use mathlib.Core.Path.{ap, subst, sym}
+use Prim.Native.Nat.{_*_, _-_}
 use native.Mathlib.Omega.{arith}
+use borrow.Author.Needs.{needs}
+use borrow.Author.Tests.{not-false, not-true}
+use denote.Ref.{now}
+use lib.ListN.{length}
+use Rattle.parts.specs.Pieces.{atomPiece}
+use Rattle.parts.specs.Rules.{Fits, partClauses}
+use Rattle.parts.specs.declared.Part.{Part}
+use Rattle.search.proofs.CheckLaws.{Upto, checked-as, upto-done, upto-failed, upto-next, upto-none}
+use Rattle.search.specs.Limits.{mostPartClauses}
 use Rattle.search.proofs.pieces.check_atoms.Statement.{statement}
 use Rattle.search.proofs.pieces.check_atoms.Tie as tie
 
 abbrev Inv-loop : tie.InvT-loop
-Inv-loop b a o x at atoms count₀ k₀ count k = (k ≤ 4) × (count ≤ at + k * 32) × Passed a (each k (atomPiece b o x atoms)) at count
+Inv-loop b a o x at atoms count₀ k₀ count k = Upto a (atomPiece b o x atoms) mostPartClauses at k 4 count
 
 abbrev μ-loop : tie.MeasureT-loop
 μ-loop b a o x at atoms count₀ k₀ count k = 4 - k
 
 loop-holds : tie.Need-loop-holds Inv-loop μ-loop
-loop-holds c = (omega arith, omega arith, passed-each-none _ _ _)
+loop-holds c = upto-none
 
 mul-slot : tie.Need-mul-slot Inv-loop μ-loop
 mul-slot c = search needs
@@ -29,13 +30,23 @@ array-copy-out-slot : tie.Need-array-copy-out-slot Inv-loop μ-loop
 array-copy-out-slot c = search needs
 
 atom-part-requires : tie.Need-atom-part-requires Inv-loop μ-loop
-atom-part-requires c κs = (c .before .before .before .before .pre .0, c .before .before .before .before .pre .1)
+atom-part-requires c κs =
+    let g = c .before .before .before .before in
+    (g .pre .0, g .pre .1)
 
 check-part-requires : tie.Need-check-part-requires Inv-loop μ-loop
-check-part-requires c κs = (c .before .before .before .before .before .pre .2, subst (λ (p : Part). Fits p (length (now (c .before .before .before .before .before .args .a)))) (sym (c .atom-part .ensures)) (c .before .before .before .before .before .pre .3 (c .before .before .before .loop .k) (c .before .before .loop-test .taken)), omega arith)
+check-part-requires c κs =
+    let l = c .before .before .before in
+    let g = l .before .before in
+    let fits = g .pre .3 (l .loop .k) (c .before .before .loop-test .taken) in
+    (g .pre .2, subst (λ (p : Part). Fits p (length (now (g .args .a)))) (sym (c .atom-part .ensures)) fits, omega (arith, l .loop .inv .few))
 
 returns : tie.Need-returns Inv-loop μ-loop
-returns c = checked-failed (failed-each _ _ _ (c .before .before .before .before .before .loop-test .taken) (c .before .before .before .before .before .before .loop .inv .2) (failed-check (checked-as (ap (partClauses (c .before .before .before .before .before .before .before .before .args .x)) (c .before .before .before .atom-part .ensures)) (c .before .before .check-part .ensures)) (not-true _ (c .if1 .taken)))) (omega (arith, c .before .before .check-part .ensures .most))
+returns c =
+    let a = c .before .before .before in
+    let l = a .before .before .before in
+    let part = checked-as (ap (partClauses (l .before .before .args .x)) (a .atom-part .ensures)) (c .before .before .check-part .ensures) in
+    upto-failed (l .loop .inv) (4 * mostPartClauses) (a .before .before .loop-test .taken) part (not-true _ (c .if1 .taken)) (omega arith)
 
 add-k : tie.Need-add-k Inv-loop μ-loop
 add-k c = search needs
@@ -44,12 +55,14 @@ loop-less : tie.Need-loop-less Inv-loop μ-loop
 loop-less c = search needs
 
 loop-again : tie.Need-loop-again Inv-loop μ-loop
-loop-again c = (omega arith, omega (arith, c .before .before .check-part .ensures .most), passed-each _ _ (c .before .before .before .before .before .before .loop .inv .2) (passed-check (checked-as (ap (partClauses (c .before .before .before .before .before .before .before .before .args .x)) (c .before .before .before .atom-part .ensures)) (c .before .before .check-part .ensures)) (not-false _ (c .if1 .left))))
+loop-again c =
+    let a = c .before .before .before in
+    let l = a .before .before .before in
+    let part = checked-as (ap (partClauses (l .before .before .args .x)) (a .atom-part .ensures)) (c .before .before .check-part .ensures) in
+    upto-next (l .loop .inv) (a .before .before .loop-test .taken) part (not-false _ (c .if1 .left))
 
 returns-2 : tie.Need-returns-2 Inv-loop μ-loop
-returns-2 c =
-    let done : c .before .loop .k ≡ 4 = omega arith in
-    checked-passed (rw done at (c .before .loop .inv .2)) (omega arith)
+returns-2 c = upto-done (c .before .loop .inv) (4 * mostPartClauses) (omega arith) (omega (arith, c .before .loop .inv .le))
 
 pub check-atoms-spec : {M : Type 1} → statement M
 check-atoms-spec =

@@ -1,14 +1,16 @@
-use native.Mathlib.Omega.{arith}
-use mathlib.Core.Path.{_≡_, refl, sym, _∙_}
-use mathlib.Core.Logic.{⊎-elim}
+-- check_group: the clause of the members, then a loop of checks over the rows of pairs; the row of a member that is false is passed over.
 use mathlib.Core.List.{List, [], _∷_}
-use Prim.Native.Nat.{ℕ, _+_, _*_, _-_, _≤_}
-use borrow.Author.Tests.{not-true, not-false}
+use mathlib.Core.Path.{_∙_, refl, sym}
+use Prim.Native.Nat.{_*_, _+_, _-_, ℕ}
+use native.Mathlib.Omega.{arith}
+use borrow.Author.Tests.{not-false, not-true}
 use denote.Ref.{now}
 use Rattle.model.specs.Indexed.{each}
-use Rattle.list.specs.Clauses.{negated, Clause, one, members, pairs, groupClauses}
-use Rattle.search.proofs.Skips.{passed-over, row-true, row-length}
-use Rattle.search.proofs.CheckLaws.{Passed, Failed, passed-then, passed-each, passed-each-none, failed-then, failed-more, failed-each, clause-passed, clause-failed, checked-passed, checked-failed}
+use Rattle.list.specs.Clauses.{Clause, groupClauses, negated, one, pairs}
+use Rattle.search.proofs.CheckLaws.{Upto, checked-failed, checked-false, checked-then, clause-failed, clause-passed, failed-more, upto-all, upto-done}
+use Rattle.search.proofs.CheckLaws.{upto-failed, upto-none, upto-over}
+use Rattle.search.proofs.Skips.{passed-over, row-length, row-true}
+use Rattle.search.specs.Limits.{mostGroupClauses}
 use Rattle.search.proofs.truth.check_group.Statement.{statement}
 use Rattle.search.proofs.truth.check_group.Tie as tie
 
@@ -19,142 +21,126 @@ abbrev row : ℕ → ℕ → ℕ → List Clause
 row b n i = each (n - (i + 1)) (pair b i)
 
 abbrev Inv-upper : tie.InvT-upper
-Inv-upper a b n at o₀ i m d₀ o d = (d ≤ m) × (o ≤ at + 1 + i * 64 + d) × Passed a (each d (pair b i)) o₀ o
+Inv-upper a b n at count₀ i rest d₀ count d = Upto a (pair b i) 1 count₀ d rest count
 
 abbrev μ-upper : tie.MeasureT-upper
-μ-upper a b n at o₀ i m d₀ o d = m - d
+μ-upper a b n at count₀ i rest d₀ count d = rest - d
 
 abbrev Inv-lower : tie.InvT-lower
-Inv-lower a b n at o₀ i₀ o i = (i ≤ n) × (o ≤ at + 1 + i * 64) × Passed a (each i (row b n)) o₀ o
+Inv-lower a b n at count₀ i₀ count i = Upto a (row b n) 64 (at + 1) i n count
 
 abbrev μ-lower : tie.MeasureT-lower
-μ-lower a b n at o₀ i₀ o i = n - i
+μ-lower a b n at count₀ i₀ count i = n - i
 
--- src/lib.rt:114:9
 members-true-requires : tie.Need-members-true-requires Inv-upper μ-upper Inv-lower μ-lower
 members-true-requires c κs = omega arith
 
--- some member is true
-members-passed : (c : tie.Else1 Inv-upper μ-upper Inv-lower μ-lower) → Passed (now (c .before .before .before .args .a)) (one (members (c .before .before .before .args .b) (c .before .before .before .args .n))) (c .before .before .before .args .at) (c .before .before .before .args .at + 1)
-members-passed c = clause-passed _ _ _ (sym (c .before .members-true .ensures) ∙ not-false _ (c .if1 .left))
-
--- two members that are true at once
-at-pair : (c : tie.Then3 Inv-upper μ-upper Inv-lower μ-lower) → Failed (now (c .before .before .before .before .before .before .before .before .before .before .before .args .a)) (groupClauses (c .before .before .before .before .before .before .before .before .before .before .before .args .b) (c .before .before .before .before .before .before .before .before .before .before .before .args .n)) (c .before .before .before .before .before .before .before .before .before .before .before .args .at) (c .before .before .before .upper .o)
-unfolding groupClauses pairs
-at-pair c = failed-then (members-passed (c .before .before .before .before .before .before .before .before)) (failed-each _ _ _ (c .before .before .before .before .before .before .lower-test .taken) (c .before .before .before .before .before .before .before .lower .inv .2) (failed-each _ _ _ (c .before .before .upper-test .taken) (c .before .before .before .upper .inv .2) (clause-failed _ _ _ (sym (c .before .not-both .ensures) ∙ not-true _ (c .if3 .taken)))))
-
--- src/lib.rt:115:9
 returns : tie.Need-returns Inv-upper μ-upper Inv-lower μ-lower
 unfolding groupClauses
-returns c = checked-failed (failed-more _ (clause-failed _ _ _ (sym (c .before .members-true .ensures) ∙ not-true _ (c .if1 .taken)))) (omega arith)
+returns c =
+    checked-failed (failed-more _ (clause-failed _ _ _ (sym (c .before .members-true .ensures) ∙ not-true _ (c .if1 .taken)))) (omega arith)
 
--- src/lib.rt:117:17
-add-o : tie.Need-add-o Inv-upper μ-upper Inv-lower μ-lower
-add-o c = omega arith
+add-count : tie.Need-add-count Inv-upper μ-upper Inv-lower μ-lower
+add-count c = omega arith
 
--- src/lib.rt:119:5
 lower-holds : tie.Need-lower-holds Inv-upper μ-upper Inv-lower μ-lower
-lower-holds c = (omega arith, omega arith, passed-each-none _ _ _)
+lower-holds c = upto-none
 
--- src/lib.rt:120:22
-add-m : tie.Need-add-m Inv-upper μ-upper Inv-lower μ-lower
-add-m c = omega arith
+add-rest : tie.Need-add-rest Inv-upper μ-upper Inv-lower μ-lower
+add-rest c = omega arith
 
--- src/lib.rt:120:17
-sub-m : tie.Need-sub-m Inv-upper μ-upper Inv-lower μ-lower
-sub-m c = omega arith
+sub-rest : tie.Need-sub-rest Inv-upper μ-upper Inv-lower μ-lower
+sub-rest c = omega arith
 
--- src/lib.rt:121:24
 add-is-true : tie.Need-add-is-true Inv-upper μ-upper Inv-lower μ-lower
 add-is-true c = omega arith
 
--- src/lib.rt:121:13
 is-true-requires : tie.Need-is-true-requires Inv-upper μ-upper Inv-lower μ-lower
 is-true-requires c κs = omega arith
 
--- src/lib.rt:122:13
-add-o-2 : tie.Need-add-o-2 Inv-upper μ-upper Inv-lower μ-lower
-add-o-2 c = omega arith
+add-count-2 : tie.Need-add-count-2 Inv-upper μ-upper Inv-lower μ-lower
+add-count-2 c = omega arith
 
--- src/lib.rt:123:13
 add-i : tie.Need-add-i Inv-upper μ-upper Inv-lower μ-lower
 add-i c = omega arith
 
--- src/lib.rt:119:5
 lower-less : tie.Need-lower-less Inv-upper μ-upper Inv-lower μ-lower
 lower-less c = omega arith
 
--- src/lib.rt:119:5
 lower-again : tie.Need-lower-again Inv-upper μ-upper Inv-lower μ-lower
-lower-again c = (omega arith, omega arith, passed-each _ _ (c .before .before .before .lower .inv .2) (passed-over (row-true (now (c .before .before .before .before .before .before .before .args .a)) (c .before .before .before .before .before .before .before .args .b + c .before .before .before .lower .i) (c .before .before .before .before .before .before .before .args .b + c .before .before .before .lower .i + 1) (c .before .before .before .before .before .before .before .args .n - (c .before .before .before .lower .i + 1)) (sym (c .before .is-true .ensures) ∙ not-true _ (c .if2 .taken))) (row-length _ _ _) refl))
+lower-again c =
+    let l = c .before .before .before in
+    let g = l .before .before .before .before in
+    let i = l .lower .i in
+    let x = g .args .b + i in
+    let is-false = sym (c .before .is-true .ensures) ∙ not-true _ (c .if2 .taken) in
+    upto-over (l .lower .inv) (c .before .before .lower-test .taken)
+    (passed-over (row-true (now (g .args .a)) x (x + 1) (g .args .n - (i + 1)) is-false) (row-length _ _ _) refl) (omega arith)
 
--- src/lib.rt:127:9
 upper-holds : tie.Need-upper-holds Inv-upper μ-upper Inv-lower μ-lower
-upper-holds c = (omega arith, omega arith, passed-each-none _ _ _)
+upper-holds c = upto-none
 
--- src/lib.rt:128:29
 add-not-both : tie.Need-add-not-both Inv-upper μ-upper Inv-lower μ-lower
 add-not-both c = omega arith
 
--- src/lib.rt:128:36
 add-not-both-2 : tie.Need-add-not-both-2 Inv-upper μ-upper Inv-lower μ-lower
 add-not-both-2 c = omega arith
 
--- src/lib.rt:128:36
 add-not-both-3 : tie.Need-add-not-both-3 Inv-upper μ-upper Inv-lower μ-lower
 add-not-both-3 c = omega arith
 
--- src/lib.rt:128:36
 add-not-both-4 : tie.Need-add-not-both-4 Inv-upper μ-upper Inv-lower μ-lower
 add-not-both-4 c = omega arith
 
--- src/lib.rt:128:17
 not-both-requires : tie.Need-not-both-requires Inv-upper μ-upper Inv-lower μ-lower
 not-both-requires c κs = omega arith
 
--- src/lib.rt:131:13
-add-o-3 : tie.Need-add-o-3 Inv-upper μ-upper Inv-lower μ-lower
-add-o-3 c = omega arith
+returns-2 : tie.Need-returns-2 Inv-upper μ-upper Inv-lower μ-lower
+unfolding groupClauses pairs
+returns-2 c =
+    let u = c .before .before .before in
+    let l = u .before .before .before in
+    let m = l .before .before .before in
+    let both = sym (c .before .not-both .ensures) ∙ not-true _ (c .if3 .taken) in
+    let in-row = upto-failed (u .upper .inv) 64 (c .before .before .upper-test .taken) (checked-false _ _ _ both) refl (omega (arith, c .before .before .upper-test .taken)) in
+    checked-then mostGroupClauses (clause-passed _ _ _ (sym (m .members-true .ensures) ∙ not-false _ (l .before .before .if1 .left)))
+    (upto-failed (l .before .lower .inv) (64 * 64) (l .lower-test .taken) in-row refl (omega (arith, l .lower-test .taken)))
+    (omega arith)
 
--- src/lib.rt:132:13
+add-count-3 : tie.Need-add-count-3 Inv-upper μ-upper Inv-lower μ-lower
+add-count-3 c = omega arith
+
 add-d : tie.Need-add-d Inv-upper μ-upper Inv-lower μ-lower
 add-d c = omega arith
 
--- src/lib.rt:127:9
 upper-less : tie.Need-upper-less Inv-upper μ-upper Inv-lower μ-lower
 upper-less c = omega arith
 
--- src/lib.rt:127:9
 upper-again : tie.Need-upper-again Inv-upper μ-upper Inv-lower μ-lower
-upper-again c = (omega arith, omega arith, passed-each _ _ (c .before .before .before .upper .inv .2) (clause-passed _ _ _ (sym (c .before .not-both .ensures) ∙ not-false _ (c .if3 .left))))
+upper-again c =
+    let u = c .before .before .before in
+    upto-over (u .upper .inv) (c .before .before .upper-test .taken)
+    (clause-passed _ _ _ (sym (c .before .not-both .ensures) ∙ not-false _ (c .if3 .left))) (omega arith)
 
--- src/lib.rt:134:9
 add-i-2 : tie.Need-add-i-2 Inv-upper μ-upper Inv-lower μ-lower
 add-i-2 c = omega arith
 
--- src/lib.rt:119:5
 lower-less-2 : tie.Need-lower-less-2 Inv-upper μ-upper Inv-lower μ-lower
 lower-less-2 c = omega arith
 
--- src/lib.rt:119:5
 lower-again-2 : tie.Need-lower-again-2 Inv-upper μ-upper Inv-lower μ-lower
 lower-again-2 c =
-    let done : c .before .upper .d ≡ c .before .before .before .before .before .before .before .before .before .args .n - (c .before .before .before .before .before .lower .i + 1) = omega arith in
-    (omega arith, omega arith, passed-each _ _ (c .before .before .before .before .before .lower .inv .2) (rw done at (c .before .upper .inv .2)))
+    let l = c .before .before .before .before in
+    upto-over (l .before .lower .inv) (l .lower-test .taken)
+    (upto-all (c .before .upper .inv) (omega arith)) (omega (arith, c .before .upper .inv .few, c .before .upper .inv .le))
 
--- src/lib.rt:110:1
-returns-2 : tie.Need-returns-2 Inv-upper μ-upper Inv-lower μ-lower
-returns-2 c =
-    ⊎-elim (λ w. absurd (omega arith)) (λ w.
-    let p : tie.Then3 Inv-upper μ-upper Inv-lower μ-lower = record { before = record { before = record { before = record { before = record { before = record { before = record { before = c .before .before; lower-test = w .0 }; is-true = w .1 }; if2 = w .2 }; upper = w .3 }; upper-test = w .4 }; not-both = w .5 }; if3 = w .6 } in
-    rw (w .7) (checked-failed (at-pair p) (omega (arith, w .3 .inv .1)))) (c .before .lower-test .came)
-
--- src/lib.rt:110:1
 returns-3 : tie.Need-returns-3 Inv-upper μ-upper Inv-lower μ-lower
 unfolding groupClauses pairs
 returns-3 c =
-    let done : c .before .before .lower .i ≡ c .before .before .before .before .before .before .args .n = omega arith in
-    ⊎-elim (λ w. rw (w .1) (checked-passed (passed-then (members-passed (c .before .before .before)) (rw done at (c .before .before .lower .inv .2))) (omega arith))) (λ w. absurd (omega arith)) (c .before .lower-test .came)
+    let m = c .before .before .before in
+    checked-then mostGroupClauses (clause-passed _ _ _ (sym (m .members-true .ensures) ∙ not-false _ (c .before .before .if1 .left)))
+    (upto-done (c .before .lower .inv) (64 * 64) (omega arith) (omega (arith, c .before .lower .inv .le)))
+    (omega arith)
 
 pub check-group-spec : {M : Type 1} → statement M
 check-group-spec =
@@ -166,13 +152,13 @@ check-group-spec =
     μ-lower
     members-true-requires
     returns
-    add-o
+    add-count
     lower-holds
-    add-m
-    sub-m
+    add-rest
+    sub-rest
     add-is-true
     is-true-requires
-    add-o-2
+    add-count-2
     add-i
     lower-less
     lower-again
@@ -182,12 +168,12 @@ check-group-spec =
     add-not-both-3
     add-not-both-4
     not-both-requires
-    add-o-3
+    returns-2
+    add-count-3
     add-d
     upper-less
     upper-again
     add-i-2
     lower-less-2
     lower-again-2
-    returns-2
     returns-3)
