@@ -1,106 +1,117 @@
--- The sizes of the state clauses, of a step and of the whole list, from those of their parts.
-use mathlib.Core.Path.{_≡_, refl, sym, ap₂, subst, _∙_}
-use mathlib.Core.List.{[], _∷_, _++_}
-use mathlib.Core.Option.{some}
-use Prim.Native.Nat.{ℕ, _+_, _*_, _≤_}
-use native.Mathlib.Nat.{mul-assoc, mul-le-mul}
+-- The counts of the state clauses, of a step and of the whole list, from those of their parts.
+use mathlib.Core.Path.{_≡_, refl, sym, ap, ap₂, _∙_}
+use mathlib.Core.Bool.{Bool, true, false, cond}
+use mathlib.Core.List.{_++_}
+use Prim.Native.Nat.{ℕ, suc, _+_, _*_, _<_}
+use native.Mathlib.Nat.{mul-assoc}
 use native.Mathlib.Omega.{arith}
-use lib.ListN.{length, getD}
+use lib.Dec.{ltb}
+use lib.ListN.{length}
 use Rattle.model.specs.declared.Model.{Model}
 use Rattle.model.specs.declared.Sizes.{Sizes}
-use Rattle.model.specs.Indexed.{each}
-use Rattle.model.specs.Record.{blankCounter}
-use Rattle.model.specs.Automaton.{ceiling, choices, loc, counter, clock, groupSize, initialValue, delayedValue, stateSize, variables}
+use Rattle.model.specs.Indexed.{each, sumBelow}
+use Rattle.model.specs.Record.{invariantAt, edgeAt}
+use Rattle.model.specs.Automaton.{ceiling, stateSize, variables}
 use Rattle.model.specs.Bounds.{KnownSizes}
-use Rattle.model.proofs.FormLaws.{WellFormed, stateSize-is, stateSize-le, choices-le, variables-is, ceiling-of-sizes, state-of-sizes, choices-of-sizes}
-use Rattle.list.specs.Items.{group, offset, stateWidth, blockAt, stateMember, groupItems, invariantItems, stateItems, initialItems, startItems, choiceItems, delayItems, delaysItems, edgesItems, stepItems, endItems, bodyItems, items}
-use Rattle.list.specs.Clauses.{oneHotWidth, clauses, words}
-use Rattle.piece_counts.specs.Sized.{Sized, lead}
-use Rattle.piece_counts.proofs.SizedLaws.{sized-is, sized-app, sized-rule, sized-each, sized-each-sum}
-use Rattle.piece_counts.proofs.PieceLaws.{leads-size}
+use Rattle.model.proofs.IndexedLaws.{length-each, sum-const}
+use Rattle.model.proofs.FormLaws.{variables-is, state-of-sizes, choices-of-sizes}
+use Rattle.list.specs.Items.{blockAt, nextBlock, groupItems, invariantOf, invariantItems, stateItems, initialItems, choiceItems, delaysItems, edgeOf, edgesItems, stepItems}
+use Rattle.list.specs.Clauses.{oneHotWidth, groupClauses, clausesOf, clauses, wordsOf, words}
+use Rattle.list.proofs.Pieces.{clauses-pieces, end-piece, start-piece, state-piece, invariants-piece, step-piece, edges-piece}
+use Rattle.parts.specs.declared.Rule.the-variants.{Keep, Rise}
+use Rattle.parts.specs.declared.GroupTable.{GroupTable}
+use Rattle.parts.specs.Rules.{partClauses}
+use Rattle.parts.specs.StateBlock.{sizeAt}
+use Rattle.parts.specs.PartsOf.{leadsPart, delayPart}
+use Rattle.parts.specs.Pieces.{Known, groupPiece, initialPiece, atomPiece, delayPieces, edgePiece, edgeClauses}
+use Rattle.parts.proofs.KnownLaws.{groups-piece-of, initial-piece-of, location-piece-of, front-piece-of, edge-piece-of, members-are}
+use Rattle.counts.specs.Counted.{Counted}
+use Rattle.counts.proofs.CountLaws.{counted-one, counted-app, counted-is, counted-as, counted-each}
+use Rattle.counts.proofs.PartLaws.{sum-closed, words-each, part-count, part-words}
 
-module _ (m : Model) where
+four : (f : ℕ → ℕ) (n : ℕ) → sumBelow (λ i. f i * 4) n ≡ sumBelow f n * 4
+unfolding sumBelow
+four f = sum-closed (λ i. f i * 4) (λ n. sumBelow f n * 4) refl (λ n. omega arith)
+
+module _ {m : Model} {b : GroupTable} (k : Known m b) where
   -- ---- state clauses
-  pub groups-size : {top p q r s v w : ℕ} (o : ℕ) → ceiling m ≡ top → ((b : ℕ) → Sized (group b (m .locations) ∷ []) p q)
-      → ((b : ℕ → ℕ) → Sized (each (m .vars) (λ i. group (b i) (getD (m .counters) i blankCounter .greatest + 1) ∷ [])) r s)
-      → ((b : ℕ) → Sized (group b (top + 1) ∷ []) v w) → Sized (groupItems oneHotWidth m o) (p + r + m .clocks * v) (q + s + m .clocks * w)
-  unfolding groupItems
-  groups-size {top} {p} {q} {r} {s} {v} {w} o e l c x =
-      sized-app (sized-app (l (o + 0)) (c (λ i. o + offset oneHotWidth m (counter i))))
-      (sized-each _ (m .clocks) (λ i. subst (λ (n : ℕ). Sized (group (o + offset oneHotWidth m (clock i)) (n + 1) ∷ []) v w) (sym e) (x _)))
+  pub location-counted : (l : ℕ) {c w : ℕ} → l < m .locations → ((x o : ℕ) → Counted (each 4 (atomPiece b o x (invariantAt m l))) c w)
+      → (o : ℕ) → Counted (clausesOf (invariantOf oneHotWidth m o l)) c w
+  location-counted l p s o = counted-as (location-piece-of k o l p) (s (o + l) o)
 
-  pub state-size : {p q r s : ℕ} (o : ℕ) → Sized (groupItems oneHotWidth m o) p q → Sized (invariantItems oneHotWidth m o) r s
-      → Sized (stateItems oneHotWidth m o) (p + r) (q + s)
-  unfolding stateItems
-  state-size o g i = sized-app g i
+  pub invariants-counted : {c w : ℕ} (o : ℕ) → Counted (each (m .locations) (λ l. clausesOf (invariantOf oneHotWidth m o l))) c w
+      → Counted (clausesOf (invariantItems oneHotWidth m o)) c w
+  invariants-counted o s = counted-as (sym (invariants-piece m o)) s
 
-  -- ---- the start, less its state clauses: one clause for each component
-  pub initial-size : Sized (initialItems oneHotWidth m) (1 + m .vars + m .clocks) ((1 + m .vars + m .clocks) * 2)
-  unfolding initialItems
-  initial-size =
-      sized-is (sized-app (sized-app (sized-rule [] (some (stateMember oneHotWidth m 0 loc (m .initial))))
-      (sized-each _ (m .vars) (λ i. sized-rule [] (some (stateMember oneHotWidth m 0 (counter i) (initialValue m (counter i)))))))
-      (sized-each _ (m .clocks) (λ i. sized-rule [] (some (stateMember oneHotWidth m 0 (clock i) 0))))) (omega arith) (omega arith)
+  pub state-counted : {p q r s : ℕ} (o : ℕ) → Counted (each (b .groups) (groupPiece b o)) p q
+      → Counted (clausesOf (invariantItems oneHotWidth m o)) r s → Counted (clausesOf (stateItems oneHotWidth m o)) (p + r) (q + s)
+  state-counted o g i = counted-as (sym (state-piece m o)) (counted-app (counted-as (groups-piece-of k o) g) i)
+
+  -- ---- the start, less its state clauses: one clause for each group
+  pub initial-counted : Counted (clausesOf (initialItems oneHotWidth m)) (b .groups) (b .groups * 2)
+  initial-counted =
+      counted-as (initial-piece-of k) (counted-is (counted-each (initialPiece m b) (b .groups) (λ g. counted-one _)) (omega arith) refl)
 
   -- ---- a step
-  -- a delay has a clause for each member of a state block
-  pub delay-size : (o d : ℕ) → Sized (delayItems oneHotWidth m o d) (stateSize m) (stateSize m * 4)
-  unfolding delayItems
-  delay-size o d =
-      sized-is (sized-app (sized-app (leads-size m o d loc loc (λ v. v) (m .locations))
-      (sized-each-sum (λ i. each (groupSize m (counter i)) (lead m o d (counter i) (counter i) (λ v. some v))) (λ i. groupSize m (counter i)) 4 (m .vars)
-      (λ i. leads-size m o d (counter i) (counter i) (λ v. v) (groupSize m (counter i)))))
-      (sized-each _ (m .clocks) (λ i. leads-size m o d (clock i) (clock i) (delayedValue m d (clock i)) (ceiling m + 1))))
-      (stateSize-is m) (omega (arith, stateSize-is m, mul-assoc (m .clocks) (ceiling m + 1) 4))
+  -- a delay has a clause of three literals for each member of a state block
+  pub delay-counted : (x o d : ℕ) → Counted (each (b .groups) (λ g. partClauses x (delayPart b o d g))) (b .state) (b .state * 4)
+  delay-counted x o d = record {
+    clauses-are = sym (length-each (sizeAt b) (b .groups) (λ g. partClauses x (delayPart b o d g)) (λ g. kept g (ltb g (1 + b .vars))) ∙ members-are k);
+    words-are = sym (words-each (λ g. sizeAt b g * 4) (b .groups) (λ g. partClauses x (delayPart b o d g)) (λ g. kept-words g (ltb g (1 + b .vars)))
+        ∙ four (sizeAt b) (b .groups) ∙ ap (λ (n : ℕ). n * 4) (members-are k));
+  }
+    where
+      kept : (g : ℕ) (t : Bool) → length (partClauses x (leadsPart b o g g (cond t Keep (Rise d (b .top))))) ≡ sizeAt b g
+      kept g true = part-count x (leadsPart b o g g Keep) ∙ omega (arith, sum-const (sizeAt b g) 1)
+      kept g false = part-count x (leadsPart b o g g (Rise d (b .top))) ∙ omega (arith, sum-const (sizeAt b g) 1)
 
-  pub delays-size : (o : ℕ) → Sized (delaysItems oneHotWidth m o) ((ceiling m + 1) * stateSize m) ((ceiling m + 1) * stateSize m * 4)
-  unfolding delaysItems
-  delays-size o = sized-is (sized-each (delayItems oneHotWidth m o) (ceiling m + 1) (λ d. delay-size o d)) refl (mul-assoc (ceiling m + 1) (stateSize m) 4)
+      kept-words : (g : ℕ) (t : Bool) → length (wordsOf (partClauses x (leadsPart b o g g (cond t Keep (Rise d (b .top)))))) ≡ sizeAt b g * 4
+      kept-words g true = part-words x (leadsPart b o g g Keep) ∙ sum-const (sizeAt b g) 4
+      kept-words g false = part-words x (leadsPart b o g g (Rise d (b .top))) ∙ sum-const (sizeAt b g) 4
 
-  pub moves-size : {p q r s : ℕ} (o : ℕ) → ((b : ℕ) → Sized (group b (choices m) ∷ []) p q) → Sized (edgesItems oneHotWidth m o) r s
-      → Sized (choiceItems oneHotWidth m o ++ delaysItems oneHotWidth m o ++ edgesItems oneHotWidth m o) (p + (ceiling m + 1) * stateSize m + r)
-      (q + (ceiling m + 1) * stateSize m * 4 + s)
-  unfolding choiceItems
-  moves-size o g e = sized-app (sized-app (g (o + stateWidth oneHotWidth m)) (delays-size o)) e
+  -- the choice's group and the delays
+  front-counted : {p q : ℕ} (o : ℕ) → ((first : ℕ) → Counted (groupClauses first (b .choices)) p q)
+      → Counted (clausesOf (choiceItems oneHotWidth m o) ++ clausesOf (delaysItems oneHotWidth m o)) (p + (b .top + 1) * b .state)
+      (q + (b .top + 1) * b .state * 4)
+  front-counted o g =
+      counted-as (front-piece-of k o)
+      (counted-is (counted-app (g (o + b .state)) (counted-each (delayPieces b o) (b .top + 1) (λ d. delay-counted (o + b .state + d) o d))) refl
+      (omega (arith, mul-assoc (b .top + 1) (b .state) 4)))
 
-  -- ---- the whole list: start, k steps, end
-  pub list-size : {p q r s : ℕ} (k : ℕ) → ((o : ℕ) → Sized (stateItems oneHotWidth m o) p q)
-      → ((o : ℕ) → Sized (choiceItems oneHotWidth m o ++ delaysItems oneHotWidth m o ++ edgesItems oneHotWidth m o) r s)
-      → Sized (items oneHotWidth m k) (p + (1 + m .vars + m .clocks) + k * (r + p) + 1) (q + (1 + m .vars + m .clocks) * 2 + k * (s + q) + 2)
-  unfolding items bodyItems startItems stepItems endItems
-  list-size k state moves =
-      sized-app (sized-app (sized-app (state 0) initial-size) (sized-each _ k (λ t. sized-app (moves (blockAt oneHotWidth m t)) (state _))))
-      (sized-rule [] (some (stateMember oneHotWidth m (blockAt oneHotWidth m k) loc (m .target))))
+  pub choice-counted : (e : ℕ) {c w : ℕ} → e < m .used → ((x o : ℕ) → Counted (each (b .groups + 5) (edgePiece x b (edgeAt m e) o)) c w)
+      → (o : ℕ) → Counted (clausesOf (edgeOf oneHotWidth m o e)) c w
+  unfolding edgeClauses
+  choice-counted e l s o =
+      counted-as (edge-piece-of k o (o + stateSize m + (ceiling m + 1 + e)) e l refl) (s (o + stateSize m + (ceiling m + 1 + e)) o)
 
--- ---- with the sizes that the code has: M, S and H
-module _ (m : Model) (z : Sizes) (known : KnownSizes m z) where
-  delays-are : (z .ceiling + 1) * z .state ≡ (ceiling m + 1) * stateSize m
-  delays-are = ap₂ (λ (a b : ℕ). (a + 1) * b) (ceiling-of-sizes m z known) (state-of-sizes m z known)
+  pub edges-counted : {c w : ℕ} (o : ℕ) → Counted (each (m .used) (λ e. clausesOf (edgeOf oneHotWidth m o e))) c w
+      → Counted (clausesOf (edgesItems oneHotWidth m o)) c w
+  edges-counted o s = counted-as (sym (edges-piece m o)) s
 
-  pub delays-le : WellFormed m → (z .ceiling + 1) * z .state ≤ 8704
-  delays-le ok =
-      let t : ceiling m + 1 ≤ 32 = omega (arith, ok .ceiling-le) in
-      omega (arith, delays-are, mul-le-mul t (stateSize-le m ok))
+  pub moves-counted : {p q r s : ℕ} (o : ℕ) → ((first : ℕ) → Counted (groupClauses first (b .choices)) p q)
+      → Counted (clausesOf (edgesItems oneHotWidth m o)) r s
+      → Counted (clausesOf (choiceItems oneHotWidth m o) ++ clausesOf (delaysItems oneHotWidth m o) ++ clausesOf (edgesItems oneHotWidth m o))
+      (p + (b .top + 1) * b .state + r) (q + (b .top + 1) * b .state * 4 + s)
+  moves-counted o g e = counted-app (front-counted o g) e
 
-  pub known-choices-le : WellFormed m → z .choices ≤ 256
-  known-choices-le ok = omega (arith, choices-of-sizes m z known, choices-le m ok)
+  -- ---- the whole list: start, n steps, end
+  pub list-counted : {p q r s : ℕ} (n : ℕ) → ((o : ℕ) → Counted (clausesOf (stateItems oneHotWidth m o)) p q)
+      → ((o : ℕ) → Counted (clausesOf (choiceItems oneHotWidth m o) ++ clausesOf (delaysItems oneHotWidth m o) ++ clausesOf (edgesItems oneHotWidth m o)) r s)
+      → Counted (clauses m n) (p + b .groups + n * (r + p) + 1) (q + b .groups * 2 + n * (s + q) + 2)
+  list-counted {p} {q} {r} {s} n state moves =
+      counted-as (sym (clauses-pieces m n))
+      (counted-app (counted-app (counted-as (sym (start-piece m)) (counted-app (state 0) initial-counted))
+      (counted-each (λ t. clausesOf (stepItems oneHotWidth m (blockAt oneHotWidth m t))) n (λ t. step (blockAt oneHotWidth m t))))
+      (counted-as (sym (end-piece m n)) (counted-one _)))
+    where
+      step : (o : ℕ) → Counted (clausesOf (stepItems oneHotWidth m o)) (r + p) (s + q)
+      step o = counted-as (sym (step-piece m o)) (counted-app (moves o) (state (nextBlock oneHotWidth m o)))
 
-  pub known-moves : {p q r s : ℕ} (o : ℕ) → ((b : ℕ) → Sized (group b (z .choices) ∷ []) p q) → Sized (edgesItems oneHotWidth m o) r s
-      → Sized (choiceItems oneHotWidth m o ++ delaysItems oneHotWidth m o ++ edgesItems oneHotWidth m o) (p + (z .ceiling + 1) * z .state + r)
-      (q + (z .ceiling + 1) * z .state * 4 + s)
-  known-moves {p} {q} {r} {s} o g e =
-      sized-is (moves-size m o (λ b. subst (λ (n : ℕ). Sized (group b n ∷ []) p q) (choices-of-sizes m z known) (g b)) e) (omega (arith, delays-are))
-      (omega (arith, delays-are))
+-- ---- with the sizes that the code has: S and H
+pub known-variables : (m : Model) (z : Sizes) → KnownSizes m z → (k : ℕ) → z .state + k * (z .state + z .choices) ≡ variables m k
+known-variables m z known k = ap₂ (λ (a b : ℕ). a + k * (a + b)) (state-of-sizes m z known) (choices-of-sizes m z known) ∙ sym (variables-is m k)
 
-  pub known-variables : (k : ℕ) → z .state + k * (z .state + z .choices) ≡ variables m k
-  known-variables k = ap₂ (λ (a b : ℕ). a + k * (a + b)) (state-of-sizes m z known) (choices-of-sizes m z known) ∙ sym (variables-is m k)
-
--- ---- the lengths of the list
-module _ (m : Model) (k : ℕ) {p q : ℕ} (s : Sized (items oneHotWidth m k) p q) where
-  pub list-clauses : p ≡ length (clauses m k)
-  unfolding clauses
-  list-clauses = s .clauses-are
-
-  pub list-words : q ≡ length (words m k)
-  unfolding clauses words
-  list-words = s .words-are
+-- ---- the words of the list
+pub list-words : (m : Model) (k : ℕ) {p q : ℕ} → Counted (clauses m k) p q → q ≡ length (words m k)
+unfolding words
+list-words m k s = s .words-are

@@ -9,6 +9,7 @@ use model::Sizes;
 use numbering::layout_of;
 use numbering::step_blocks;
 use numbering::variable_number;
+use parts::group_table;
 use start_pieces::put_initial;
 use state_pieces::put_state;
 use words::put_unit;
@@ -104,7 +105,9 @@ pub fn emit_within(m: Model, bound: usize, limit: usize, out: &mut [i32]) -> Emi
     if Model::STEPS < bound {
         return Emission::BoundTooLarge;
     }
-    let n = list_counts(m, bound);
+    let z = m.sizes();
+    let b = group_table(m, z);
+    let n = list_counts(m, z, b, bound);
     let words = n.words;
     if room < words {
         return Emission::BufferTooShort { words };

@@ -5,4 +5,3 @@ pub mod PartFits
 pub mod NumberingLaws
 pub mod PartLengths
 pub mod KnownLaws
-pub mod Shifts

@@ -106,7 +106,8 @@ pub passed-check : {a : List ℕ} {cs : List Clause} {i n : ℕ} {r : PieceCheck
 unfolding checkFrom
 passed-check {a} {cs} {i} {n} {r} k h =
     let e = k .is in
-    let all : trueBefore a cs ≡ length cs = omega (arith, ltb-false (trueBefore a cs) (length cs) (not-true _ (sym (ap (λ (s : PieceCheck). s .ok) e) ∙ h)), true-before-le a cs) in
+    let all : trueBefore a cs ≡ length cs = omega
+    (arith, ltb-false (trueBefore a cs) (length cs) (not-true _ (sym (ap (λ (s : PieceCheck). s .ok) e) ∙ h)), true-before-le a cs) in
     record { count = omega (arith, ap (λ (s : PieceCheck). s .at) e, all); all = all }
 
 pub failed-check : {a : List ℕ} {cs : List Clause} {i n : ℕ} {r : PieceCheck} → Checked a cs i n r → r .ok ≡ false → Failed a cs i (r .at)
@@ -136,10 +137,6 @@ checked-failing {r} p h l = record { is = told-false r h ∙ check-failed p; mos
 
 pub checked-false : (a : List ℕ) (c : Clause) (i : ℕ) → clauseTrue a c ≡ false → Checked a (one c) i 1 (record { ok = false; at = i })
 checked-false a c i h = checked-failed (clause-failed a c i h) (omega arith)
-
--- the count may rise by more
-pub checked-within : {a : List ℕ} {cs : List Clause} {i n : ℕ} (more : ℕ) {r : PieceCheck} → Checked a cs i n r → n ≤ more → Checked a cs i more r
-checked-within more k l = record { is = k .is; most = omega (arith, k .most) }
 
 -- ---- two checks one after the other
 -- the first check fails
@@ -213,7 +210,8 @@ more-true a c x {p} {q} ep eq =
 
 pub members-more : (a : List ℕ) (b i : ℕ) {r p : Bool} → r ≡ clauseTrue a (members b i) → p ≡ bit a (b + i) → (r || p) ≡ clauseTrue a (members b (i + 1))
 unfolding members
-members-more a b i {r} {p} er ep = more-true a (each i (λ v. bare (b + v) ∷ [])) (bare (b + i)) er ep ∙ ap (clauseTrue a) (sym (each-more i (λ v. bare (b + v) ∷ [])))
+members-more a b i {r} {p} er ep =
+    more-true a (each i (λ v. bare (b + v) ∷ [])) (bare (b + i)) er ep ∙ ap (clauseTrue a) (sym (each-more i (λ v. bare (b + v) ∷ [])))
 
 pub members-none : (a : List ℕ) (b : ℕ) → false ≡ clauseTrue a (members b 0)
 unfolding members

@@ -1,14 +1,14 @@
 -- Clauses that begin with the negation of x are all true where x is false, so a search passes over them by their number.
-use mathlib.Core.Path.{_≡_, refl, ap, _∙_}
+use mathlib.Core.Path.{_≡_, refl}
 use mathlib.Core.List.{List, [], _∷_}
 use mathlib.Core.Bool.{Bool, true, false, cond}
 use Prim.Native.Nat.{ℕ, zero, suc, _+_}
 use native.Mathlib.Omega.{arith}
 use lib.ListN.{length}
-use Rattle.model.specs.Indexed.{each, sumBelow}
+use Rattle.model.specs.Indexed.{each}
 use Rattle.model.specs.Automaton.{meets}
 use Rattle.model.proofs.IndexedLaws.{each-suc, length-each, sum-const}
-use Rattle.list.specs.Clauses.{bare, negated, Clause, one}
+use Rattle.list.specs.Clauses.{negated, Clause, one}
 use Rattle.list.specs.Assignments.{bit, trueBefore}
 use Rattle.parts.specs.declared.Rule.{Rule}
 use Rattle.parts.specs.declared.Rule.the-variants.{Exclude, Keep, Rise, Shift, Set, Forbid}

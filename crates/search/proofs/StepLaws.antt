@@ -13,6 +13,7 @@ use Rattle.list.specs.Items.{blockAt, nextBlock, choiceItems, delaysItems, stat
 use Rattle.list.specs.Clauses.{Clause, oneHotWidth, clausesOf}
 use Rattle.list.proofs.OneHot.{next-block-is}
 use Rattle.list.proofs.Pieces.{next-block, step-piece, edges-piece}
+use Rattle.counts.specs.Tables.{mostEdgeClauses}
 use Rattle.parts.specs.declared.GroupTable.{GroupTable}
 use Rattle.parts.specs.declared.Part.{Part}
 use Rattle.parts.specs.Numbering.{mostVariables}
@@ -22,8 +23,8 @@ use Rattle.parts.specs.Rules.{valueClauses, partClauses, Fits}
 use Rattle.parts.proofs.KnownLaws.{wf, front-piece-of, edge-piece-of, edge-fits-of, step-room}
 use Rattle.search.specs.Checking.{Checked}
 use Rattle.search.specs.declared.truth.PieceCheck.{PieceCheck}
-use Rattle.search.specs.Limits.{mostFrontClauses, mostEdgeClauses, mostStateClauses, mostStepClauses}
-use Rattle.search.proofs.CheckLaws.{Passed, passed-then, passed-check, passed-as, checked-as, checked-stop, checked-then}
+use Rattle.search.specs.Limits.{mostFrontClauses, mostStateClauses, mostStepClauses}
+use Rattle.search.proofs.CheckLaws.{Passed, passed-then, passed-as, checked-as, checked-stop, checked-then}
 
 module _ {m : Model} {b : GroupTable} (k : Known m b) (o t : ℕ) (at-o : o ≡ blockAt oneHotWidth m t) where
   -- the state after the step
@@ -72,7 +73,8 @@ module _ {m : Model} {b : GroupTable} (k : Known m b) (o t : ℕ) (at-o : o ≡ 
 
 -- ---- an edge
 module _ {m : Model} {b : GroupTable} (k : Known m b) (o x e : ℕ) (l : e < m .used) (at-x : x ≡ o + stateSize m + (ceiling m + 1 + e)) where
-  pub edge-checked : {a : List ℕ} {i n : ℕ} {r : PieceCheck} → Checked a (each (b .groups + 5) (edgePiece x b (edgeAt m e) o)) i n r → Checked a (edgeClauses m o e) i n r
+  pub edge-checked :
+      {a : List ℕ} {i n : ℕ} {r : PieceCheck} → Checked a (each (b .groups + 5) (edgePiece x b (edgeAt m e) o)) i n r → Checked a (edgeClauses m o e) i n r
   edge-checked c = checked-as (edge-piece-of k o x e l at-x) c
 
   pub edge-passed : {a : List ℕ} {i j : ℕ} → Passed a (each (b .groups + 5) (edgePiece x b (edgeAt m e) o)) i j → Passed a (edgeClauses m o e) i j

@@ -1,6 +1,7 @@
 -- How many clauses pieces of the list have at most, where a group has at most 64 members, a state block 9 groups, and for 16 locations, 32 edges
 -- and 64 steps. They are simple products, above what a model can reach: no count of the search passes mostClauses, so no sum wraps.
 use Prim.Native.Nat.{ℕ, _+_, _*_}
+use Rattle.counts.specs.Tables.{mostInvariantClauses, mostEdgeClauses}
 
 -- A group: the clause of its members, and for each member less than 64 pairs.
 abbrev pub mostGroupClauses : ℕ
@@ -13,10 +14,6 @@ mostBlockClauses = 9 * mostGroupClauses
 -- A part: one clause for each value, and no group that a rule reads has more than 32.
 abbrev pub mostPartClauses : ℕ
 mostPartClauses = 32
-
--- An invariant: 4 atoms.
-abbrev pub mostInvariantClauses : ℕ
-mostInvariantClauses = 1024
 
 -- A state: the groups of its block, and an invariant for each location.
 abbrev pub mostStateClauses : ℕ
@@ -33,10 +30,6 @@ mostDelayClauses = 9 * mostPartClauses
 -- A step up to its edges: the choice's group, and M + 1 delays.
 abbrev pub mostFrontClauses : ℕ
 mostFrontClauses = mostGroupClauses + 32 * mostDelayClauses
-
--- An edge: its source, its target, 4 atoms, 4 counters and 4 clocks.
-abbrev pub mostEdgeClauses : ℕ
-mostEdgeClauses = 3074
 
 -- A step.
 abbrev pub mostStepClauses : ℕ

@@ -5,14 +5,14 @@ use crate::pieces::check_state;
 use crate::truth::PieceCheck;
 use crate::truth::check_value;
 use crate::truth::is_true;
+use counts::tables::edge_table;
+use counts::tables::invariant_table;
 use model::Model;
 use model::Sizes;
 use parts::GroupTable;
 use parts::group_table;
 use parts::numbering::block_start;
 use parts::numbering::variable_number;
-use piece_tables::edge_table;
-use piece_tables::invariant_table;
 ghost use mathlib.Core.Path.{_≡_};
 ghost use Prim.Native.Nat.{_+_, _*_, _≤_};
 ghost use lib.Dec.{T};
@@ -24,9 +24,9 @@ ghost use Rattle.model.specs.Form.{wellFormed};
 ghost use Rattle.list.specs.Items.{invariantOf, edgeOf};
 ghost use Rattle.list.specs.Clauses.{oneHotWidth, clauses};
 ghost use Rattle.list.specs.Assignments.{firstFalse};
-ghost use Rattle.piece_tables.specs.Tables.{Table};
+ghost use Rattle.counts.specs.Tables.{Table, mostInvariantClauses, mostEdgeClauses};
 ghost use Rattle.search.specs.Checking.{Checked};
-ghost use Rattle.search.specs.Limits.{mostInvariantClauses, mostEdgeClauses, mostStepClauses, mostClauses};
+ghost use Rattle.search.specs.Limits.{mostStepClauses, mostClauses};
 ghost use Rattle.parts.specs.Pieces.{Known, stepClauses};
 ghost use Rattle.search.specs.Answer.{found};
 
@@ -105,13 +105,12 @@ pub fn first_false(m: Model, bound: usize, a: &[u8]) -> Found
 {
     let z = m.sizes();
     let b = group_table(m, z);
-    let top = b.top as usize;
-    let invariants = invariant_table(m, top);
+    let invariants = invariant_table(m, b);
     let start = check_start(m, b, invariants, a);
     if !start.ok {
         return Found::At(start.at);
     }
-    let edges = edge_table(m, top);
+    let edges = edge_table(m, b);
     let steps = check_steps(m, z, b, invariants, edges, bound, a, start.at);
     if !steps.ok {
         return Found::At(steps.at);

@@ -17,9 +17,9 @@ ghost use Rattle.model.specs.Form.{wellFormed};
 ghost use Rattle.list.specs.Items.{stateItems, initialItems, startItems, invariantOf};
 ghost use Rattle.list.specs.Clauses.{oneHotWidth, clausesOf};
 ghost use Rattle.search.specs.Checking.{Checked};
-ghost use Rattle.search.specs.Limits.{mostPartClauses, mostBlockClauses, mostInvariantClauses, mostStateClauses, mostStartClauses, mostDelayClauses, mostFrontClauses, mostClauses};
+ghost use Rattle.search.specs.Limits.{mostBlockClauses, mostStateClauses, mostStartClauses, mostDelayClauses, mostFrontClauses, mostClauses};
 ghost use Rattle.parts.specs.Rules.{Fits};
-ghost use Rattle.piece_tables.specs.Tables.{Table};
+ghost use Rattle.counts.specs.Tables.{Table, mostInvariantClauses};
 ghost use Rattle.parts.specs.Numbering.{mostVariables};
 ghost use Rattle.parts.specs.StateBlock.{componentAt, Bounded};
 ghost use Rattle.parts.specs.PartsOf.{atomPart};
@@ -55,8 +55,8 @@ fn check_atoms(
     atoms: [AtomSlot; Model::ATOMS],
     at: usize,
 ) -> PieceCheck
-    requires { ⌜ Bounded b × (o ≤ mostVariables) × (x < length (now a)) × ((k : ℕ) → k < 4 → Fits (atomPart b o (atomAt atoms k)) (length (now a))) × (at + 4 * mostPartClauses ≤ mostClauses) ⌝ }
-    ensures { λ r. ⌜ Checked (now (a .entry)) (each 4 (atomPiece b o x atoms)) at (4 * mostPartClauses) r ⌝ }
+    requires { ⌜ Bounded b × (o ≤ mostVariables) × (x < length (now a)) × ((k : ℕ) → k < 4 → Fits (atomPart b o (atomAt atoms k)) (length (now a))) × (at + mostInvariantClauses ≤ mostClauses) ⌝ }
+    ensures { λ r. ⌜ Checked (now (a .entry)) (each 4 (atomPiece b o x atoms)) at mostInvariantClauses r ⌝ }
 {
     let mut count = at;
     for k in 0..Model::ATOMS {

@@ -1,11 +1,14 @@
+-- emit_within: the three refusals, then the list by put_list; the totals say whether it fits.
 use native.Mathlib.Omega.{arith}
 use Rattle.emission.proofs.EmitLaws.{refused-20, refused-21, refused-22, accepted, list-room, room-is}
+use Rattle.model.specs.Form.{wellFormed}
 use Rattle.model.proofs.IndexedLaws.{T-true}
 use borrow.Author.Tests.{not-true, not-false}
 use denote.Ref.{now}
 use lib.ListN.{length}
 use Prim.Native.Nat.{min, _≤_}
-use mathlib.Core.Path.{sym, _∙_}
+use mathlib.Core.Bool.{true}
+use mathlib.Core.Path.{_≡_, sym, _∙_}
 use borrow.Author.Needs.{needs}
 use Rattle.emission.proofs.emit_within.Statement.{statement}
 use Rattle.emission.proofs.emit_within.Tie as tie
@@ -16,31 +19,71 @@ smaller-requires c κs = search needs
 well-formed-requires : tie.Need-well-formed-requires
 well-formed-requires c κs = search needs
 
+-- past the first two tests the record is well formed
+formed-is : (c : tie.Else2) → wellFormed (c .before .before .before .before .args .m) ≡ true
+formed-is c = sym (c .before .before .well-formed .ensures) ∙ not-false _ (c .before .if1 .left)
+
 returns : tie.Need-returns
-returns c = let x = refused-20 (c .before .before .before .args .m) (c .before .before .before .args .bound) (min (c .before .before .before .args .limit) (length (now (c .before .before .before .args .out)))) (now (c .before .before .before .args .out)) (sym (c .before .well-formed .ensures) ∙ not-true _ (c .if1 .taken)) in (x .report, x .left)
+returns c =
+    let a = c .before .before .before .args in
+    let n = min (a .limit) (length (now (a .out))) in
+    let x = refused-20 (a .m) (a .bound) n (now (a .out)) (sym (c .before .well-formed .ensures) ∙ not-true _ (c .if1 .taken)) in
+    (x .report, x .left)
 
 returns-2 : tie.Need-returns-2
-returns-2 c = let x = refused-21 (c .before .before .before .before .args .m) (c .before .before .before .before .args .bound) (min (c .before .before .before .before .args .limit) (length (now (c .before .before .before .before .args .out)))) (now (c .before .before .before .before .args .out)) (sym (c .before .before .well-formed .ensures) ∙ not-false _ (c .before .if1 .left)) (c .if2 .taken) in (x .report, x .left)
+returns-2 c =
+    let a = c .before .before .before .before .args in
+    let n = min (a .limit) (length (now (a .out))) in
+    let h = sym (c .before .before .well-formed .ensures) ∙ not-false _ (c .before .if1 .left) in
+    let x = refused-21 (a .m) (a .bound) n (now (a .out)) h (c .if2 .taken) in
+    (x .report, x .left)
+
+sizes-requires : tie.Need-sizes-requires
+sizes-requires c κs = search needs
+
+group-table-requires : tie.Need-group-table-requires
+group-table-requires c κs = (T-true _ .1 (formed-is (c .before)), c .sizes .ensures)
 
 list-counts-requires : tie.Need-list-counts-requires
-list-counts-requires c κs = (T-true _ .1 (sym (c .before .before .well-formed .ensures) ∙ not-false _ (c .before .if1 .left)), c .if2 .left)
+list-counts-requires c κs =
+    let p = c .before .before in
+    (c .before .sizes .ensures, record { formed = T-true _ .1 (formed-is p); is = c .group-table .ensures }, p .if2 .left)
 
 returns-3 : tie.Need-returns-3
 returns-3 c =
-    let x = room-is _ _ (c .before .before .before .before .before .smaller .ensures) (refused-22 (c .before .before .before .before .before .before .args .m) (c .before .before .before .before .before .before .args .bound) (c .before .before .before .before .before .smaller .result) (now (c .before .before .before .before .before .before .args .out)) (sym (c .before .before .before .before .well-formed .ensures) ∙ not-false _ (c .before .before .before .if1 .left)) (c .before .before .if2 .left) (c .before .list-counts .result) (c .before .list-counts .ensures) (c .if3 .taken)) in
+    let n = c .before .list-counts in
+    let p = c .before .before .before .before in
+    let q = p .before .before .before in
+    let a = q .before .args in
+    let x = room-is _ _ (q .smaller .ensures)
+    (refused-22 (a .m) (a .bound) (q .smaller .result) (now (a .out)) (formed-is p) (p .if2 .left) (n .result) (n .ensures) (c .if3 .taken)) in
     (x .report, x .left)
 
 put-list-requires : tie.Need-put-list-requires
 put-list-requires c κs =
-    let l : c .before .before .list-counts .result .words ≤ length (now (c .before .before .before .before .before .before .before .args .out)) = omega (arith, c .before .before .before .before .before .before .smaller .ensures, c .before .if3 .left) in
-    (T-true _ .1 (sym (c .before .before .before .before .before .well-formed .ensures) ∙ not-false _ (c .before .before .before .before .if1 .left)), c .before .before .before .if2 .left, list-room (c .before .before .before .before .before .before .before .args .m) (c .before .before .before .before .before .before .before .args .bound) (c .before .before .before .before .before .before .smaller .result) (now (c .before .before .before .before .before .before .before .args .out)) (sym (c .before .before .before .before .before .well-formed .ensures) ∙ not-false _ (c .before .before .before .before .if1 .left)) (c .before .before .before .if2 .left) (c .before .before .list-counts .result) (c .before .before .list-counts .ensures) l)
+    let n = c .before .before .list-counts in
+    let p = c .before .before .before .before .before in
+    let q = p .before .before .before in
+    let a = q .before .args in
+    let l : n .result .words ≤ length (now (a .out)) = omega (arith, q .smaller .ensures, c .before .if3 .left) in (
+      T-true _ .1 (formed-is p),
+      p .if2 .left,
+      list-room (a .m) (a .bound) (q .smaller .result) (now (a .out)) (formed-is p) (p .if2 .left) (n .result) (n .ensures) l,
+    )
 
 same-length : tie.Need-same-length
 same-length c = search needs
 
 returns-4 : tie.Need-returns-4
 returns-4 c =
-    let x = room-is _ _ (c .before .before .before .before .before .before .before .before .smaller .ensures) (accepted (c .before .before .before .before .before .before .before .before .before .args .m) (c .before .before .before .before .before .before .before .before .before .args .bound) (c .before .before .before .before .before .before .before .before .smaller .result) (now (c .before .before .before .before .before .before .before .before .before .args .out)) (sym (c .before .before .before .before .before .before .before .well-formed .ensures) ∙ not-false _ (c .before .before .before .before .before .before .if1 .left)) (c .before .before .before .before .before .if2 .left) (c .before .before .before .before .list-counts .result) (c .before .before .before .before .list-counts .ensures) (c .before .before .before .if3 .left) _ _ (c .before .put-list .ensures)) in
+    let s = c .before .before .before in
+    let n = s .before .list-counts in
+    let p = s .before .before .before .before in
+    let q = p .before .before .before in
+    let a = q .before .args in
+    let x = room-is _ _ (q .smaller .ensures)
+    (accepted (a .m) (a .bound) (q .smaller .result) (now (a .out)) (formed-is p) (p .if2 .left) (n .result) (n .ensures) (s .if3 .left) _ _
+    (c .before .put-list .ensures)) in
     (x .report, x .left)
 
 pub emit-within-spec : {M : Type 1} → statement M
@@ -51,6 +94,8 @@ emit-within-spec =
     well-formed-requires
     returns
     returns-2
+    sizes-requires
+    group-table-requires
     list-counts-requires
     returns-3
     put-list-requires

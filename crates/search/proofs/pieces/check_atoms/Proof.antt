@@ -1,11 +1,12 @@
 -- check_atoms: a loop of checks over the parts of the atoms.
 use mathlib.Core.Path.{ap, subst, sym}
-use Prim.Native.Nat.{_*_, _-_}
+use Prim.Native.Nat.{_-_}
 use native.Mathlib.Omega.{arith}
 use borrow.Author.Needs.{needs}
 use borrow.Author.Tests.{not-false, not-true}
 use denote.Ref.{now}
 use lib.ListN.{length}
+use Rattle.counts.specs.Tables.{mostInvariantClauses}
 use Rattle.parts.specs.Pieces.{atomPiece}
 use Rattle.parts.specs.Rules.{Fits, partClauses}
 use Rattle.parts.specs.declared.Part.{Part}
@@ -46,7 +47,7 @@ returns c =
     let a = c .before .before .before in
     let l = a .before .before .before in
     let part = checked-as (ap (partClauses (l .before .before .args .x)) (a .atom-part .ensures)) (c .before .before .check-part .ensures) in
-    upto-failed (l .loop .inv) (4 * mostPartClauses) (a .before .before .loop-test .taken) part (not-true _ (c .if1 .taken)) (omega arith)
+    upto-failed (l .loop .inv) mostInvariantClauses (a .before .before .loop-test .taken) part (not-true _ (c .if1 .taken)) (omega arith)
 
 add-k : tie.Need-add-k Inv-loop μ-loop
 add-k c = search needs
@@ -62,21 +63,9 @@ loop-again c =
     upto-next (l .loop .inv) (a .before .before .loop-test .taken) part (not-false _ (c .if1 .left))
 
 returns-2 : tie.Need-returns-2 Inv-loop μ-loop
-returns-2 c = upto-done (c .before .loop .inv) (4 * mostPartClauses) (omega arith) (omega (arith, c .before .loop .inv .le))
+returns-2 c = upto-done (c .before .loop .inv) mostInvariantClauses (omega arith) (omega (arith, c .before .loop .inv .le))
 
 pub check-atoms-spec : {M : Type 1} → statement M
 check-atoms-spec =
-    tie.close
-    (tie.spec
-    Inv-loop
-    μ-loop
-    loop-holds
-    mul-slot
-    array-copy-out-slot
-    atom-part-requires
-    check-part-requires
-    returns
-    add-k
-    loop-less
-    loop-again
+    tie.close (tie.spec Inv-loop μ-loop loop-holds mul-slot array-copy-out-slot atom-part-requires check-part-requires returns add-k loop-less loop-again
     returns-2)

@@ -74,17 +74,4 @@ returns-2 c =
 
 pub check-delay-spec : {M : Type 1} → statement M
 check-delay-spec =
-    tie.close
-    (tie.spec
-    Inv-loop
-    μ-loop
-    add-x
-    add-x-2
-    loop-holds
-    delay-part-requires
-    check-part-requires
-    returns
-    add-g
-    loop-less
-    loop-again
-    returns-2)
+    tie.close (tie.spec Inv-loop μ-loop add-x add-x-2 loop-holds delay-part-requires check-part-requires returns add-g loop-less loop-again returns-2)

@@ -101,24 +101,5 @@ returns-2 c =
 
 pub check-delays-spec : {M : Type 1} → statement M
 check-delays-spec =
-    tie.close
-    (tie.spec
-    Inv-loop
-    μ-loop
-    cast-d-end
-    add-d-end
-    loop-holds
-    add-is-true
-    add-is-true-2
-    is-true-requires
-    add-count
-    add-d
-    loop-less
-    loop-again
-    cast-check-delay
-    check-delay-requires
-    returns
-    add-d-2
-    loop-less-2
-    loop-again-2
-    returns-2)
+    tie.close (tie.spec Inv-loop μ-loop cast-d-end add-d-end loop-holds add-is-true add-is-true-2 is-true-requires add-count add-d loop-less loop-again
+    cast-check-delay check-delay-requires returns add-d-2 loop-less-2 loop-again-2 returns-2)

@@ -77,21 +77,5 @@ returns-2 c =
 
 pub check-groups-spec : {M : Type 1} → statement M
 check-groups-spec =
-    tie.close
-    (tie.spec
-    Inv-loop
-    μ-loop
-    loop-holds
-    mul-first
-    element-copy-out-first
-    cast-first
-    mul-size
-    element-copy-out-size
-    cast-size
-    add-check-group
-    check-group-requires
-    returns
-    add-g
-    loop-less
-    loop-again
-    returns-2)
+    tie.close (tie.spec Inv-loop μ-loop loop-holds mul-first element-copy-out-first cast-first mul-size element-copy-out-size cast-size add-check-group
+    check-group-requires returns add-g loop-less loop-again returns-2)

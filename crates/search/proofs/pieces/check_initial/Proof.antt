@@ -100,21 +100,5 @@ returns-2 c =
 
 pub check-initial-spec : {M : Type 1} → statement M
 check-initial-spec =
-    tie.close
-    (tie.spec
-    Inv-loop
-    μ-loop
-    loop-holds
-    mul-first
-    element-copy-out-first
-    cast-first
-    initial-value-requires
-    cast-is-true
-    add-is-true
-    is-true-requires
-    returns
-    add-count
-    add-g
-    loop-less
-    loop-again
-    returns-2)
+    tie.close (tie.spec Inv-loop μ-loop loop-holds mul-first element-copy-out-first cast-first initial-value-requires cast-is-true add-is-true is-true-requires
+    returns add-count add-g loop-less loop-again returns-2)

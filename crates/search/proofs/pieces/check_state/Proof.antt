@@ -8,14 +8,14 @@ use denote.Ref.{now}
 use lib.ListN.{length}
 use Rattle.list.proofs.Pieces.{state-piece}
 use Rattle.list.specs.Clauses.{clauses}
+use Rattle.counts.proofs.TableLaws.{slots-are}
+use Rattle.counts.specs.Tables.{mostInvariantClauses}
 use Rattle.parts.proofs.KnownLaws.{block-in, groups-piece-of, invariant-fits, invariants-piece-of, known-bounded, known-locations, wf}
 use Rattle.parts.specs.Pieces.{locationPiece}
-use Rattle.piece_tables.proofs.TableLaws.{slots-are}
-use Rattle.search.proofs.CheckLaws.{Upto, checked-as, checked-stop, checked-then, checked-within, passed-check, upto-done, upto-failed, upto-next}
-use Rattle.search.proofs.CheckLaws.{upto-none, upto-over}
+use Rattle.search.proofs.CheckLaws.{Upto, checked-as, checked-stop, checked-then, passed-check, upto-done, upto-failed, upto-next, upto-none, upto-over}
 use Rattle.search.proofs.FalseChoices.{location-clauses, location-true}
 use Rattle.search.proofs.Skips.{passed-over}
-use Rattle.search.specs.Limits.{mostInvariantClauses, mostStateClauses}
+use Rattle.search.specs.Limits.{mostStateClauses}
 use Rattle.search.proofs.pieces.check_state.Statement.{statement}
 use Rattle.search.proofs.pieces.check_state.Tie as tie
 
@@ -77,13 +77,14 @@ loop-less c = search needs
 loop-again : tie.Need-loop-again Inv-loop μ-loop
 loop-again c =
     let l2 = c .before .before .before in
+    let loop-test = c .before .before .loop-test in
     let g = l2 .before .before .before .before .before in
     let l = l2 .loop .l in
     let is-false = sym (c .before .is-true .ensures) ∙ not-true _ (c .if2 .taken) in
     let all = location-true (g .pre .0) (now (g .args .a)) (g .args .o) l is-false in
-    let clauses = location-clauses (g .pre .0) (g .args .o) l (c .before .before .loop-test .taken) (g .pre .1) in
-    upto-over (l2 .loop .inv) (c .before .before .loop-test .taken) (passed-over all clauses refl)
-    (omega (arith, g .pre .1 .few l (c .before .before .loop-test .taken)))
+    let clauses = location-clauses (g .pre .0) (g .args .o) l (loop-test .taken) (g .pre .1) in
+    upto-over (l2 .loop .inv) (loop-test .taken) (passed-over all clauses refl)
+    (omega (arith, g .pre .1 .few l (loop-test .taken)))
 
 mul-v : tie.Need-mul-v Inv-loop μ-loop
 mul-v c =
@@ -120,8 +121,8 @@ returns-2 c =
     let k = l .before .before .before .before in
     let g = k .before .before in
     let groups = passed-check (checked-as (groups-piece-of (g .pre .0) (g .args .o)) (k .check-groups .ensures)) (not-false _ (l .before .before .if1 .left)) in
-    let atoms = checked-within mostInvariantClauses (c .before .before .check-atoms .ensures) (omega arith) in
-    let invariants = upto-failed (l .before .loop .inv) (16 * mostInvariantClauses) (l .loop-test .taken) atoms (not-true _ (c .if3 .taken))
+    let invariants = upto-failed (l .before .loop .inv) (16 * mostInvariantClauses) (l .loop-test .taken) (c .before .before .check-atoms .ensures)
+    (not-true _ (c .if3 .taken))
     (omega (arith, l .loop-test .taken, wf (g .pre .0) .locations-le)) in
     checked-as (sym (state-piece (g .args .t1) (g .args .o)))
     (checked-then mostStateClauses groups (checked-as (invariants-piece-of (g .pre .0) (g .args .o)) invariants)
@@ -136,43 +137,20 @@ loop-less-2 c = search needs
 loop-again-2 : tie.Need-loop-again-2 Inv-loop μ-loop
 loop-again-2 c =
     let l = c .before .before .before .before .before .before .before in
-    let atoms = checked-within mostInvariantClauses (c .before .before .check-atoms .ensures) (omega arith) in
-    upto-next (l .before .loop .inv) (l .loop-test .taken) atoms (not-false _ (c .if3 .left))
+    upto-next (l .before .loop .inv) (l .loop-test .taken) (c .before .before .check-atoms .ensures) (not-false _ (c .if3 .left))
 
 returns-3 : tie.Need-returns-3 Inv-loop μ-loop
 returns-3 c =
+    let loop-inv = c .before .loop .inv in
     let k = c .before .before .before .before in
     let g = k .before .before in
     let groups = passed-check (checked-as (groups-piece-of (g .pre .0) (g .args .o)) (k .check-groups .ensures)) (not-false _ (c .before .before .if1 .left)) in
-    let invariants = upto-done (c .before .loop .inv) (16 * mostInvariantClauses) (omega arith) (omega (arith, c .before .loop .inv .le, wf (g .pre .0) .locations-le)) in
+    let invariants = upto-done loop-inv (16 * mostInvariantClauses) (omega arith) (omega (arith, loop-inv .le, wf (g .pre .0) .locations-le)) in
     checked-as (sym (state-piece (g .args .t1) (g .args .o)))
     (checked-then mostStateClauses groups (checked-as (invariants-piece-of (g .pre .0) (g .args .o)) invariants)
     (omega (arith, k .check-groups .ensures .most)))
 
 pub check-state-spec : {M : Type 1} → statement M
 check-state-spec =
-    tie.close
-    (tie.spec
-    Inv-loop
-    μ-loop
-    check-groups-requires
-    returns
-    cast-l-end
-    loop-holds
-    add-is-true
-    is-true-requires
-    mul-count
-    array-read-count
-    add-count
-    add-l
-    loop-less
-    loop-again
-    mul-v
-    element-copy-out-v
-    add-check-atoms
-    check-atoms-requires
-    returns-2
-    add-l-2
-    loop-less-2
-    loop-again-2
-    returns-3)
+    tie.close (tie.spec Inv-loop μ-loop check-groups-requires returns cast-l-end loop-holds add-is-true is-true-requires mul-count array-read-count add-count
+    add-l loop-less loop-again mul-v element-copy-out-v add-check-atoms check-atoms-requires returns-2 add-l-2 loop-less-2 loop-again-2 returns-3)

@@ -1,3 +1,4 @@
+-- initial_value: by the kind of the group, as the definition goes.
 use Rattle.parts.proofs.KnownLaws.{initial-loc, initial-counter, initial-clock}
 use Rattle.model.proofs.FormLaws.{formed}
 use native.Mathlib.Omega.{arith}

@@ -1,3 +1,4 @@
+-- both_lead: the truth of a clause that leads from two variables to a third, by that of its first two literals.
 use denote.Ref.{now}
 use mathlib.Core.List.{[], _∷_}
 use Rattle.list.specs.Clauses.{bare, negated}
@@ -13,7 +14,9 @@ is-true-requires : tie.Need-is-true-requires
 is-true-requires c κs = search needs
 
 returns : tie.Need-returns
-returns c = more-true (now (c .before .before .before .args .a)) (negated (c .before .before .before .args .x) ∷ negated (c .before .before .before .args .y) ∷ []) (bare (c .before .before .before .args .z)) (c .before .not-both .ensures) (c .is-true .ensures)
+returns c =
+    let args = c .before .before .before .args in
+    more-true (now (args .a)) (negated (args .x) ∷ negated (args .y) ∷ []) (bare (args .z)) (c .before .not-both .ensures) (c .is-true .ensures)
 
 pub both-lead-spec : {M : Type 1} → statement M
 both-lead-spec = tie.close (tie.spec not-both-requires is-true-requires returns)

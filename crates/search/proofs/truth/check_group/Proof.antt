@@ -99,10 +99,11 @@ returns-2 : tie.Need-returns-2 Inv-upper μ-upper Inv-lower μ-lower
 unfolding groupClauses pairs
 returns-2 c =
     let u = c .before .before .before in
+    let upper-test-taken = c .before .before .upper-test .taken in
     let l = u .before .before .before in
     let m = l .before .before .before in
     let both = sym (c .before .not-both .ensures) ∙ not-true _ (c .if3 .taken) in
-    let in-row = upto-failed (u .upper .inv) 64 (c .before .before .upper-test .taken) (checked-false _ _ _ both) refl (omega (arith, c .before .before .upper-test .taken)) in
+    let in-row = upto-failed (u .upper .inv) 64 upper-test-taken (checked-false _ _ _ both) refl (omega (arith, upper-test-taken)) in
     checked-then mostGroupClauses (clause-passed _ _ _ (sym (m .members-true .ensures) ∙ not-false _ (l .before .before .if1 .left)))
     (upto-failed (l .before .lower .inv) (64 * 64) (l .lower-test .taken) in-row refl (omega (arith, l .lower-test .taken)))
     (omega arith)
@@ -144,36 +145,6 @@ returns-3 c =
 
 pub check-group-spec : {M : Type 1} → statement M
 check-group-spec =
-    tie.close
-    (tie.spec
-    Inv-upper
-    μ-upper
-    Inv-lower
-    μ-lower
-    members-true-requires
-    returns
-    add-count
-    lower-holds
-    add-rest
-    sub-rest
-    add-is-true
-    is-true-requires
-    add-count-2
-    add-i
-    lower-less
-    lower-again
-    upper-holds
-    add-not-both
-    add-not-both-2
-    add-not-both-3
-    add-not-both-4
-    not-both-requires
-    returns-2
-    add-count-3
-    add-d
-    upper-less
-    upper-again
-    add-i-2
-    lower-less-2
-    lower-again-2
-    returns-3)
+    tie.close (tie.spec Inv-upper μ-upper Inv-lower μ-lower members-true-requires returns add-count lower-holds add-rest sub-rest add-is-true is-true-requires
+    add-count-2 add-i lower-less lower-again upper-holds add-not-both add-not-both-2 add-not-both-3 add-not-both-4 not-both-requires returns-2 add-count-3 add-d
+    upper-less upper-again add-i-2 lower-less-2 lower-again-2 returns-3)

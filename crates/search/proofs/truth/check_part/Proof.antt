@@ -49,15 +49,4 @@ returns-2 c =
     upto-done (c .before .loop .inv) mostPartClauses (omega arith) (omega (arith, c .before .loop .inv .le, g .pre .1 .size-le))
 
 pub check-part-spec : {M : Type 1} → statement M
-check-part-spec =
-    tie.close
-    (tie.spec
-    Inv-loop
-    μ-loop
-    loop-holds
-    check-value-requires
-    returns
-    add-v
-    loop-less
-    loop-again
-    returns-2)
+check-part-spec = tie.close (tie.spec Inv-loop μ-loop loop-holds check-value-requires returns add-v loop-less loop-again returns-2)

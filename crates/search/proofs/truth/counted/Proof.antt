@@ -1,3 +1,4 @@
+-- counted: the answer for one clause, by cases on its truth.
 use borrow.Author.Needs.{needs}
 use Rattle.search.proofs.truth.counted.Statement.{statement}
 use Rattle.search.proofs.truth.counted.Tie as tie

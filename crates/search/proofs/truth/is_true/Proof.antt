@@ -1,3 +1,4 @@
+-- is_true: a byte of 1 is what the definition of a bit asks.
 use mathlib.Core.Path.{refl}
 use borrow.Author.Needs.{needs}
 use Rattle.search.proofs.truth.is_true.Statement.{statement}

@@ -1,3 +1,4 @@
+-- members_true: a loop keeps the truth of the clause of the members so far.
 use borrow.Author.Needs.{needs}
 use Rattle.search.proofs.CheckLaws.{members-none, members-more}
 use Rattle.list.specs.Assignments.{clauseTrue}
@@ -38,15 +39,4 @@ returns c =
     rw done at (c .before .loop .inv .1)
 
 pub members-true-spec : {M : Type 1} → statement M
-members-true-spec =
-    tie.close
-    (tie.spec
-    Inv-loop
-    μ-loop
-    loop-holds
-    add-is-true
-    is-true-requires
-    add-i
-    loop-less
-    loop-again
-    returns)
+members-true-spec = tie.close (tie.spec Inv-loop μ-loop loop-holds add-is-true is-true-requires add-i loop-less loop-again returns)

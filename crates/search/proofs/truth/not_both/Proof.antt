@@ -1,3 +1,4 @@
+-- not_both: the truth of a clause with two negated literals.
 use Rattle.list.specs.Clauses.{negated}
 use denote.Ref.{now}
 use mathlib.Core.Bool.{not}
@@ -14,7 +15,9 @@ is-true-requires-2 : tie.Need-is-true-requires-2
 is-true-requires-2 c κs = search needs
 
 returns : tie.Need-returns
-returns c = two-true (now (c .before .before .before .args .a)) (negated (c .before .before .before .args .x)) (negated (c .before .before .before .args .y)) (ap not (c .before .is-true .ensures)) (ap not (c .is-true2 .ensures))
+returns c =
+    let args = c .before .before .before .args in
+    two-true (now (args .a)) (negated (args .x)) (negated (args .y)) (ap not (c .before .is-true .ensures)) (ap not (c .is-true2 .ensures))
 
 pub not-both-spec : {M : Type 1} → statement M
 not-both-spec = tie.close (tie.spec is-true-requires is-true-requires-2 returns)

@@ -1,3 +1,4 @@
+-- not_one: the truth of a clause with one literal.
 use Rattle.list.specs.Clauses.{negated}
 use denote.Ref.{now}
 use mathlib.Core.Bool.{not}

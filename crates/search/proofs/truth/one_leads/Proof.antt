@@ -1,3 +1,4 @@
+-- one_leads: the truth of a clause that leads from one variable to another.
 use Rattle.list.specs.Clauses.{bare, negated}
 use denote.Ref.{now}
 use mathlib.Core.Bool.{not}
@@ -14,7 +15,9 @@ is-true-requires-2 : tie.Need-is-true-requires-2
 is-true-requires-2 c κs = search needs
 
 returns : tie.Need-returns
-returns c = two-true (now (c .before .before .before .args .a)) (negated (c .before .before .before .args .x)) (bare (c .before .before .before .args .z)) (ap not (c .before .is-true .ensures)) (c .is-true2 .ensures)
+returns c =
+    let args = c .before .before .before .args in
+    two-true (now (args .a)) (negated (args .x)) (bare (args .z)) (ap not (c .before .is-true .ensures)) (c .is-true2 .ensures)
 
 pub one-leads-spec : {M : Type 1} → statement M
 one-leads-spec = tie.close (tie.spec is-true-requires is-true-requires-2 returns)
