@@ -1,2 +1,0 @@
-pub mod FalseChoices
-pub mod Sequel
