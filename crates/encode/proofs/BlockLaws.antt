@@ -18,9 +18,12 @@ use Rattle.list.specs.Assignments.{oneHot, stateBytes, stepsBytes}
 use Rattle.encode.specs.Blocks.{counterBytes, clockBytes, stepBytes, Walks}
 
 -- a state block: the location, the counters, the clocks
-pub state-is : (m : Model) (s : State) (top : ℕ) → top ≡ ceiling m → stateBytes oneHot m s ≡ oneHot (m .locations) (s .location) ++ each (m .vars) (counterBytes (m .counters) (s .counters)) ++ each (m .clocks) (clockBytes top (s .clocks))
+pub state-is : (m : Model) (s : State) (top : ℕ) → top ≡ ceiling m → stateBytes oneHot m s
+    ≡ oneHot (m .locations) (s .location) ++ each (m .vars) (counterBytes (m .counters) (s .counters)) ++ each (m .clocks) (clockBytes top (s .clocks))
 unfolding stateBytes counterBytes clockBytes
-state-is m s top e = ap (λ (n : ℕ). oneHot (m .locations) (s .location) ++ each (m .vars) (counterBytes (m .counters) (s .counters)) ++ each (m .clocks) (clockBytes n (s .clocks))) (sym e)
+state-is m s top e =
+    ap (λ (n : ℕ). oneHot (m .locations) (s .location) ++ each (m .vars) (counterBytes (m .counters) (s .counters)) ++ each (m .clocks)
+    (clockBytes n (s .clocks))) (sym e)
 
 -- a step: the choice, the state
 pub step-is : (m : Model) (b : ℕ) (t : State) (n : ℕ) → n ≡ choices m → stepBytes m b t ≡ oneHot n b ++ stateBytes oneHot m t
@@ -40,7 +43,8 @@ module _ (m : Model) where
 
   -- a walk, and the steps after it
   steps-append : (r q : List ℕ) (s e : State) → walk m s r ≡ some e → stepsBytes oneHot m s (r ++ q) ≡ stepsBytes oneHot m s r ++ stepsBytes oneHot m e q
-  steps-append [] q s e h = ap (λ (x : State). stepsBytes oneHot m x q) (walk-nil m s e .0 h) ∙ ap (λ (l : List ℕ). l ++ stepsBytes oneHot m e q) (sym (steps-none m s))
+  steps-append [] q s e h =
+      ap (λ (x : State). stepsBytes oneHot m x q) (walk-nil m s e .0 h) ∙ ap (λ (l : List ℕ). l ++ stepsBytes oneHot m e q) (sym (steps-none m s))
   steps-append (b ∷ r) q s e h =
       let x = walk-cons m s e b r .0 h in
       steps-cons s (x .0) b (r ++ q) (x .1) ∙
@@ -63,21 +67,26 @@ module _ (m : Model) where
     -- the walk goes on, so the next step is taken
     pub taken : Walks m first run → (a : Stepped) → a ≡ stepped s (step m s (getD run t 0)) → step m s (getD run t 0) ≡ some (a .state)
     taken w a e =
-        let whole : walk m s (getD run t 0 ∷ drop (t + 1) run) ≡ some (w .end) = ap (walk m s) (sym rest) ∙ sym (walk-app m (take t run) (drop t run) first s reached) ∙ ap (walk m first) (take-append-drop t run) ∙ w .ends in
+        let whole : walk m s (getD run t 0 ∷ drop (t + 1) run) ≡ some (w .end) = ap (walk m s) (sym rest)
+        ∙ sym (walk-app m (take t run) (drop t run) first s reached) ∙ ap (walk m first) (take-append-drop t run) ∙ w .ends in
         let x = walk-cons m s (w .end) (getD run t 0) (drop (t + 1) run) .0 whole in
         advanced (step m s (getD run t 0)) a e (x .0) (x .1)
 
     module _ (u : State) (h : step m s (getD run t 0) ≡ some u) where
       pub reached-more : walk m first (take (t + 1) run) ≡ some u
-      reached-more = ap (walk m first) more ∙ walk-app m (take t run) (getD run t 0 ∷ []) first s reached ∙ walk-step m s u (getD run t 0) [] h ∙ walk-nil m u u .1 refl
+      reached-more =
+          ap (walk m first) more ∙ walk-app m (take t run) (getD run t 0 ∷ []) first s reached ∙ walk-step m s u (getD run t 0) [] h ∙ walk-nil m u u .1 refl
 
       pub steps-more : stepsBytes oneHot m first (take (t + 1) run) ≡ stepsBytes oneHot m first (take t run) ++ stepBytes m (getD run t 0) u
       steps-more =
           ap (stepsBytes oneHot m first) more ∙ steps-append (take t run) (getD run t 0 ∷ []) first s reached ∙
-          ap (λ (x : List ℕ). stepsBytes oneHot m first (take t run) ++ x) (steps-cons s u (getD run t 0) [] h ∙ rw (steps-none m u) (append-nil (stepBytes m (getD run t 0) u)))
+          ap (λ (x : List ℕ). stepsBytes oneHot m first (take t run) ++ x)
+          (steps-cons s u (getD run t 0) [] h ∙ rw (steps-none m u) (append-nil (stepBytes m (getD run t 0) u)))
 
-      pub steps-whole : stepsBytes oneHot m first run ≡ stepsBytes oneHot m first (take t run) ++ stepBytes m (getD run t 0) u ++ stepsBytes oneHot m u (drop (t + 1) run)
+      pub steps-whole :
+          stepsBytes oneHot m first run ≡ stepsBytes oneHot m first (take t run) ++ stepBytes m (getD run t 0) u ++ stepsBytes oneHot m u (drop (t + 1) run)
       steps-whole =
           ap (stepsBytes oneHot m first) (sym (take-append-drop t run)) ∙ steps-append (take t run) (drop t run) first s reached ∙
-          ap (λ (x : List ℕ). stepsBytes oneHot m first (take t run) ++ x) (ap (stepsBytes oneHot m s) rest ∙ steps-cons s u (getD run t 0) (drop (t + 1) run) h) ∙
+          ap (λ (x : List ℕ). stepsBytes oneHot m first (take t run) ++ x)
+          (ap (stepsBytes oneHot m s) rest ∙ steps-cons s u (getD run t 0) (drop (t + 1) run) h) ∙
           sym (append-assoc (stepsBytes oneHot m first (take t run)) (stepBytes m (getD run t 0) u) (stepsBytes oneHot m u (drop (t + 1) run)))

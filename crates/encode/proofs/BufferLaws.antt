@@ -21,7 +21,8 @@ room-is {l} {a} h w = subst (λ (x : List ℕ). Room x l a) h w
 
 -- nothing is written
 pub wrote-none : (l : List ℕ) (at : ℕ) → at ≤ length l → Wrote [] l l at at
-wrote-none l at h = record { ends = omega arith; fits = h; long = refl; list = sym (ap (λ (r : List ℕ). r ++ drop at l) (append-nil (take at l)) ∙ take-append-drop at l) }
+wrote-none l at h =
+    record { ends = omega arith; fits = h; long = refl; list = sym (ap (λ (r : List ℕ). r ++ drop at l) (append-nil (take at l)) ∙ take-append-drop at l) }
 
 -- one byte is stored
 pub wrote-one : (l : List ℕ) (at x : ℕ) → at < length l → Wrote (x ∷ []) l (set l at x) at (at + 1)
@@ -34,19 +35,23 @@ wrote-then {p} {q} {old} {mid} {new} {a} {b} {e} w v =
     let head : take b mid ≡ take a old ++ p = ap (take b) (w .list) ∙ take-at (take a old ++ p) (drop b old) b front in
     let rest : drop b mid ≡ drop b old = ap (drop b) (w .list) ∙ drop-at (take a old ++ p) (drop b old) b front in
     let far : drop e mid ≡ drop e old =
-    ap (λ (n : ℕ). drop n mid) (v .ends) ∙ sym (drop-drop (length q) b mid) ∙ ap (drop (length q)) rest ∙ drop-drop (length q) b old ∙ ap (λ (n : ℕ). drop n old) (sym (v .ends)) in
+    ap (λ (n : ℕ). drop n mid) (v .ends) ∙ sym (drop-drop (length q) b mid) ∙ ap (drop (length q)) rest ∙ drop-drop (length q) b old
+    ∙ ap (λ (n : ℕ). drop n old) (sym (v .ends)) in
     record {
       ends = simp length-append (omega (arith, w .ends, v .ends));
       fits = omega (arith, v .fits, w .long);
       long = v .long ∙ w .long;
-      list = v .list ∙ ap (λ (l : List ℕ). l ++ q ++ drop e mid) head ∙ ap (λ (l : List ℕ). take a old ++ p ++ q ++ l) far ∙ ap (λ (l : List ℕ). l ++ drop e old) (append-assoc (take a old) p q);
+      list =
+          v .list ∙ ap (λ (l : List ℕ). l ++ q ++ drop e mid) head ∙ ap (λ (l : List ℕ). take a old ++ p ++ q ++ l) far
+          ∙ ap (λ (l : List ℕ). l ++ drop e old) (append-assoc (take a old) p q);
     }
 
 -- ---- a loop that writes one byte a turn
 pub wrote-list-none : (f : ℕ → ℕ) (l : List ℕ) (at : ℕ) → at ≤ length l → Wrote (listBelow f 0) l l at at
 wrote-list-none f l at h = rw (list-none f) (wrote-none l at h)
 
-pub wrote-list : (f : ℕ → ℕ) (i x : ℕ) {old mid : List ℕ} {a b : ℕ} → Wrote (listBelow f i) old mid a b → x ≡ f i → b < length mid → Wrote (listBelow f (i + 1)) old (set mid b x) a (b + 1)
+pub wrote-list : (f : ℕ → ℕ) (i x : ℕ) {old mid : List ℕ} {a b : ℕ} → Wrote (listBelow f i) old mid a b → x ≡ f i → b < length mid
+    → Wrote (listBelow f (i + 1)) old (set mid b x) a (b + 1)
 wrote-list f i x w e h = rw (list-more f i, ← e) (wrote-then w (wrote-one _ _ x h))
 
 -- ---- a loop that writes a piece a turn
@@ -56,7 +61,8 @@ each-more n f = ap (λ (k : ℕ). each k f) (add-one n) ∙ each-suc n f
 pub wrote-each-none : (f : ℕ → List ℕ) (l : List ℕ) (at : ℕ) → at ≤ length l → Wrote (each 0 f) l l at at
 wrote-each-none f l at h = rw (each-zero f) (wrote-none l at h)
 
-pub wrote-each : (f : ℕ → List ℕ) (i : ℕ) {old mid new : List ℕ} {a b e : ℕ} → Wrote (each i f) old mid a b → Wrote (f i) mid new b e → Wrote (each (i + 1) f) old new a e
+pub wrote-each :
+    (f : ℕ → List ℕ) (i : ℕ) {old mid new : List ℕ} {a b e : ℕ} → Wrote (each i f) old mid a b → Wrote (f i) mid new b e → Wrote (each (i + 1) f) old new a e
 wrote-each f i w v = rw (each-more i f) (wrote-then w v)
 
 -- ---- room for what is still to be written
@@ -67,7 +73,9 @@ pub room-then : {p q old mid : List ℕ} {a b : ℕ} → Wrote p old mid a b →
 room-then {p} {q} w h = record { room = omega (arith, length-append p q, h .room) }
 
 each-le : (f : ℕ → List ℕ) (i n : ℕ) → i ≤ n → length (each i f) ≤ length (each n f)
-each-le f i n h = le-ind (λ (k : ℕ). length (each i f) ≤ length (each k f)) (le-refl (length (each i f))) (λ k _ ih. rw (each-suc k f, length-append (each k f) (f k)) (omega arith)) n h
+each-le f i n h =
+    le-ind (λ (k : ℕ). length (each i f) ≤ length (each k f)) (le-refl (length (each i f)))
+    (λ k _ ih. rw (each-suc k f, length-append (each k f) (f k)) (omega arith)) n h
 
 pub room-each : (f : ℕ → List ℕ) (i n : ℕ) {old mid : List ℕ} {a b : ℕ} → Wrote (each i f) old mid a b → i < n → Room (each n f) old a → Room (f i) mid b
 room-each f i n w h r = record { room = omega (arith, length-append (each i f) (f i), ap length (each-suc i f), each-le f (suc i) n h, r .room) }

@@ -42,7 +42,8 @@ steps-honest m [] t s = go (eqb (s .location) (m .target))
     go false h = never h
 steps-honest m (b ∷ r) t s = go (leb (choices m) b) (step m s b) (λ u. steps-honest m r (t + 1) u)
   where
-    go : (x : Bool) (o : Option State) → ((u : State) → Honest (walkSteps m (t + 1) u r)) → Honest (cond x (refusal 27 t) (maybe o (refusal 28 t) (λ u. walkSteps m (t + 1) u r)))
+    go : (x : Bool) (o : Option State) → ((u : State) → Honest (walkSteps m (t + 1) u r))
+        → Honest (cond x (refusal 27 t) (maybe o (refusal 28 t) (λ u. walkSteps m (t + 1) u r)))
     go true o ih h = never h
     go false none ih h = never h
     go false (some u) ih h = ih u h
@@ -58,6 +59,10 @@ walk-honest m r = go (wellFormed m) (ltb 64 (length r)) (start m)
     go true false (some s) h = steps-honest m r 1 s h
 
 -- ---- what an accepted run is
+-- a test on the number of a verdict, said of the report
+pub tested : {n : ℕ} {v r : Refusal} {b : Bool} → n ≡ v .number → v ≡ r → eqb n 0 ≡ b → eqb (r .number) 0 ≡ b
+tested e f t = ap (λ (x : ℕ). eqb x 0) (sym (e ∙ ap (λ (x : Refusal). x .number) f)) ∙ t
+
 pub record AcceptedRun (m : Model) (r : List ℕ) : Type 0 where
   pub model-formed : T (wellFormed m)
   pub short : length r ≤ 64
@@ -103,7 +108,8 @@ module _ (m : Model) (r : List ℕ) where
   unfolding encodeLeft
   left-0 old h = rw h
 
-  pub left-written : {old new : List ℕ} {e : ℕ} → isAccepted (walkReport m r) ≡ true → ltb (length old) (variables m (length r)) ≡ false → Wrote (assignmentOf m r) old new 0 e → new ≡ encodeLeft m r old
+  pub left-written : {old new : List ℕ} {e : ℕ} → isAccepted (walkReport m r) ≡ true → ltb (length old) (variables m (length r)) ≡ false
+      → Wrote (assignmentOf m r) old new 0 e → new ≡ encodeLeft m r old
   left-written {old} {new} {e} h l w =
       let end : e ≡ variables m (length r) = omega (arith, w .ends, assignment-length (accepted-run m r h)) in
       w .list ∙ ap (λ (n : ℕ). assignmentOf m r ++ drop n old) end ∙ sym (left-0 old (report-0 (length old) h l))
@@ -111,9 +117,11 @@ module _ (m : Model) (r : List ℕ) where
 -- accepted: the walker accepts the run, and the buffer has room for N bytes
 pub encode-accepts : (m : Model) (r : List ℕ) (n : ℕ) → (encodeReport m r n ≡ accepted) ↔ ((walkReport m r ≡ accepted) × (variables m (length r) ≤ n))
 unfolding encodeReport
-encode-accepts m r n = ((λ h. go (isAccepted (walkReport m r)) (ltb n (variables m (length r))) refl refl h), λ h. rw (h .0, le-ltb n (variables m (length r)) (h .1)) refl)
+encode-accepts m r n =
+    ((λ h. go (isAccepted (walkReport m r)) (ltb n (variables m (length r))) refl refl h), λ h. rw (h .0, le-ltb n (variables m (length r)) (h .1)) refl)
   where
-    go : (a l : Bool) → isAccepted (walkReport m r) ≡ a → ltb n (variables m (length r)) ≡ l → cond a (cond l (refusal 31 0) accepted) (walkReport m r) ≡ accepted → (walkReport m r ≡ accepted) × (variables m (length r) ≤ n)
+    go : (a l : Bool) → isAccepted (walkReport m r) ≡ a → ltb n (variables m (length r)) ≡ l
+        → cond a (cond l (refusal 31 0) accepted) (walkReport m r) ≡ accepted → (walkReport m r ≡ accepted) × (variables m (length r) ≤ n)
     go true true p q h = absurd (let z : 31 ≡ 0 = ap (λ (x : Refusal). x .number) h in omega arith)
     go true false p q h = (walk-honest m r p, ltb-false n (variables m (length r)) q)
     go false l p q h = never (sym p ∙ ap isAccepted h)

@@ -180,8 +180,7 @@ module _ (Y : Layout) (m : Model) (ok : WellFormed m) where
   pub encoded-app : (r q : List ℕ) (e : State) → walk m (initialState m) r ≡ some e → encoded Y m (r ++ q) ≡ encoded Y m r ++ stepsBytes (Y .bytes) m e q
   encoded-app r q e h = rw (steps-bytes-app Y m r q (initialState m) e h, append-assoc)
 
-  pub encoded-cut : (r q : List ℕ) (e : State) → walk m (initialState m) r ≡ some e
-      → take (widthFor Y m (length r)) (encoded Y m (r ++ q)) ≡ encoded Y m r
+  pub encoded-cut : (r q : List ℕ) (e : State) → walk m (initialState m) r ≡ some e → take (widthFor Y m (length r)) (encoded Y m (r ++ q)) ≡ encoded Y m r
   encoded-cut r q e h = rw (encoded-app r q e h) (take-at (encoded Y m r) (stepsBytes (Y .bytes) m e q) (widthFor Y m (length r)) (encoded-length Y m r e h))
 
   -- an assignment that satisfies the list for j goes on to one that satisfies the list for j + p: its run goes on by p delays of 0
@@ -207,8 +206,7 @@ module _ (Y : Layout) (m : Model) (ok : WellFormed m) where
           )
 
   -- the encoding of a walk satisfies the list exactly if the walk is a run
-  pub walk-satisfies : (r : List ℕ) (d : State) → walk m (initialState m) r ≡ some d → T (satisfied (encoded Y m r) (listFor Y m (length r)))
-      ↔ T (isRun m r)
+  pub walk-satisfies : (r : List ℕ) (d : State) → walk m (initialState m) r ≡ some d → T (satisfied (encoded Y m r) (listFor Y m (length r))) ↔ T (isRun m r)
   walk-satisfies r d h = (
     (λ t. rw (decoded-encoded Y m ok r d h) at (satisfying-decodes Y m ok (length r) (encoded Y m r) (encoded-binary Y m r)
         (encoded-length Y m r d h) t .1)),

@@ -21,12 +21,12 @@ use Rattle.model.specs.Automaton.{Component, loc, counter, clock, value, Declar
 use Rattle.model.proofs.FormLaws.{DeclaredAtom, WellFormed}
 use Rattle.model.proofs.StepLaws.{Shaped, state-ext, state-from, invariant-iff}
 use Rattle.list.specs.Lists.{All}
-use Rattle.list.specs.Items.{Member, Item, group, rule, overComponents, offset, stateMember, excludeValues, excludeFailing, excludeAllFailing, groupItems, invariantOf, invariantItems, stateItems}
+use Rattle.list.specs.Items.{Member, Item, group, rule, overComponents, offset, stateMember, excludeValues, excludeFailing, excludeAllFailing, groupItems}
+use Rattle.list.specs.Items.{invariantOf, invariantItems, stateItems}
 use Rattle.list.proofs.ListLaws.{all-app, all-app₃, all-each}
 use Rattle.list.proofs.Meaning.{Shows, Holds, shows-unique}
 
-cons-at : (P : ℕ → ℕ → Type 0) (x : ℕ) (l : List ℕ) (n : ℕ) → P 0 x → ((i : ℕ) → i < n → P (suc i) (getD l i 0)) → (i : ℕ) → i < suc n
-    → P i (getD (x ∷ l) i 0)
+cons-at : (P : ℕ → ℕ → Type 0) (x : ℕ) (l : List ℕ) (n : ℕ) → P 0 x → ((i : ℕ) → i < n → P (suc i) (getD l i 0)) → (i : ℕ) → i < suc n → P i (getD (x ∷ l) i 0)
 cons-at P x l n p h zero q = p
 cons-at P x l n p h (suc i) q = h i (omega arith)
 

@@ -70,8 +70,7 @@ module _ (a : List ℕ) where
     λ h. all-each _ n _ .1 (λ i p. all-each _ (n - (i + 1)) _ .1 (λ j q. one-iff _ .1 (of i j (h i (i + 1 + j) (omega arith) (omega arith))))),
   )
     where
-      go : (i d j : ℕ) → b + i + 1 + d ≡ b + j → T (not (bit a (b + i)) || (not (bit a (b + i + 1 + d)) || false)) → T (bit a (b + i))
-          → T (bit a (b + j)) → ⊥
+      go : (i d j : ℕ) → b + i + 1 + d ≡ b + j → T (not (bit a (b + i)) || (not (bit a (b + i + 1 + d)) || false)) → T (bit a (b + i)) → T (bit a (b + j)) → ⊥
       go i d j e t = rw (← e) (not-both (bit a (b + i)) (bit a (b + i + 1 + d)) .0 t)
 
       of : (i j : ℕ) → (T (bit a (b + i)) → T (bit a (b + (i + 1 + j))) → ⊥) → T (not (bit a (b + i)) || (not (bit a (b + i + 1 + j)) || false))

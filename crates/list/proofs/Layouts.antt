@@ -84,8 +84,7 @@ module _ (Y : Layout) (m : Model) where
   abbrev componentBytes : State → Component → List ℕ
   componentBytes s x = Y .bytes (groupSize m x) (value s x)
 
-  counters-length : (s : State) → length (each (m .vars) (λ i. componentBytes s (counter i)))
-      ≡ sumBelow (λ i. Y .width (groupSize m (counter i))) (m .vars)
+  counters-length : (s : State) → length (each (m .vars) (λ i. componentBytes s (counter i))) ≡ sumBelow (λ i. Y .width (groupSize m (counter i))) (m .vars)
   counters-length s = length-each (λ i. Y .width (groupSize m (counter i))) (m .vars) (λ i. componentBytes s (counter i))
       (λ i. Y .bytes-length (groupSize m (counter i)) (value s (counter i)))
 

@@ -55,7 +55,8 @@ module _ {A : Type 0} (P : A → Type 0) where
 
   pub all-list : (f : ℕ → A) (n : ℕ) → ((i : ℕ) → i < n → P (f i)) → All P (listBelow f n)
   all-list f zero h = subst (All P) (sym (list-none f)) tt
-  all-list f (suc n) h = subst (All P) (sym (list-suc f n)) (all-app (listBelow f n) (f n ∷ []) .1 (all-list f n (λ i p. h i (omega arith)), (h n (omega arith), tt)))
+  all-list f (suc n) h =
+      subst (All P) (sym (list-suc f n)) (all-app (listBelow f n) (f n ∷ []) .1 (all-list f n (λ i p. h i (omega arith)), (h n (omega arith), tt)))
 
 module _ {A B : Type 0} (P : B → Type 0) (f : A → List B) where
   pub all-flat : (l : List A) → All P (flatMap f l) ↔ All (λ x. All P (f x)) l

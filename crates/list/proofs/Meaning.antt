@@ -42,8 +42,7 @@ module _ (truth : Member → Bool) where
         go none e t = absurd t
         go (some u) e t = e ∙ ap some (p′ .only u (ok d u (p .below) e) t)
 
-    pub leads-of : (c ≡ k → f d ≡ some d′)
-        → All Holds (each n (λ v. rule (member bc nc c ∷ member b n v ∷ []) (Option·map (member b′ n′) (f v)) ∷ []))
+    pub leads-of : (c ≡ k → f d ≡ some d′) → All Holds (each n (λ v. rule (member bc nc c ∷ member b n v ∷ []) (Option·map (member b′ n′) (f v)) ∷ []))
     leads-of h = all-each Holds n _ .1 (λ v q. (λ t. rw (p .only v q (t .1 .0), h (pc .only c hc (t .0))) (p′ .is-true), tt))
 
   -- one choice puts a group at a value, or is excluded

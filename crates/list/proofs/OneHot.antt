@@ -25,7 +25,8 @@ use Rattle.list.proofs.ListLaws.{all-list, list-cong, list-cons, drop-l
 use Rattle.list.proofs.Meaning.{Shows}
 use Rattle.list.proofs.Expansion.{memberTrue, satisfied-iff}
 use Rattle.list.proofs.Layouts.{Layout, At}
-use Rattle.list.proofs.AnyLayout.{listFor, widthFor, encoded, decoded, decodedFrom, satisfying-decodes, run-satisfies, decoded-encoded, encoded-length, encoded-binary, bodyFor, list-is, body-longer, goes-on, cut}
+use Rattle.list.proofs.AnyLayout.{listFor, widthFor, encoded, decoded, decodedFrom, satisfying-decodes, run-satisfies, decoded-encoded, encoded-length}
+use Rattle.list.proofs.AnyLayout.{encoded-binary, bodyFor, list-is, body-longer, goes-on, cut}
 
 -- ---- bytes
 pub binary-at : (a : List ℕ) (i : ℕ) → Binary a → getD a i 0 < 2

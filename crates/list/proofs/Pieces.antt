@@ -13,7 +13,10 @@ use Rattle.model.specs.Indexed.{each}
 use Rattle.model.specs.Record.{atomAt, updateAt, resetAt}
 use Rattle.model.specs.Automaton.{ceiling, choices, Component, loc, counter, clock, groupSize, initialValue, meets, delayedValue}
 use Rattle.list.specs.Lists.{toList}
-use Rattle.list.specs.Items.{Member, Item, group, rule, overComponents, offset, stateWidth, blockAt, nextBlock, stateMember, choiceMember, excludeValues, excludeFailing, excludeAllFailing, groupItems, invariantOf, invariantItems, stateItems, initialItems, startItems, choiceItems, leads, puts, delayItems, delaysItems, sourceItems, targetItems, guardItems, updateItems, updatesItems, resetItems, resetsItems, edgeItems, edgeOf, edgesItems, stepItems, endItems, bodyItems, items}
+use Rattle.list.specs.Items.{Member, Item, group, rule, overComponents, offset, stateWidth, blockAt, nextBlock, stateMember, choiceMember, excludeValues}
+use Rattle.list.specs.Items.{excludeFailing, excludeAllFailing, groupItems, invariantOf, invariantItems, stateItems, initialItems, startItems}
+use Rattle.list.specs.Items.{choiceItems, leads, puts, delayItems, delaysItems, sourceItems, targetItems, guardItems, updateItems, updatesItems}
+use Rattle.list.specs.Items.{resetItems, resetsItems, edgeItems, edgeOf, edgesItems, stepItems, endItems, bodyItems, items}
 use Rattle.list.specs.Clauses.{bare, negated, Clause, one, oneHotWidth, variableOf, groupClauses, expand, clausesOf, clauses}
 use Rattle.list.proofs.ListLaws.{flat-app, flat-none, flat-one, flat-each, each-cong}
 
@@ -26,8 +29,7 @@ over-cong m f g h = rw (
       (λ i. f (clock i)) (λ i. g (clock i)) (λ i p. h (clock i)),
 )
 
-pub flat-over : {A B : Type 0} (m : Model) (f : A → List B) (g : Component → List A)
-    → flatMap f (overComponents m g) ≡ overComponents m (λ x. flatMap f (g x))
+pub flat-over : {A B : Type 0} (m : Model) (f : A → List B) (g : Component → List A) → flatMap f (overComponents m g) ≡ overComponents m (λ x. flatMap f (g x))
 flat-over m f g = rw (
   flat-app f (g loc ++ each (m .vars) (λ i. g (counter i))) (each (m .clocks) (λ i. g (clock i))),
   flat-app f (g loc)
@@ -90,8 +92,7 @@ module _ (m : Model) where
   unfolding initialItems
   initial-piece = over-one m (λ x. rule [] (some (stateMember oneHotWidth m 0 x (initialValue m x))))
 
-  pub state-piece : (o : ℕ) → clausesOf (stateItems oneHotWidth m o)
-      ≡ clausesOf (groupItems oneHotWidth m o) ++ clausesOf (invariantItems oneHotWidth m o)
+  pub state-piece : (o : ℕ) → clausesOf (stateItems oneHotWidth m o) ≡ clausesOf (groupItems oneHotWidth m o) ++ clausesOf (invariantItems oneHotWidth m o)
   unfolding stateItems
   state-piece o = flat-app expand (groupItems oneHotWidth m o) (invariantItems oneHotWidth m o)
 
@@ -99,8 +100,7 @@ module _ (m : Model) where
   unfolding groupItems
   groups-piece o = over-one m (λ x. group (o + at x) (groupSize m x))
 
-  pub invariants-piece : (o : ℕ) → clausesOf (invariantItems oneHotWidth m o)
-      ≡ each (m .locations) (λ l. clausesOf (invariantOf oneHotWidth m o l))
+  pub invariants-piece : (o : ℕ) → clausesOf (invariantItems oneHotWidth m o) ≡ each (m .locations) (λ l. clausesOf (invariantOf oneHotWidth m o l))
   unfolding invariantItems
   invariants-piece o = flat-each expand (m .locations) (invariantOf oneHotWidth m o)
 
@@ -174,8 +174,7 @@ module _ (m : Model) where
       D : Component → List Item
       D x = leads oneHotWidth m o o d x x (λ v. some (delayedValue m d x v))
 
-  pub edges-piece : (o : ℕ) → clausesOf (edgesItems oneHotWidth m o)
-      ≡ each (m .used) (λ e. clausesOf (edgeOf oneHotWidth m o e))
+  pub edges-piece : (o : ℕ) → clausesOf (edgesItems oneHotWidth m o) ≡ each (m .used) (λ e. clausesOf (edgeOf oneHotWidth m o e))
   unfolding edgesItems
   edges-piece o = flat-each expand (m .used) (edgeOf oneHotWidth m o)
 
@@ -206,8 +205,7 @@ module _ (m : Model) where
     unfolding guardItems
     guard-piece = atoms-piece o (choiceMember oneHotWidth m o c ∷ []) (e .guard)
 
-    pub updates-piece : clausesOf (updatesItems oneHotWidth m o c e)
-        ≡ each (m .vars) (λ i. clausesOf (updateItems oneHotWidth m o c i (updateAt e i)))
+    pub updates-piece : clausesOf (updatesItems oneHotWidth m o c e) ≡ each (m .vars) (λ i. clausesOf (updateItems oneHotWidth m o c i (updateAt e i)))
     unfolding updatesItems
     updates-piece = flat-each expand (m .vars) (λ i. updateItems oneHotWidth m o c i (updateAt e i))
 

@@ -4,9 +4,11 @@ use mathlib.Core.Path.{refl}
 use mathlib.Core.List.{[], _∷_}
 use lib.Dec.{T}
 use Rattle.model.specs.Indexed.{listBelow, allBelow, maxBelow}
-use Rattle.model.specs.Automaton.{greatestConstant, ceiling, choices, allHold, invariantHolds, initialState, delayed, delayStep, countersInRange, afterEdge, edgeAllowed, edgeStep, step}
+use Rattle.model.specs.Automaton.{greatestConstant, ceiling, choices, allHold, invariantHolds, initialState, delayed, delayStep, countersInRange, afterEdge}
+use Rattle.model.specs.Automaton.{edgeAllowed, edgeStep, step}
 use Rattle.model.specs.Run.{walk, start, isRun}
-use Rattle.model.specs.Form.{wellFormed, headFormed, eachFormed, filledFromFirst, atomsFormed, updatesFormed, resetsFormed, edgeFormed, countersFormed, invariantsFormed, edgesFormed}
+use Rattle.model.specs.Form.{wellFormed, headFormed, eachFormed, filledFromFirst, atomsFormed, updatesFormed, resetsFormed, edgeFormed, countersFormed}
+use Rattle.model.specs.Form.{invariantsFormed, edgesFormed}
 use Rattle.list.specs.Assignments.{assignmentOf}
 use Rattle.list.specs.Demands.{Satisfies, RunOfSteps}
 use Rattle.samples.specs.Models.{modelB}

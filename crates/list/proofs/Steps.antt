@@ -16,12 +16,14 @@ use Rattle.model.specs.declared.Edge.{Edge}
 use Rattle.model.specs.declared.Model.{Model}
 use Rattle.model.specs.declared.State.{State}
 use Rattle.model.specs.Record.{updateAt, resetAt, counterAt}
-use Rattle.model.specs.Automaton.{ceiling, choices, Component, loc, counter, clock, value, Declared, invariantHolds, delayedValue, inRange, shifted, newCounter, newClock}
+use Rattle.model.specs.Automaton.{ceiling, choices, Component, loc, counter, clock, value, Declared, invariantHolds, delayedValue, inRange, shifted, newCounter}
+use Rattle.model.specs.Automaton.{newClock}
 use Rattle.model.proofs.IndexedLaws.{some-inj}
 use Rattle.model.proofs.FormLaws.{DeclaredUpdate, WellFormedEdge, choices-is}
 use Rattle.model.proofs.StepLaws.{EdgeTo, delayed-lt, in-range-lt, shifted-lt}
 use Rattle.list.specs.Lists.{All}
-use Rattle.list.specs.Items.{Member, Item, rule, stateMember, choiceMember, nextBlock, stateWidth, excludeAllFailing, leads, delayItems, sourceItems, targetItems, guardItems, updateItems, updatesItems, resetItems, resetsItems, edgeItems}
+use Rattle.list.specs.Items.{Member, Item, rule, stateMember, choiceMember, nextBlock, stateWidth, excludeAllFailing, leads, delayItems, sourceItems}
+use Rattle.list.specs.Items.{targetItems, guardItems, updateItems, updatesItems, resetItems, resetsItems, edgeItems}
 use Rattle.list.proofs.ListLaws.{all-app₅, all-each}
 use Rattle.list.proofs.Meaning.{Shows, Holds, shows-true, leads-to, leads-of, puts-to, puts-of}
 use Rattle.list.proofs.Blocks.{ShowsState, over-components, atoms-to, atoms-of}

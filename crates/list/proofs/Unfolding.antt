@@ -19,7 +19,8 @@ use Rattle.model.proofs.FormLaws.{WellFormed}
 use Rattle.model.proofs.StepLaws.{state-ext, shaped-initial, initial-is, initial-lt, step-delay, step-edge, step-invariant, delay-or-edge}
 use Rattle.model.proofs.RunLaws.{walk-nil, walk-cons}
 use Rattle.list.specs.Lists.{All}
-use Rattle.list.specs.Items.{Member, Item, group, rule, overComponents, stateMember, nextBlock, stateWidth, choiceWidth, blockAt, stateItems, initialItems, startItems, choiceItems, delayItems, delaysItems, edgeOf, edgesItems, stepItems, endItems, bodyItems, items}
+use Rattle.list.specs.Items.{Member, Item, group, rule, overComponents, stateMember, nextBlock, stateWidth, choiceWidth, blockAt, stateItems}
+use Rattle.list.specs.Items.{initialItems, startItems, choiceItems, delayItems, delaysItems, edgeOf, edgesItems, stepItems, endItems, bodyItems, items}
 use Rattle.list.proofs.ListLaws.{all-app, all-app₄, all-each}
 use Rattle.list.proofs.Meaning.{Shows, Holds, shows-true}
 use Rattle.list.proofs.Blocks.{ShowsState, over-components, state-of, state-to}

@@ -18,6 +18,8 @@ pub taken : (b : Bool) (s t u : State) → b ≡ true → u ≡ t → _≡_ {A =
 taken b s t u h q = rw (h, q)
 
 -- whether an edge is allowed, from its four parts
-pub allowed-is : (m : Model) (e : Edge) (s : State) {a b d f : Bool} → eqb (s .location) (e .source) ≡ a → allHold s (e .guard) ≡ b → countersInRange (m .counters) e s ≡ d → invariantHolds m (afterEdge (m .counters) e s) ≡ f → edgeAllowed m e s ≡ a && b && d && f
+pub allowed-is :
+    (m : Model) (e : Edge) (s : State) {a b d f : Bool} → eqb (s .location) (e .source) ≡ a → allHold s (e .guard) ≡ b → countersInRange (m .counters) e s ≡ d
+    → invariantHolds m (afterEdge (m .counters) e s) ≡ f → edgeAllowed m e s ≡ a && b && d && f
 unfolding edgeAllowed
 allowed-is m e s p q r t = λ i. p i && q i && r i && t i

@@ -10,7 +10,8 @@ use Rattle.model.proofs.IndexedLaws.{list-more}
 
 -- one more element is stored
 pub filled : (f : ℕ → ℕ) (l : List ℕ) (i v : ℕ) → i < length l → take i l ≡ listBelow f i → v ≡ f i → take (i + 1) (set l i v) ≡ listBelow f (i + 1)
-filled f l i v p e q = ap (λ (n : ℕ). take n (set l i v)) (add-one i) ∙ take-suc-set l i v p ∙ ap₂ (λ (a : List ℕ) (b : ℕ). a ++ (b ∷ [])) e q ∙ sym (list-more f i)
+filled f l i v p e q =
+    ap (λ (n : ℕ). take n (set l i v)) (add-one i) ∙ take-suc-set l i v p ∙ ap₂ (λ (a : List ℕ) (b : ℕ). a ++ (b ∷ [])) e q ∙ sym (list-more f i)
 
 -- the array is full
 pub whole : (f : ℕ → ℕ) (l : List ℕ) {n : ℕ} → length l ≡ n → take n l ≡ listBelow f n → l ≡ listBelow f n

@@ -21,7 +21,9 @@ use Rattle.model.specs.Indexed.{maxBelow, sumBelow}
 use Rattle.model.specs.Record.{atomAt, updateAt, resetAt, counterAt, invariantAt, edgeAt}
 use Rattle.model.specs.Automaton.{clockConstant, greatestConstant, ceiling, counter, groupSize, stateSize, choices, variables, sizes}
 use Rattle.model.specs.Bounds.{KnownSizes}
-use Rattle.model.specs.Form.{isNotEqual, atomFormed, eachFormed, filledFromFirst, atomsFormed, updateFormed, isKeep, isUnchanged, updateSlotFormed, updatesFormed, resetSlotFormed, resetsFormed, edgeFormed, counterFormed, isBlankCounter, counterSlotFormed, countersFormed, invariantSlotFormed, invariantsFormed, edgeSlotFormed, edgesFormed, headFormed, wellFormed}
+use Rattle.model.specs.Form.{isNotEqual, atomFormed, eachFormed, filledFromFirst, atomsFormed, updateFormed, isKeep, isUnchanged, updateSlotFormed}
+use Rattle.model.specs.Form.{updatesFormed, resetSlotFormed, resetsFormed, edgeFormed, counterFormed, isBlankCounter, counterSlotFormed, countersFormed}
+use Rattle.model.specs.Form.{invariantSlotFormed, invariantsFormed, edgeSlotFormed, edgesFormed, headFormed, wellFormed}
 use Rattle.model.proofs.IndexedLaws.{and-T, eq-T, cond-T, cond-F, all-below, max-below, max-at, sum-below}
 
 -- ---- well-formedness as facts
@@ -68,7 +70,9 @@ and₅ : (a b c d e : Bool) → T (a && b && c && d && e) → T a × T b × T c 
 and₅ a b c d e h = let g = and-T (a && b && c && d) e .0 h in let f = and₄ a b c d (g .0) in (f .0, f .1, f .2, f .3, g .1)
 
 and₇ : (a b c d e f g : Bool) → T (a && b && c && d && e && f && g) → T a × T b × T c × T d × T e × T f × T g
-and₇ a b c d e f g h = let y = and-T (a && b && c && d && e && f) g .0 h in let x = and-T (a && b && c && d && e) f .0 (y .0) in let v = and₅ a b c d e (x .0) in (v .0, v .1, v .2, v .3, v .4, x .1, y .1)
+and₇ a b c d e f g h =
+    let y = and-T (a && b && c && d && e && f) g .0 h in
+    let x = and-T (a && b && c && d && e) f .0 (y .0) in let v = and₅ a b c d e (x .0) in (v .0, v .1, v .2, v .3, v .4, x .1, y .1)
 
 nlt : (a b : ℕ) → b ≤ a → T (not (ltb a b))
 nlt a b h = not-T (ltb a b) (λ t. omega (arith, ltb→lt a b t))
@@ -106,18 +110,26 @@ atom-constant clocks vars (OnCounter c r b) h = omega arith
 
 atoms-at : (clocks vars : ℕ) (atoms : List AtomSlot) → T (atomsFormed clocks vars atoms) → (k : ℕ) → k < 4 → T (atomFormed clocks vars (atomAt atoms k))
 unfolding atomsFormed eachFormed
-atoms-at clocks vars atoms h = all-below (λ k. atomFormed clocks vars (atomAt atoms k)) 4 .0 (and-T (eachFormed clocks vars atoms) (filledFromFirst atoms) .0 h .0)
+atoms-at clocks vars atoms h =
+    all-below (λ k. atomFormed clocks vars (atomAt atoms k)) 4 .0 (and-T (eachFormed clocks vars atoms) (filledFromFirst atoms) .0 h .0)
 
 atoms-constant : (clocks vars : ℕ) (atoms : List AtomSlot) → T (atomsFormed clocks vars atoms) → greatestConstant atoms ≤ 30
 unfolding greatestConstant
 atoms-constant clocks vars atoms h = max-below _ 4 30 (λ k l. atom-constant clocks vars (atomAt atoms k) (atoms-at clocks vars atoms h k l))
 
 edge-parts : (locations clocks vars : ℕ) (e : Edge) → T (edgeFormed locations clocks vars e)
-    → (e .source < locations) × (e .target < locations) × T (atomsFormed clocks vars (e .guard)) × ((k : ℕ) → k < 4 → T (updateSlotFormed vars (updateAt e k) k)) × ((k : ℕ) → k < 4 → T (resetSlotFormed clocks (resetAt e k) k))
+    → (e .source < locations) × (e .target < locations) × T (atomsFormed clocks vars (e .guard))
+    × ((k : ℕ) → k < 4 → T (updateSlotFormed vars (updateAt e k) k)) × ((k : ℕ) → k < 4 → T (resetSlotFormed clocks (resetAt e k) k))
 unfolding edgeFormed updatesFormed resetsFormed
 edge-parts locations clocks vars e h =
-    let g = and₅ (ltb (e .source) locations) (ltb (e .target) locations) (atomsFormed clocks vars (e .guard)) (updatesFormed vars (e .updates)) (resetsFormed clocks (e .resets)) h in
-    (ltb→lt (e .source) locations (g .0), ltb→lt (e .target) locations (g .1), g .2, all-below (λ k. updateSlotFormed vars (updateAt e k) k) 4 .0 (g .3), all-below (λ k. resetSlotFormed clocks (resetAt e k) k) 4 .0 (g .4))
+    let g = and₅ (ltb (e .source) locations) (ltb (e .target) locations) (atomsFormed clocks vars (e .guard)) (updatesFormed vars (e .updates))
+    (resetsFormed clocks (e .resets)) h in (
+      ltb→lt (e .source) locations (g .0),
+      ltb→lt (e .target) locations (g .1),
+      g .2,
+      all-below (λ k. updateSlotFormed vars (updateAt e k) k) 4 .0 (g .3),
+      all-below (λ k. resetSlotFormed clocks (resetAt e k) k) 4 .0 (g .4),
+    )
 
 edge-formed : (m : Model) → m .vars ≤ 4 → (e : Edge) → T (edgeFormed (m .locations) (m .clocks) (m .vars) e) → WellFormedEdge m e
 edge-formed m le e h =
@@ -125,8 +137,11 @@ edge-formed m le e h =
     record {
       source-ok = g .0;
       target-ok = g .1;
-      guard-ok = λ k l. atom-declared m (m .clocks) (m .vars) (omega arith) (omega arith) (atomAt (e .guard) k) (atoms-at (m .clocks) (m .vars) (e .guard) (g .2) k l);
-      sets-ok = λ i l. update-declared m (updateAt e i) (yes i (m .vars) (updateFormed (m .vars) (updateAt e i)) (isKeep (updateAt e i)) (g .3 i (omega arith)) l);
+      guard-ok =
+          λ k l. atom-declared m (m .clocks) (m .vars) (omega arith) (omega arith) (atomAt (e .guard) k)
+          (atoms-at (m .clocks) (m .vars) (e .guard) (g .2) k l);
+      sets-ok =
+          λ i l. update-declared m (updateAt e i) (yes i (m .vars) (updateFormed (m .vars) (updateAt e i)) (isKeep (updateAt e i)) (g .3 i (omega arith)) l);
       sets-rest = λ i p l. keep-is (updateAt e i) (no i (m .vars) (updateFormed (m .vars) (updateAt e i)) (isKeep (updateAt e i)) (g .3 i l) p);
       resets-rest = λ i p l. hold-is (resetAt e i) (no i (m .clocks) true (isUnchanged (resetAt e i)) (g .4 i l) p);
     }
@@ -139,7 +154,8 @@ edge-slot-constant : (b : Bool) (l c v : ℕ) (e : Edge) → T (cond b (edgeForm
 edge-slot-constant true l c v e h = atoms-constant c v (e .guard) (edge-parts l c v e h .2)
 edge-slot-constant false l c v e h = atoms-constant 0 0 (e .guard) (edge-parts 1 0 0 e h .2)
 
-ceiling-31 : (m : Model) → maxBelow (λ i. greatestConstant (invariantAt m i)) 16 ≤ 30 → maxBelow (λ i. greatestConstant (edgeAt m i .guard)) 32 ≤ 30 → ceiling m ≤ 31
+ceiling-31 :
+    (m : Model) → maxBelow (λ i. greatestConstant (invariantAt m i)) 16 ≤ 30 → maxBelow (λ i. greatestConstant (edgeAt m i .guard)) 32 ≤ 30 → ceiling m ≤ 31
 unfolding ceiling
 ceiling-31 m p q = omega arith
 
@@ -147,7 +163,8 @@ pub formed : (m : Model) → T (wellFormed m) → WellFormed m
 unfolding wellFormed headFormed countersFormed invariantsFormed edgesFormed
 formed m h =
     let g = and₄ (headFormed m) (countersFormed (m .vars) (m .counters)) (invariantsFormed m) (edgesFormed m) h in
-    let d = and₇ (leb 1 (m .locations)) (leb (m .locations) 16) (ltb (m .initial) (m .locations)) (ltb (m .target) (m .locations)) (leb (m .clocks) 4) (leb (m .vars) 4) (leb (m .used) 32) (g .0) in
+    let d = and₇ (leb 1 (m .locations)) (leb (m .locations) 16) (ltb (m .initial) (m .locations)) (ltb (m .target) (m .locations)) (leb (m .clocks) 4)
+    (leb (m .vars) 4) (leb (m .used) 32) (g .0) in
     let c = all-below (λ k. counterSlotFormed (m .vars) (counterAt m k) k) 4 .0 (g .1) in
     let v = all-below (invariantSlotFormed m) 16 .0 (g .2) in
     let e = all-below (edgeSlotFormed m) 32 .0 (g .3) in
@@ -164,15 +181,28 @@ formed m h =
       used-le = u32;
       greatest-le = λ i l. leb→le (counterAt m i .greatest) 31 (counter-parts i l (c i (omega arith)) .0);
       start-ok = λ i l. leb→le (counterAt m i .initial) (counterAt m i .greatest) (counter-parts i l (c i (omega arith)) .1);
-      greatest-rest = λ i p l. eq-T (counterAt m i .greatest) 0 .0 (and-T (eqb (counterAt m i .greatest) 0) (eqb (counterAt m i .initial) 0) .0 (no i (m .vars) (counterFormed (counterAt m i)) (isBlankCounter (counterAt m i)) (c i l) p) .0);
-      start-rest = λ i p l. eq-T (counterAt m i .initial) 0 .0 (and-T (eqb (counterAt m i .greatest) 0) (eqb (counterAt m i .initial) 0) .0 (no i (m .vars) (counterFormed (counterAt m i)) (isBlankCounter (counterAt m i)) (c i l) p) .1);
-      invariant-ok = λ l p k q. atom-declared m (m .clocks) 0 (omega arith) (omega arith) (atomAt (invariantAt m l) k) (atoms-at (m .clocks) 0 (invariantAt m l) (yes l (m .locations) (atomsFormed (m .clocks) 0 (invariantAt m l)) (atomsFormed 0 0 (invariantAt m l)) (v l (omega arith)) p) k q);
-      edge-ok = λ i l. edge-formed m v4 (edgeAt m i) (yes i (m .used) (edgeFormed (m .locations) (m .clocks) (m .vars) (edgeAt m i)) (edgeFormed 1 0 0 (edgeAt m i)) (e i (omega arith)) l);
-      ceiling-le = ceiling-31 m (max-below _ 16 30 (λ i l. invariant-slot-constant (ltb i (m .locations)) (m .clocks) (invariantAt m i) (v i l))) (max-below _ 32 30 (λ i l. edge-slot-constant (ltb i (m .used)) (m .locations) (m .clocks) (m .vars) (edgeAt m i) (e i l)));
+      greatest-rest =
+          λ i p l. eq-T (counterAt m i .greatest) 0 .0 (and-T (eqb (counterAt m i .greatest) 0) (eqb (counterAt m i .initial) 0) .0
+          (no i (m .vars) (counterFormed (counterAt m i)) (isBlankCounter (counterAt m i)) (c i l) p) .0);
+      start-rest =
+          λ i p l. eq-T (counterAt m i .initial) 0 .0 (and-T (eqb (counterAt m i .greatest) 0) (eqb (counterAt m i .initial) 0) .0
+          (no i (m .vars) (counterFormed (counterAt m i)) (isBlankCounter (counterAt m i)) (c i l) p) .1);
+      invariant-ok =
+          λ l p k q. atom-declared m (m .clocks) 0 (omega arith) (omega arith) (atomAt (invariantAt m l) k) (atoms-at (m .clocks) 0 (invariantAt m l)
+          (yes l (m .locations) (atomsFormed (m .clocks) 0 (invariantAt m l)) (atomsFormed 0 0 (invariantAt m l)) (v l (omega arith)) p) k q);
+      edge-ok =
+          λ i l. edge-formed m v4 (edgeAt m i)
+          (yes i (m .used) (edgeFormed (m .locations) (m .clocks) (m .vars) (edgeAt m i)) (edgeFormed 1 0 0 (edgeAt m i)) (e i (omega arith)) l);
+      ceiling-le =
+          ceiling-31 m (max-below _ 16 30 (λ i l. invariant-slot-constant (ltb i (m .locations)) (m .clocks) (invariantAt m i) (v i l)))
+          (max-below _ 32 30 (λ i l. edge-slot-constant (ltb i (m .used)) (m .locations) (m .clocks) (m .vars) (edgeAt m i) (e i l)));
     }
   where
-    counter-parts : (i : ℕ) → i < m .vars → T (counterSlotFormed (m .vars) (counterAt m i) i) → T (leb (counterAt m i .greatest) 31) × T (leb (counterAt m i .initial) (counterAt m i .greatest))
-    counter-parts i l h = and-T (leb (counterAt m i .greatest) 31) (leb (counterAt m i .initial) (counterAt m i .greatest)) .0 (yes i (m .vars) (counterFormed (counterAt m i)) (isBlankCounter (counterAt m i)) h l)
+    counter-parts : (i : ℕ) → i < m .vars → T (counterSlotFormed (m .vars) (counterAt m i) i)
+        → T (leb (counterAt m i .greatest) 31) × T (leb (counterAt m i .initial) (counterAt m i .greatest))
+    counter-parts i l h =
+        and-T (leb (counterAt m i .greatest) 31) (leb (counterAt m i .initial) (counterAt m i .greatest)) .0
+        (yes i (m .vars) (counterFormed (counterAt m i)) (isBlankCounter (counterAt m i)) h l)
 
 -- ---- the ceiling and the totals
 pub ceiling-ge : (m : Model) → 1 ≤ ceiling m
@@ -207,7 +237,13 @@ variables-is m k = refl
 pub stateSize-le : (m : Model) → WellFormed m → stateSize m ≤ 272
 unfolding stateSize
 stateSize-le m ok =
-    omega (arith, ok .locations-le, ok .vars-le, sum-below (λ i. groupSize m (counter i)) (m .vars) 32 (λ i l. omega (arith, ok .greatest-le i l)), mul-le-mul (ok .clocks-le) (ceiling+1 (ok .ceiling-le)))
+    omega (
+      arith,
+      ok .locations-le,
+      ok .vars-le,
+      sum-below (λ i. groupSize m (counter i)) (m .vars) 32 (λ i l. omega (arith, ok .greatest-le i l)),
+      mul-le-mul (ok .clocks-le) (ceiling+1 (ok .ceiling-le)),
+    )
   where
     ceiling+1 : ceiling m ≤ 31 → ceiling m + 1 ≤ 32
     ceiling+1 h = omega arith

@@ -8,6 +8,7 @@ use Prim.Native.Nat.{ℕ, zero, suc, _+_, _*_, _≤_, _<_, max}
 use native.Mathlib.Nat.{eq-or-lt-of-le, le-of-suc-le-suc, not-suc-le-zero}
 use native.Mathlib.Omega.{arith}
 use native.Mathlib.Numerals.{add-one}
+use borrow.Author.Tests.{not-true, not-false}
 use lib.Dec.{T, leb, eqb, leb→le, nleb→lt, eqb→eq, eqb-refl}
 use lib.ListN.{length, getD, length-append, List·getD-append}
 use lib.Seq.{getD-append-seam}
@@ -20,6 +21,13 @@ and-T false b = (λ h. absurd h, λ h. absurd (h .0))
 
 pub eq-T : (a b : ℕ) → T (eqb a b) ↔ (a ≡ b)
 eq-T a b = (eqb→eq a b, λ e. subst (λ (x : ℕ). T (eqb a x)) e (eqb-refl a))
+
+-- a callee's answer r, after a test `!r`
+pub told-false : {r b : Bool} → r ≡ b → not r ≡ true → b ≡ false
+told-false e t = sym e ∙ not-true _ t
+
+pub told-true : {r b : Bool} → r ≡ b → not r ≡ false → b ≡ true
+told-true e t = sym e ∙ not-false _ t
 
 pub T-true : (b : Bool) → T b ↔ (b ≡ true)
 T-true true = (λ h. refl, λ h. tt)
@@ -76,7 +84,10 @@ below-cases v n q f g = ⊎-elim f g (eq-or-lt-of-le (le-of-suc-le-suc q))
 pub all-below : (p : ℕ → Bool) (n : ℕ) → T (allBelow p n) ↔ ((i : ℕ) → i < n → T (p i))
 unfolding allBelow
 all-below p zero = (λ h i q. absurd (not-suc-le-zero q), λ h. tt)
-all-below p (suc n) = (λ h i q. let g = and-T (allBelow p n) (p n) .0 h in below-cases i n q (λ e. rw e (g .1)) (λ l. all-below p n .0 (g .0) i l), λ h. and-T (allBelow p n) (p n) .1 (all-below p n .1 (λ i q. h i (omega arith)), h n (omega arith)))
+all-below p (suc n) = (
+  λ h i q. let g = and-T (allBelow p n) (p n) .0 h in below-cases i n q (λ e. rw e (g .1)) (λ l. all-below p n .0 (g .0) i l),
+  λ h. and-T (allBelow p n) (p n) .1 (all-below p n .1 (λ i q. h i (omega arith)), h n (omega arith)),
+)
 
 pub max-below : (f : ℕ → ℕ) (n b : ℕ) → ((i : ℕ) → i < n → f i ≤ b) → maxBelow f n ≤ b
 unfolding maxBelow
@@ -142,6 +153,13 @@ pub all-fails : (p : ℕ → Bool) (i n : ℕ) → i < n → p i ≡ false → a
 unfolding allBelow
 all-fails p i zero l e = absurd (not-suc-le-zero l)
 all-fails p i (suc n) l e = below-cases i n l (λ q. rw (← q, e) (and-false (allBelow p i))) (λ q. rw (all-fails p i n q e) refl)
+
+-- a turn of a loop that ends at the first answer r that is false
+pub all-stops : (p : ℕ → Bool) (i n : ℕ) {r : Bool} → i < n → r ≡ p i → not r ≡ true → false ≡ allBelow p n
+all-stops p i n l e t = sym (all-fails p i n l (told-false e t))
+
+pub all-goes : (p : ℕ → Bool) (n : ℕ) {r : Bool} → allBelow p n ≡ true → r ≡ p n → not r ≡ false → allBelow p (n + 1) ≡ true
+all-goes p n a e t = all-next p n a (told-true e t)
 
 pub max-none : (f : ℕ → ℕ) → maxBelow f 0 ≡ 0
 unfolding maxBelow

@@ -41,9 +41,12 @@ walk-cut m (b ∷ r) q s e h =
     (y .0, walk-cons m s (y .0) b r .1 (x .0, x .1, y .1))
 
 -- what a walk keeps
-pub walk-keeps : (m : Model) (ok : WellFormed m) (r : List ℕ) (s e : State) → walk m s r ≡ some e → Shaped m s → InRange m s → T (invariantHolds m s) → Shaped m e × InRange m e × T (invariantHolds m e)
+pub walk-keeps : (m : Model) (ok : WellFormed m) (r : List ℕ) (s e : State) → walk m s r ≡ some e → Shaped m s → InRange m s → T (invariantHolds m s)
+    → Shaped m e × InRange m e × T (invariantHolds m e)
 walk-keeps m ok [] s e h p q i = let e = walk-nil m s e .0 h in (rw e at p, rw e at q, rw e at i)
-walk-keeps m ok (b ∷ r) s e h p q i = let x = walk-cons m s e b r .0 h in walk-keeps m ok r (x .0) e (x .2) (shaped-step m ok s (x .0) b p (x .1)) (range-step m ok s (x .0) b p (x .1) q) (step-invariant m ok s (x .0) b p (x .1))
+walk-keeps m ok (b ∷ r) s e h p q i =
+    let x = walk-cons m s e b r .0 h in
+    walk-keeps m ok r (x .0) e (x .2) (shaped-step m ok s (x .0) b p (x .1)) (range-step m ok s (x .0) b p (x .1) q) (step-invariant m ok s (x .0) b p (x .1))
 
 -- a walk goes on by delays of 0
 pub rest-walk : (m : Model) (ok : WellFormed m) (n : ℕ) (s : State) → Shaped m s → InRange m s → T (invariantHolds m s) → walk m s (replicate n 0) ≡ some s
@@ -58,7 +61,8 @@ pub record Run (m : Model) (r : List ℕ) (e : State) : Type 0 where
 
 ends-iff : (m : Model) (o : Option State) → T (endsIn m o) ↔ ((e : State) × (o ≡ some e) × (e .location ≡ m .target))
 ends-iff m none = (λ h. absurd h, λ h. absurd (some-none (h .1)))
-ends-iff m (some e) = (λ h. (e, refl, eq-T (e .location) (m .target) .0 h), λ h. eq-T (e .location) (m .target) .1 (ap (λ (x : State). x .location) (some-inj (h .1)) ∙ h .2))
+ends-iff m (some e) =
+    (λ h. (e, refl, eq-T (e .location) (m .target) .0 h), λ h. eq-T (e .location) (m .target) .1 (ap (λ (x : State). x .location) (some-inj (h .1)) ∙ h .2))
 
 pub run-iff : (m : Model) (r : List ℕ) → T (isRun m r) ↔ ((e : State) × Run m r e)
 unfolding isRun start
@@ -68,7 +72,12 @@ run-iff m r = (
       let y = then-iff S (λ s. walk m s r) (x .0) .0 (x .1) in
       let z = only-if (invariantHolds m (initialState m)) (initialState m) (y .0) .0 (y .1) in
       (x .0, record { allowed = z .0; walks = subst (λ (s : State). walk m s r ≡ some (x .0)) (sym (z .1)) (y .2); arrives = x .2 })),
-  λ h. ends-iff m (andThen S (λ s. walk m s r)) .1 (h .0, then-iff S (λ s. walk m s r) (h .0) .1 (initialState m, only-if (invariantHolds m (initialState m)) (initialState m) (initialState m) .1 (h .1 .allowed, refl), h .1 .walks), h .1 .arrives),
+  λ h. ends-iff m (andThen S (λ s. walk m s r)) .1 (
+    h .0,
+    then-iff S (λ s. walk m s r) (h .0) .1
+        (initialState m, only-if (invariantHolds m (initialState m)) (initialState m) (initialState m) .1 (h .1 .allowed, refl), h .1 .walks),
+    h .1 .arrives,
+  ),
 )
   where
     S : Option State

@@ -22,9 +22,12 @@ use Rattle.model.specs.declared.Model.{Model}
 use Rattle.model.specs.declared.State.{State}
 use Rattle.model.specs.Indexed.{listBelow, allBelow, onlyIf, isSome, orZero}
 use Rattle.model.specs.Record.{atomAt, updateAt, resetAt, counterAt, invariantAt, edgeAt}
-use Rattle.model.specs.Automaton.{ceiling, Component, loc, counter, clock, value, Declared, groupSize, choices, atomHolds, allHold, invariantHolds, initialState, initialValue, delayedClock, delayed, delayStep, delayedValue, inRange, moved, isNegative, shifted, newCounter, newClock, nextCounter, nextClock, countersInRange, afterEdge, edgeAllowed, edgeStep, step}
+use Rattle.model.specs.Automaton.{ceiling, Component, loc, counter, clock, value, Declared, groupSize, choices, atomHolds, allHold, invariantHolds}
+use Rattle.model.specs.Automaton.{initialState, initialValue, delayedClock, delayed, delayStep, delayedValue, inRange, moved, isNegative, shifted}
+use Rattle.model.specs.Automaton.{newCounter, newClock, nextCounter, nextClock, countersInRange, afterEdge, edgeAllowed, edgeStep, step}
 use Rattle.model.specs.Form.{slotInGroup, countersInGroup, clocksInGroup, stateFormed}
-use Rattle.model.proofs.IndexedLaws.{and-T, eq-T, some-inj, some-none, only-if, cond-some, some-is, is-some, lt-or-le, cond-T, cond-F, all-below, length-list, getD-list}
+use Rattle.model.proofs.IndexedLaws.{and-T, eq-T, some-inj, some-none, only-if, cond-some, some-is, is-some, lt-or-le, cond-T, cond-F, all-below}
+use Rattle.model.proofs.IndexedLaws.{length-list, getD-list}
 use Rattle.model.proofs.FormLaws.{WellFormedEdge, WellFormed, yes, no}
 
 -- ---- states
@@ -45,8 +48,12 @@ state-eq p q r = λ i. record { location = p i; counters = q i; clocks = r i }
 -- two states are equal if they agree in every place
 pub state-ext : (m : Model) {s t : State} → Shaped m s → Shaped m t → ((r : Component) → Declared m r → value s r ≡ value t r) → s ≡ t
 state-ext m {s} {t} p q h = state-eq (h loc tt)
-    (ext-getD 0 (s .counters) (t .counters) (p .counters-len ∙ sym (q .counters-len)) (λ i l. let l′ : i < 4 = rw (p .counters-len) at l in ⊎-elim (λ a. h (counter i) a) (λ b. p .counters-rest i b l′ ∙ sym (q .counters-rest i b l′)) (lt-or-le i (m .vars))))
-    (ext-getD 0 (s .clocks) (t .clocks) (p .clocks-len ∙ sym (q .clocks-len)) (λ i l. let l′ : i < 4 = rw (p .clocks-len) at l in ⊎-elim (λ a. h (clock i) a) (λ b. p .clocks-rest i b l′ ∙ sym (q .clocks-rest i b l′)) (lt-or-le i (m .clocks))))
+    (ext-getD 0 (s .counters) (t .counters) (p .counters-len ∙ sym (q .counters-len))
+    (λ i l. let l′ : i < 4 = rw (p .counters-len) at l in ⊎-elim (λ a. h (counter i) a)
+    (λ b. p .counters-rest i b l′ ∙ sym (q .counters-rest i b l′)) (lt-or-le i (m .vars))))
+    (ext-getD 0 (s .clocks) (t .clocks) (p .clocks-len ∙ sym (q .clocks-len))
+    (λ i l. let l′ : i < 4 = rw (p .clocks-len) at l in ⊎-elim (λ a. h (clock i) a) (λ b. p .clocks-rest i b l′ ∙ sym (q .clocks-rest i b l′))
+    (lt-or-le i (m .clocks))))
 
 -- values that are there one by one, and 0 past them
 pick : (l : List ℕ) (n i : ℕ) → length l ≤ i → i < n → getD (listBelow (λ k. getD l k 0) n) i 0 ≡ 0
@@ -54,10 +61,17 @@ pick l n i p q = getD-list 0 (λ k. getD l k 0) n i q ∙ List·getD-eq-default 
 
 -- a state from its values
 pub state-from : (m : Model) → WellFormed m → (l : ℕ) (vs cs : List ℕ) → length vs ≡ m .vars → length cs ≡ m .clocks
-    → (s : State) × Shaped m s × (value s loc ≡ l) × ((i : ℕ) → i < m .vars → value s (counter i) ≡ getD vs i 0) × ((i : ℕ) → i < m .clocks → value s (clock i) ≡ getD cs i 0)
+    → (s : State) × Shaped m s × (value s loc ≡ l) × ((i : ℕ) → i < m .vars → value s (counter i) ≡ getD vs i 0)
+    × ((i : ℕ) → i < m .clocks → value s (clock i) ≡ getD cs i 0)
 state-from m ok l vs cs p q = (
   record { location = l; counters = listBelow (λ k. getD vs k 0) 4; clocks = listBelow (λ k. getD cs k 0) 4 },
-  record { counters-len = length-list _ 4; clocks-len = length-list _ 4; counters-rest = λ i a b. pick vs 4 i (rw p a) b; clocks-rest = λ i a b. pick cs 4 i (rw q a) b },
+  record {
+    counters-len = length-list _ 4;
+    clocks-len = length-list _ 4;
+    counters-rest = λ i a b. pick vs 4 i (rw p a) b;
+    clocks-rest = λ i a b. pick cs 4 i
+        (rw q a) b;
+  },
   refl,
   (λ i a. getD-list 0 (λ k. getD vs k 0) 4 i (omega (arith, ok .vars-le))),
   λ i a. getD-list 0 (λ k. getD cs k 0) 4 i (omega (arith, ok .clocks-le)),
@@ -105,14 +119,18 @@ module _ (m : Model) (ok : WellFormed m) (d : ℕ) (s : State) (q : Shaped m s) 
     counters-len = q .counters-len;
     clocks-len = length-list _ 4;
     counters-rest = q .counters-rest;
-    clocks-rest = λ i p l. getD-list 0 (delayedClock (m .clocks) (ceiling m) d s) 4 i l ∙ cond-F (ltb i (m .clocks)) (min (getD (s .clocks) i 0 + d) (ceiling m)) (getD (s .clocks) i 0) (not-T (ltb i (m .clocks)) (λ t. omega (arith, ltb→lt i (m .clocks) t))) ∙ q .clocks-rest i p l;
+    clocks-rest =
+        λ i p l. getD-list 0 (delayedClock (m .clocks) (ceiling m) d s) 4 i l ∙ cond-F (ltb i (m .clocks)) (min (getD (s .clocks) i 0 + d) (ceiling m))
+        (getD (s .clocks) i 0) (not-T (ltb i (m .clocks)) (λ t. omega (arith, ltb→lt i (m .clocks) t))) ∙ q .clocks-rest i p l;
   }
 
   value-delayed : (r : Component) → Declared m r → value (delayed (m .clocks) (ceiling m) d s) r ≡ delayedValue m d r (value s r)
   unfolding delayed
   value-delayed loc p = refl
   value-delayed (counter i) p = refl
-  value-delayed (clock i) p = getD-list 0 (delayedClock (m .clocks) (ceiling m) d s) 4 i (omega (arith, ok .clocks-le)) ∙ cond-T (ltb i (m .clocks)) (min (getD (s .clocks) i 0 + d) (ceiling m)) (getD (s .clocks) i 0) (lt→ltb i (m .clocks) p)
+  value-delayed (clock i) p =
+      getD-list 0 (delayedClock (m .clocks) (ceiling m) d s) 4 i (omega (arith, ok .clocks-le))
+      ∙ cond-T (ltb i (m .clocks)) (min (getD (s .clocks) i 0 + d) (ceiling m)) (getD (s .clocks) i 0) (lt→ltb i (m .clocks) p)
 
 pub delayed-lt : (m : Model) (d : ℕ) (r : Component) (v : ℕ) → v < groupSize m r → delayedValue m d r v < groupSize m r
 delayed-lt m d loc v p = p
@@ -162,21 +180,34 @@ pub record EdgeTo (m : Model) (e : Edge) (s t : State) : Type 0 where
   pub shape : Shaped m t
   pub leaves : s .location ≡ e .source
   pub guard : (k : ℕ) → k < 4 → T (atomHolds s (atomAt (e .guard) k))
-  pub sets : (i : ℕ) → i < m .vars → newCounter (λ w. value s (counter w)) (counterAt m i .greatest) (value s (counter i)) (updateAt e i) ≡ some (value t (counter i))
+  pub sets : (i : ℕ) → i < m .vars
+      → newCounter (λ w. value s (counter w)) (counterAt m i .greatest) (value s (counter i)) (updateAt e i) ≡ some (value t (counter i))
   pub resets : (i : ℕ) → i < m .clocks → newClock (λ w. value s (clock w)) (value s (clock i)) (resetAt e i) ≡ value t (clock i)
   pub lands : t .location ≡ e .target
   pub allowed : T (invariantHolds m t)
 
-allowed-iff : (m : Model) (e : Edge) (s : State) → T (edgeAllowed m e s) ↔ ((s .location ≡ e .source) × ((k : ℕ) → k < 4 → T (atomHolds s (atomAt (e .guard) k))) × ((k : ℕ) → k < 4 → T (isSome (nextCounter (m .counters) e s k))) × T (invariantHolds m (afterEdge (m .counters) e s)))
+allowed-iff :
+    (m : Model) (e : Edge) (s : State) → T (edgeAllowed m e s) ↔ ((s .location ≡ e .source) × ((k : ℕ) → k < 4 → T (atomHolds s (atomAt (e .guard) k)))
+    × ((k : ℕ) → k < 4 → T (isSome (nextCounter (m .counters) e s k))) × T (invariantHolds m (afterEdge (m .counters) e s)))
 unfolding edgeAllowed countersInRange
 allowed-iff m e s =
     let a = eqb (s .location) (e .source) in
     let b = allHold s (e .guard) in
     let c = allBelow (λ k. isSome (nextCounter (m .counters) e s k)) 4 in
     let d = invariantHolds m (afterEdge (m .counters) e s) in (
-      (λ h. let x = and-T (a && b && c) d .0 h in let y = and-T (a && b) c .0 (x .0) in let z = and-T a b .0 (y .0) in
-          (eq-T (s .location) (e .source) .0 (z .0), hold-iff s (e .guard) .0 (z .1), all-below (λ k. isSome (nextCounter (m .counters) e s k)) 4 .0 (y .1), x .1)),
-      λ h. and-T (a && b && c) d .1 (and-T (a && b) c .1 (and-T a b .1 (eq-T (s .location) (e .source) .1 (h .0), hold-iff s (e .guard) .1 (h .1)), all-below (λ k. isSome (nextCounter (m .counters) e s k)) 4 .1 (h .2)), h .3),
+      (λ h. let x = and-T (a && b && c) d .0 h in let y = and-T (a && b) c .0 (x .0) in let z = and-T a b .0 (y .0) in (
+        eq-T (s .location) (e .source) .0 (z .0),
+        hold-iff s (e .guard) .0 (z .1),
+        all-below (λ k. isSome (nextCounter (m .counters) e s k)) 4 .0 (y .1),
+        x .1,
+      )),
+      λ h. and-T (a && b && c) d .1 (
+        and-T (a && b) c .1 (
+          and-T a b .1 (eq-T (s .location) (e .source) .1 (h .0), hold-iff s (e .guard) .1 (h .1)),
+          all-below (λ k. isSome (nextCounter (m .counters) e s k)) 4 .1 (h .2),
+        ),
+        h .3,
+      ),
     )
 
 module _ (m : Model) (ok : WellFormed m) (e : Edge) (eo : WellFormedEdge m e) (s : State) (q : Shaped m s) where
@@ -189,7 +220,9 @@ module _ (m : Model) (ok : WellFormed m) (e : Edge) (eo : WellFormedEdge m e) (s
   clock-after i l = getD-list 0 (nextClock e s) 4 i l
 
   kept : (i : ℕ) → m .vars ≤ i → i < 4 → nextCounter (m .counters) e s i ≡ some 0
-  kept i p l = ap (λ (u : Update). newCounter (λ w. value s (counter w)) (counterAt m i .greatest) (value s (counter i)) u) (eo .sets-rest i p l) ∙ ap some (q .counters-rest i p l)
+  kept i p l =
+      ap (λ (u : Update). newCounter (λ w. value s (counter w)) (counterAt m i .greatest) (value s (counter i)) u) (eo .sets-rest i p l)
+      ∙ ap some (q .counters-rest i p l)
 
   held : (i : ℕ) → m .clocks ≤ i → i < 4 → nextClock e s i ≡ 0
   held i p l = ap (λ (u : ClockUpdate). newClock (λ w. value s (clock w)) (value s (clock i)) u) (eo .resets-rest i p l) ∙ q .clocks-rest i p l
@@ -224,7 +257,9 @@ module _ (m : Model) (ok : WellFormed m) (e : Edge) (eo : WellFormedEdge m e) (s
             shape = subst (λ (x : State). Shaped m x) (g .1) shaped-after;
             leaves = a .0;
             guard = a .1;
-            sets = λ i l. some-is (nextCounter (m .counters) e s i) (a .2 i (omega (arith, ok .vars-le))) ∙ ap some (sym (counter-after i (omega (arith, ok .vars-le))) ∙ ap (λ (x : State). value x (counter i)) (g .1));
+            sets =
+                λ i l. some-is (nextCounter (m .counters) e s i) (a .2 i (omega (arith, ok .vars-le))) ∙ ap some
+                (sym (counter-after i (omega (arith, ok .vars-le))) ∙ ap (λ (x : State). value x (counter i)) (g .1));
             resets = λ i l. sym (clock-after i (omega (arith, ok .clocks-le))) ∙ ap (λ (x : State). value x (clock i)) (g .1);
             lands = sym (ap (λ (x : State). x .location) (g .1)) ∙ location-after;
             allowed = subst (λ (x : State). T (invariantHolds m x)) (g .1) (a .3);
@@ -241,7 +276,8 @@ module _ (m : Model) (ok : WellFormed m) (e : Edge) (eo : WellFormedEdge m e) (s
             allowed-iff m e s .1 (
               h .leaves,
               h .guard,
-              (λ k l. ⊎-elim (λ a. is-some (nextCounter (m .counters) e s k) (value t (counter k)) (h .sets k a) .0) (λ b. is-some (nextCounter (m .counters) e s k) 0 (kept k b l) .0) (lt-or-le k (m .vars))),
+              (λ k l. ⊎-elim (λ a. is-some (nextCounter (m .counters) e s k) (value t (counter k)) (h .sets k a) .0)
+                  (λ b. is-some (nextCounter (m .counters) e s k) 0 (kept k b l) .0) (lt-or-le k (m .vars))),
               subst (λ (x : State). T (invariantHolds m x)) (sym eq) (h .allowed),
             ),
             eq,
@@ -250,7 +286,9 @@ module _ (m : Model) (ok : WellFormed m) (e : Edge) (eo : WellFormedEdge m e) (s
 module _ (m : Model) (ok : WellFormed m) (s t : State) (q : Shaped m s) where
   pub step-edge : (e : ℕ) → e < m .used → (step m s (ceiling m + 1 + e) ≡ some t) ↔ EdgeTo m (edgeAt m e) s t
   unfolding step choices
-  step-edge e l = rw (lt-leb (ceiling m + 1 + e) (ceiling m) (omega arith), lt-ltb (ceiling m + 1 + e) (ceiling m + 1 + m .used) (omega arith), add-sub-cancel-left) (edge-iff m ok (edgeAt m e) (ok .edge-ok e l) s q t)
+  step-edge e l =
+      rw (lt-leb (ceiling m + 1 + e) (ceiling m) (omega arith), lt-ltb (ceiling m + 1 + e) (ceiling m + 1 + m .used) (omega arith), add-sub-cancel-left)
+      (edge-iff m ok (edgeAt m e) (ok .edge-ok e l) s q t)
 
 -- ---- step bytes
 -- a byte up to the ceiling is a delay
@@ -273,7 +311,8 @@ pub step-lt : (m : Model) (s t : State) (b : ℕ) → step m s b ≡ some t → 
 unfolding step
 step-lt m s t b h = go (leb b (ceiling m)) (ltb b (choices m)) refl refl h
   where
-    go : (x y : Bool) → leb b (ceiling m) ≡ x → ltb b (choices m) ≡ y → cond x (delayStep m (ceiling m) b s) (cond y (edgeStep m (edgeAt m (b - (ceiling m + 1))) s) none) ≡ some t → b < choices m
+    go : (x y : Bool) → leb b (ceiling m) ≡ x → ltb b (choices m) ≡ y
+        → cond x (delayStep m (ceiling m) b s) (cond y (edgeStep m (edgeAt m (b - (ceiling m + 1))) s) none) ≡ some t → b < choices m
     go true y p q h = unfold choices in omega (arith, leb→le b (ceiling m) (subst T (sym p) tt))
     go false true p q h = ltb→lt b (choices m) (subst T (sym q) tt)
     go false false p q h = absurd (some-none h)
@@ -326,15 +365,20 @@ module _ (m : Model) (ok : WellFormed m) (s t : State) (b : ℕ) (q : Shaped m s
       go : DelayedTo m b s t ⊎ ((e : ℕ) × (e < m .used) × EdgeTo m (edgeAt m e) s t) → (r : Component) → Declared m r → value t r < groupSize m r
       go (inl w) r k = rw (w .values r k) (delayed-lt m b r (value s r) (g r k))
       go (inr (e, l, k)) loc i = rw (k .lands) (ok .edge-ok e l .target-ok)
-      go (inr (e, l, k)) (counter i) j = new-counter-lt (λ w. value s (counter w)) (counterAt m i .greatest) (value s (counter i)) (updateAt (edgeAt m e) i) (value t (counter i)) (g (counter i) j) (k .sets i j)
-      go (inr (e, l, k)) (clock i) j = rw (← k .resets i j) (clock-lt (λ w. value s (clock w)) (value s (clock i)) (resetAt (edgeAt m e) i) (ceiling m) (g (clock i) j))
+      go (inr (e, l, k)) (counter i) j =
+          new-counter-lt (λ w. value s (counter w)) (counterAt m i .greatest) (value s (counter i)) (updateAt (edgeAt m e) i) (value t (counter i))
+          (g (counter i) j) (k .sets i j)
+      go (inr (e, l, k)) (clock i) j =
+          rw (← k .resets i j) (clock-lt (λ w. value s (clock w)) (value s (clock i)) (resetAt (edgeAt m e) i) (ceiling m) (g (clock i) j))
 
 -- delay 0 changes nothing
 pub step-zero : (m : Model) (ok : WellFormed m) (s : State) → Shaped m s → InRange m s → T (invariantHolds m s) → step m s 0 ≡ some s
-step-zero m ok s p q i = step-delay m ok s s p 0 (omega arith) .1 (record { shape = p; values = λ r h. sym (delayed-zero m r (value s r) (q r h)); allowed = i })
+step-zero m ok s p q i =
+    step-delay m ok s s p 0 (omega arith) .1 (record { shape = p; values = λ r h. sym (delayed-zero m r (value s r) (q r h)); allowed = i })
 
 -- ---- a given state (refusal 10): four slots and the test give all that the laws above ask
-pub state-formed : (m : Model) (ok : WellFormed m) (s : State) → length (s .counters) ≡ 4 → length (s .clocks) ≡ 4 → T (stateFormed m s) → Shaped m s × InRange m s
+pub state-formed :
+    (m : Model) (ok : WellFormed m) (s : State) → length (s .counters) ≡ 4 → length (s .clocks) ≡ 4 → T (stateFormed m s) → Shaped m s × InRange m s
 unfolding stateFormed countersInGroup clocksInGroup
 state-formed m ok s p q h =
     let x = and-T (ltb (s .location) (m .locations) && allBelow C 4) (allBelow K 4) .0 h in

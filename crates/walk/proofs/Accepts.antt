@@ -37,10 +37,12 @@ unfolding walk walkSteps
 steps-iff m [] t s = end-iff m s
 steps-iff m (b ∷ r) t s = go (leb (choices m) b) refl (step m s b) refl (λ u. steps-iff m r (t + 1) u)
   where
-    go : (x : Bool) → leb (choices m) b ≡ x → (o : Option State) → step m s b ≡ o → ((u : State) → T (endsIn m (walk m u r)) ↔ (walkSteps m (t + 1) u r ≡ accepted))
+    go : (x : Bool) → leb (choices m) b ≡ x → (o : Option State) → step m s b ≡ o
+        → ((u : State) → T (endsIn m (walk m u r)) ↔ (walkSteps m (t + 1) u r ≡ accepted))
         → T (endsIn m (andThen o (λ u. walk m u r))) ↔ (cond x (refusal 27 t) (maybe o (refusal 28 t) (λ u. walkSteps m (t + 1) u r)) ≡ accepted)
     go true e none f ih = (λ h. absurd h, λ h. absurd (refuses (λ z. omega arith) h))
-    go true e (some u) f ih = (λ h. absurd (omega (arith, step-lt m s u b f, leb→le (choices m) b (subst T (sym e) tt))), λ h. absurd (refuses (λ z. omega arith) h))
+    go true e (some u) f ih =
+        (λ h. absurd (omega (arith, step-lt m s u b f, leb→le (choices m) b (subst T (sym e) tt))), λ h. absurd (refuses (λ z. omega arith) h))
     go false e none f ih = (λ h. absurd h, λ h. absurd (refuses (λ z. omega arith) h))
     go false e (some u) f ih = ih u
 
@@ -49,7 +51,9 @@ pub accepts-iff : (m : Model) (r : List ℕ) → (walkReport m r ≡ accepted) �
 unfolding walkReport isRun
 accepts-iff m r = go (wellFormed m) (ltb 64 (length r)) refl (start m)
   where
-    go : (w l : Bool) → ltb 64 (length r) ≡ l → (o : Option State) → (cond (not w) (refusal 20 0) (cond l (refusal 21 0) (maybe o (refusal 29 0) (λ s. walkSteps m 1 s r))) ≡ accepted) ↔ (T w × (length r ≤ 64) × T (endsIn m (andThen o (λ s. walk m s r))))
+    go : (w l : Bool) → ltb 64 (length r) ≡ l → (o : Option State)
+        → (cond (not w) (refusal 20 0) (cond l (refusal 21 0) (maybe o (refusal 29 0) (λ s. walkSteps m 1 s r))) ≡ accepted)
+        ↔ (T w × (length r ≤ 64) × T (endsIn m (andThen o (λ s. walk m s r))))
     go false l e o = (λ h. absurd (refuses (λ z. omega arith) h), λ h. absurd (h .0))
     go true true e o = (λ h. absurd (refuses (λ z. omega arith) h), λ h. absurd (omega (arith, ltb-true 64 (length r) e, h .1)))
     go true false e none = (λ h. absurd (refuses (λ z. omega arith) h), λ h. absurd (h .2))

@@ -1,3 +1,4 @@
+-- `mark`: 1 where the two numbers are equal, 0 elsewhere.
 use borrow.Author.Tests.{eq-eqb, ne-eqb}
 use Rattle.encode.proofs.mark.Statement.{statement}
 use Rattle.encode.proofs.mark.Tie as tie

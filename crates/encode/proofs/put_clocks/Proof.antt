@@ -1,3 +1,4 @@
+-- `put_clocks`: the loop has written the groups of the first clocks.
 use borrow.Author.Needs.{needs}
 use native.Mathlib.Omega.{arith}
 use mathlib.Core.Path.{_≡_, refl}
@@ -30,8 +31,10 @@ cast-put-group c = search needs
 put-group-requires : tie.Need-put-group-requires Inv-loop μ-loop
 unfolding clockBytes
 put-group-requires c κs =
-    let l : c .before .before .loop .i < c .before .before .before .before .args .clocks = omega (arith, c .before .before .loop .inv .1) in
-    room-each (clockBytes (c .before .before .before .before .args .top) (c .before .before .before .before .args .t3)) _ _ (c .before .before .loop .inv .2) l (c .before .before .before .before .pre .2)
+    let loop = c .before .before .loop in
+    let entry = c .before .before .before .before in
+    let l : loop .i < entry .args .clocks = omega (arith, loop .inv .1) in
+    room-each (clockBytes (entry .args .top) (entry .args .t3)) _ _ (loop .inv .2) l (entry .pre .2)
 
 add-i : tie.Need-add-i Inv-loop μ-loop
 add-i c = search needs
@@ -41,7 +44,10 @@ loop-less c = search needs
 
 loop-again : tie.Need-loop-again Inv-loop μ-loop
 unfolding clockBytes
-loop-again c = (search needs, c .before .before .before .before .before .loop .inv .1, wrote-each (clockBytes (c .before .before .before .before .before .before .before .args .top) (c .before .before .before .before .before .before .before .args .t3)) _ (c .before .before .before .before .before .loop .inv .2) (c .before .before .put-group .ensures))
+loop-again c =
+    let at-loop = c .before .before .before .before .before in
+    let args = at-loop .before .before .args in
+    (search needs, at-loop .loop .inv .1, wrote-each (clockBytes (args .top) (args .t3)) _ (at-loop .loop .inv .2) (c .before .before .put-group .ensures))
 
 same-length : tie.Need-same-length Inv-loop μ-loop
 same-length c = search needs
@@ -53,17 +59,5 @@ returns c =
 
 pub put-clocks-spec : {M : Type 1} → statement M
 put-clocks-spec =
-    tie.close
-    (tie.spec
-    Inv-loop
-    μ-loop
-    loop-holds
-    add-put-group
-    array-read-put-group
-    cast-put-group
-    put-group-requires
-    add-i
-    loop-less
-    loop-again
-    same-length
+    tie.close (tie.spec Inv-loop μ-loop loop-holds add-put-group array-read-put-group cast-put-group put-group-requires add-i loop-less loop-again same-length
     returns)

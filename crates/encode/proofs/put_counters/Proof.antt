@@ -1,3 +1,4 @@
+-- `put_counters`: the loop has written the groups of the first counters.
 use borrow.Author.Needs.{needs}
 use native.Mathlib.Omega.{arith}
 use mathlib.Core.Path.{_≡_, refl}
@@ -39,8 +40,10 @@ cast-put-group-2 c = search needs
 put-group-requires : tie.Need-put-group-requires Inv-loop μ-loop
 unfolding counterBytes
 put-group-requires c κs =
-    let l : c .before .before .before .before .loop .i < c .before .before .before .before .before .before .args .vars = omega (arith, c .before .before .before .before .loop .inv .1) in
-    room-each (counterBytes (c .before .before .before .before .before .before .args .t2) (c .before .before .before .before .before .before .args .t3)) _ _ (c .before .before .before .before .loop .inv .2) l (c .before .before .before .before .before .before .pre .1)
+    let at-loop = c .before .before .before .before in
+    let entry = at-loop .before .before in
+    let l : at-loop .loop .i < entry .args .vars = omega (arith, at-loop .loop .inv .1) in
+    room-each (counterBytes (entry .args .t2) (entry .args .t3)) _ _ (at-loop .loop .inv .2) l (entry .pre .1)
 
 add-i : tie.Need-add-i Inv-loop μ-loop
 add-i c = search needs
@@ -50,7 +53,10 @@ loop-less c = search needs
 
 loop-again : tie.Need-loop-again Inv-loop μ-loop
 unfolding counterBytes
-loop-again c = (search needs, c .before .before .before .before .before .before .before .loop .inv .1, wrote-each (counterBytes (c .before .before .before .before .before .before .before .before .before .args .t2) (c .before .before .before .before .before .before .before .before .before .args .t3)) _ (c .before .before .before .before .before .before .before .loop .inv .2) (c .before .before .put-group .ensures))
+loop-again c =
+    let at-loop = c .before .before .before .before .before .before .before in
+    let args = at-loop .before .before .args in
+    (search needs, at-loop .loop .inv .1, wrote-each (counterBytes (args .t2) (args .t3)) _ (at-loop .loop .inv .2) (c .before .before .put-group .ensures))
 
 same-length : tie.Need-same-length Inv-loop μ-loop
 same-length c = search needs
@@ -62,20 +68,5 @@ returns c =
 
 pub put-counters-spec : {M : Type 1} → statement M
 put-counters-spec =
-    tie.close
-    (tie.spec
-    Inv-loop
-    μ-loop
-    loop-holds
-    mul-c
-    array-copy-out-c
-    cast-put-group
-    add-put-group
-    array-read-put-group
-    cast-put-group-2
-    put-group-requires
-    add-i
-    loop-less
-    loop-again
-    same-length
-    returns)
+    tie.close (tie.spec Inv-loop μ-loop loop-holds mul-c array-copy-out-c cast-put-group add-put-group array-read-put-group cast-put-group-2 put-group-requires
+    add-i loop-less loop-again same-length returns)

@@ -1,3 +1,4 @@
+-- `put_group`: the loop has written the first members of the group.
 use borrow.Author.Needs.{needs}
 use native.Mathlib.Omega.{arith}
 use lib.ListN.{length}
@@ -17,7 +18,10 @@ abbrev μ-loop : tie.MeasureT-loop
 μ-loop n d out₀ at o₀ v₀ out o v = n - v
 
 loop-holds : tie.Need-loop-holds Inv-loop μ-loop
-loop-holds c = (search needs, search needs, omega (arith, one-hot-length (c .before .args .n) (c .before .args .d), c .before .pre .room), wrote-list-none _ _ _ (omega (arith, c .before .pre .room)))
+loop-holds c =
+    let args = c .before .args in
+    let pre-room = c .before .pre .room in
+    (search needs, search needs, omega (arith, one-hot-length (args .n) (args .d), pre-room), wrote-list-none _ _ _ (omega (arith, pre-room)))
 
 mark-requires : tie.Need-mark-requires Inv-loop μ-loop
 mark-requires c κs = search needs
@@ -35,7 +39,8 @@ loop-less : tie.Need-loop-less Inv-loop μ-loop
 loop-less c = search needs
 
 loop-again : tie.Need-loop-again Inv-loop μ-loop
-loop-again c = (search needs, search needs, c .before .before .loop .inv .2, wrote-list _ _ _ (c .before .before .loop .inv .3) (c .mark .ensures) (omega arith))
+loop-again c =
+    (search needs, search needs, c .before .before .loop .inv .2, wrote-list _ _ _ (c .before .before .loop .inv .3) (c .mark .ensures) (omega arith))
 
 same-length : tie.Need-same-length Inv-loop μ-loop
 same-length c = search needs
@@ -46,17 +51,4 @@ returns c =
     rw done at (c .before .loop .inv .3)
 
 pub put-group-spec : {M : Type 1} → statement M
-put-group-spec =
-    tie.close
-    (tie.spec
-    Inv-loop
-    μ-loop
-    loop-holds
-    mark-requires
-    slice-write-out
-    add-o
-    add-v
-    loop-less
-    loop-again
-    same-length
-    returns)
+put-group-spec = tie.close (tie.spec Inv-loop μ-loop loop-holds mark-requires slice-write-out add-o add-v loop-less loop-again same-length returns)

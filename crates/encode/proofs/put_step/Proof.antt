@@ -1,3 +1,4 @@
+-- `put_step`: the group of the choice, then the block of the next state.
 use mathlib.Core.Path.{sym}
 use Rattle.model.proofs.FormLaws.{ceiling-of-sizes, choices-of-sizes}
 use Rattle.encode.proofs.BlockLaws.{step-is}
@@ -7,16 +8,33 @@ use Rattle.encode.proofs.put_step.Statement.{statement}
 use Rattle.encode.proofs.put_step.Tie as tie
 
 put-group-requires : tie.Need-put-group-requires
-put-group-requires c κs = room-first _ (room-is (step-is (c .before .before .args .m) (c .before .before .args .byte) (c .before .before .args .next) (c .before .before .args .z .choices) (choices-of-sizes _ _ (c .before .before .pre .1))) (c .before .before .pre .2))
+put-group-requires c κs =
+    let entry = c .before .before in
+    let args = entry .args in
+    room-first _ (room-is (step-is (args .m) (args .byte) (args .next) (args .z .choices) (choices-of-sizes _ _ (entry .pre .1))) (entry .pre .2))
 
 put-state-requires : tie.Need-put-state-requires
-put-state-requires c κs = (c .before .before .before .before .before .before .pre .0, ceiling-of-sizes _ _ (c .before .before .before .before .before .before .pre .1), room-then (c .before .before .before .put-group .ensures) (room-is (step-is (c .before .before .before .before .before .before .args .m) (c .before .before .before .before .before .before .args .byte) (c .before .before .before .before .before .before .args .next) (c .before .before .before .before .before .before .args .z .choices) (choices-of-sizes _ _ (c .before .before .before .before .before .before .pre .1))) (c .before .before .before .before .before .before .pre .2)))
+put-state-requires c κs =
+    let entry = c .before .before .before .before .before .before in
+    let pre = entry .pre in
+    let args = entry .args in
+    let pre₁ = pre .1 in (
+      pre .0,
+      ceiling-of-sizes _ _ pre₁,
+      room-then (c .before .before .before .put-group .ensures)
+          (room-is (step-is (args .m) (args .byte) (args .next) (args .z .choices) (choices-of-sizes _ _ pre₁)) (pre .2)),
+    )
 
 same-length : tie.Need-same-length
 same-length c = search needs
 
 returns : tie.Need-returns
-returns c = wrote-is (sym (step-is (c .before .before .before .before .before .before .before .before .before .args .m) (c .before .before .before .before .before .before .before .before .before .args .byte) (c .before .before .before .before .before .before .before .before .before .args .next) (c .before .before .before .before .before .before .before .before .before .args .z .choices) (choices-of-sizes _ _ (c .before .before .before .before .before .before .before .before .before .pre .1)))) (wrote-then (c .before .before .before .before .before .before .put-group .ensures) (c .before .before .put-state .ensures))
+returns c =
+    let put-group = c .before .before .before .before .before .before .put-group in
+    let entry = c .before .before .before .before .before .before .before .before .before in
+    let args = entry .args in
+    wrote-is (sym (step-is (args .m) (args .byte) (args .next) (args .z .choices) (choices-of-sizes _ _ (entry .pre .1))))
+    (wrote-then (put-group .ensures) (c .before .before .put-state .ensures))
 
 pub put-step-spec : {M : Type 1} → statement M
 put-step-spec = tie.close (tie.spec put-group-requires put-state-requires same-length returns)

@@ -1,12 +1,12 @@
+-- `clocks_in_group`: so far every clock was within its group; the first that is not makes the answer false.
 use borrow.Author.Needs.{needs}
-use Rattle.model.proofs.IndexedLaws.{all-none, all-next, all-fails}
+use Rattle.model.proofs.IndexedLaws.{all-none, all-stops, all-goes}
 use Rattle.model.specs.Form.{slotInGroup, clocksInGroup}
 use Rattle.model.specs.Indexed.{allBelow}
-use borrow.Author.Tests.{not-true, not-false}
 use lib.ListN.{getD}
 use native.Mathlib.Omega.{arith}
 use mathlib.Core.Bool.{true}
-use mathlib.Core.Path.{_≡_, sym, _∙_}
+use mathlib.Core.Path.{_≡_, sym}
 use Prim.Native.Nat.{_≤_, _-_}
 use Rattle.form.proofs.clocks_in_group.Statement.{statement}
 use Rattle.form.proofs.clocks_in_group.Tie as tie
@@ -28,7 +28,7 @@ slot-in-group-requires c κs = search needs
 
 returns : tie.Need-returns Inv-loop μ-loop
 unfolding clocksInGroup
-returns c = sym (all-fails _ (c .before .before .before .loop .i) 4 (c .before .before .loop-test .taken) (sym (c .before .slot-in-group .ensures) ∙ not-true _ (c .if1 .taken)))
+returns c = all-stops _ (c .before .before .before .loop .i) 4 (c .before .before .loop-test .taken) (c .before .slot-in-group .ensures) (c .if1 .taken)
 
 add-i : tie.Need-add-i Inv-loop μ-loop
 add-i c = search needs
@@ -37,7 +37,7 @@ loop-less : tie.Need-loop-less Inv-loop μ-loop
 loop-less c = search needs
 
 loop-again : tie.Need-loop-again Inv-loop μ-loop
-loop-again c = (search needs, all-next _ _ (c .before .before .before .loop .inv .1) (sym (c .before .slot-in-group .ensures) ∙ not-false _ (c .if1 .left)))
+loop-again c = (search needs, all-goes _ _ (c .before .before .before .loop .inv .1) (c .before .slot-in-group .ensures) (c .if1 .left))
 
 returns-2 : tie.Need-returns-2 Inv-loop μ-loop
 unfolding clocksInGroup
@@ -47,15 +47,4 @@ returns-2 c =
 
 pub clocks-in-group-spec : {M : Type 1} → statement M
 clocks-in-group-spec =
-    tie.close
-    (tie.spec
-    Inv-loop
-    μ-loop
-    loop-holds
-    array-read-slot-in-group
-    slot-in-group-requires
-    returns
-    add-i
-    loop-less
-    loop-again
-    returns-2)
+    tie.close (tie.spec Inv-loop μ-loop loop-holds array-read-slot-in-group slot-in-group-requires returns add-i loop-less loop-again returns-2)

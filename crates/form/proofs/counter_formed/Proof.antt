@@ -1,3 +1,4 @@
+-- `counter_formed`: both bounds, tested in the definition's order.
 use borrow.Author.Tests.{le-leb, lt-leb}
 use Rattle.form.proofs.counter_formed.Statement.{statement}
 use Rattle.form.proofs.counter_formed.Tie as tie

@@ -1,3 +1,4 @@
+-- `counter_slot_formed`: a declared slot is a well-formed counter, another the blank one.
 use borrow.Author.Tests.{lt-ltb, le-ltb}
 use borrow.Author.Needs.{needs}
 use Rattle.form.proofs.counter_slot_formed.Statement.{statement}

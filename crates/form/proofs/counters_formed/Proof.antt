@@ -1,12 +1,12 @@
+-- `counters_formed`: so far every slot was well formed; the first that is not makes the answer false.
 use borrow.Author.Needs.{needs}
 use Prim.Native.Nat.{_≤_, _-_}
-use mathlib.Core.Path.{_≡_, sym, _∙_}
+use mathlib.Core.Path.{_≡_, sym}
 use mathlib.Core.Bool.{true}
 use native.Mathlib.Omega.{arith}
 use lib.ListN.{getD}
-use borrow.Author.Tests.{not-true, not-false}
 use Rattle.model.specs.Indexed.{allBelow}
-use Rattle.model.proofs.IndexedLaws.{all-none, all-next, all-fails}
+use Rattle.model.proofs.IndexedLaws.{all-none, all-stops, all-goes}
 use Rattle.model.specs.Form.{counterSlotFormed, countersFormed}
 use Rattle.model.specs.Record.{blankCounter}
 use Rattle.form.proofs.counters_formed.Statement.{statement}
@@ -32,7 +32,9 @@ counter-slot-formed-requires c κs = search needs
 
 returns : tie.Need-returns Inv-loop μ-loop
 unfolding countersFormed
-returns c = sym (all-fails _ (c .before .before .before .before .loop .i) 4 (c .before .before .before .loop-test .taken) (sym (c .before .counter-slot-formed .ensures) ∙ not-true _ (c .if1 .taken)))
+returns c =
+    let loop-i = c .before .before .before .before .loop .i in
+    all-stops _ loop-i 4 (c .before .before .before .loop-test .taken) (c .before .counter-slot-formed .ensures) (c .if1 .taken)
 
 add-i : tie.Need-add-i Inv-loop μ-loop
 add-i c = search needs
@@ -41,7 +43,7 @@ loop-less : tie.Need-loop-less Inv-loop μ-loop
 loop-less c = search needs
 
 loop-again : tie.Need-loop-again Inv-loop μ-loop
-loop-again c = (search needs, all-next _ _ (c .before .before .before .before .loop .inv .1) (sym (c .before .counter-slot-formed .ensures) ∙ not-false _ (c .if1 .left)))
+loop-again c = (search needs, all-goes _ _ (c .before .before .before .before .loop .inv .1) (c .before .counter-slot-formed .ensures) (c .if1 .left))
 
 returns-2 : tie.Need-returns-2 Inv-loop μ-loop
 unfolding countersFormed
@@ -50,16 +52,4 @@ returns-2 c = let e : c .before .loop .i ≡ 4 = omega arith in
 
 pub counters-formed-spec : {M : Type 1} → statement M
 counters-formed-spec =
-    tie.close
-    (tie.spec
-    Inv-loop
-    μ-loop
-    loop-holds
-    mul-c
-    array-copy-out-c
-    counter-slot-formed-requires
-    returns
-    add-i
-    loop-less
-    loop-again
-    returns-2)
+    tie.close (tie.spec Inv-loop μ-loop loop-holds mul-c array-copy-out-c counter-slot-formed-requires returns add-i loop-less loop-again returns-2)

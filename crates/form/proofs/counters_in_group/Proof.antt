@@ -1,13 +1,13 @@
+-- `counters_in_group`: so far every counter was within its group; the first that is not makes the answer false.
 use borrow.Author.Needs.{needs}
-use Rattle.model.proofs.IndexedLaws.{all-none, all-next, all-fails}
+use Rattle.model.proofs.IndexedLaws.{all-none, all-stops, all-goes}
 use Rattle.model.specs.Form.{slotInGroup, countersInGroup}
 use Rattle.model.specs.Record.{blankCounter}
 use Rattle.model.specs.Indexed.{allBelow}
-use borrow.Author.Tests.{not-true, not-false}
 use lib.ListN.{getD}
 use native.Mathlib.Omega.{arith}
 use mathlib.Core.Bool.{true}
-use mathlib.Core.Path.{_≡_, sym, _∙_}
+use mathlib.Core.Path.{_≡_, sym}
 use Prim.Native.Nat.{_≤_, _-_}
 use Rattle.form.proofs.counters_in_group.Statement.{statement}
 use Rattle.form.proofs.counters_in_group.Tie as tie
@@ -38,7 +38,9 @@ slot-in-group-requires c κs = search needs
 
 returns : tie.Need-returns Inv-loop μ-loop
 unfolding countersInGroup
-returns c = sym (all-fails _ (c .before .before .before .before .before .loop .i) 4 (c .before .before .before .before .loop-test .taken) (sym (c .before .slot-in-group .ensures) ∙ not-true _ (c .if1 .taken)))
+returns c =
+    let loop-i = c .before .before .before .before .before .loop .i in
+    all-stops _ loop-i 4 (c .before .before .before .before .loop-test .taken) (c .before .slot-in-group .ensures) (c .if1 .taken)
 
 add-i : tie.Need-add-i Inv-loop μ-loop
 add-i c = search needs
@@ -47,7 +49,7 @@ loop-less : tie.Need-loop-less Inv-loop μ-loop
 loop-less c = search needs
 
 loop-again : tie.Need-loop-again Inv-loop μ-loop
-loop-again c = (search needs, all-next _ _ (c .before .before .before .before .before .loop .inv .1) (sym (c .before .slot-in-group .ensures) ∙ not-false _ (c .if1 .left)))
+loop-again c = (search needs, all-goes _ _ (c .before .before .before .before .before .loop .inv .1) (c .before .slot-in-group .ensures) (c .if1 .left))
 
 returns-2 : tie.Need-returns-2 Inv-loop μ-loop
 unfolding countersInGroup
@@ -57,18 +59,5 @@ returns-2 c =
 
 pub counters-in-group-spec : {M : Type 1} → statement M
 counters-in-group-spec =
-    tie.close
-    (tie.spec
-    Inv-loop
-    μ-loop
-    loop-holds
-    mul-c
-    array-copy-out-c
-    cast-slot-in-group
-    array-read-slot-in-group
-    slot-in-group-requires
-    returns
-    add-i
-    loop-less
-    loop-again
-    returns-2)
+    tie.close (tie.spec Inv-loop μ-loop loop-holds mul-c array-copy-out-c cast-slot-in-group array-read-slot-in-group slot-in-group-requires returns add-i
+    loop-less loop-again returns-2)

@@ -1,5 +1,7 @@
-use borrow.Author.Tests.{lt-ltb, le-ltb, not-true, not-false}
-use mathlib.Core.Path.{refl, sym, _∙_}
+-- `edge_formed`: the five tests in the order of the definition's conjunction, which is false at the first that fails.
+use Rattle.model.proofs.IndexedLaws.{told-false, told-true}
+use borrow.Author.Tests.{lt-ltb, le-ltb}
+use mathlib.Core.Path.{refl, sym}
 use Rattle.form.proofs.FormParts.{edge-is}
 use borrow.Author.Needs.{needs}
 use Rattle.form.proofs.edge_formed.Statement.{statement}
@@ -15,29 +17,31 @@ atoms-formed-requires : tie.Need-atoms-formed-requires
 atoms-formed-requires c κs = search needs
 
 returns-3 : tie.Need-returns-3
-returns-3 c = edge-is _ _ _ _ (lt-ltb _ _ (c .before .before .before .before .before .if1 .left)) (lt-ltb _ _ (c .before .before .before .if2 .left)) (sym (c .before .atoms-formed .ensures) ∙ not-true _ (c .if3 .taken)) refl refl
+returns-3 c =
+    let if1-left = c .before .before .before .before .before .if1 .left in
+    edge-is _ _ _ _ (lt-ltb _ _ if1-left) (lt-ltb _ _ (c .before .before .before .if2 .left))
+    (told-false (c .before .atoms-formed .ensures) (c .if3 .taken)) refl refl
 
 updates-formed-requires : tie.Need-updates-formed-requires
 updates-formed-requires c κs = search needs
 
 returns-4 : tie.Need-returns-4
-returns-4 c = edge-is _ _ _ _ (lt-ltb _ _ (c .before .before .before .before .before .before .before .before .if1 .left)) (lt-ltb _ _ (c .before .before .before .before .before .before .if2 .left)) (sym (c .before .before .before .before .atoms-formed .ensures) ∙ not-false _ (c .before .before .before .if3 .left)) (sym (c .before .updates-formed .ensures) ∙ not-true _ (c .if4 .taken)) refl
+returns-4 c =
+    let at-if3 = c .before .before .before in
+    let if1-left = at-if3 .before .before .before .before .before .if1 .left in
+    edge-is _ _ _ _ (lt-ltb _ _ if1-left) (lt-ltb _ _ (at-if3 .before .before .before .if2 .left))
+    (told-true (at-if3 .before .atoms-formed .ensures) (at-if3 .if3 .left)) (told-false (c .before .updates-formed .ensures) (c .if4 .taken)) refl
 
 resets-formed-requires : tie.Need-resets-formed-requires
 resets-formed-requires c κs = search needs
 
 returns-5 : tie.Need-returns-5
-returns-5 c = edge-is _ _ _ _ (lt-ltb _ _ (c .before .before .before .before .before .before .before .before .before .before .if1 .left)) (lt-ltb _ _ (c .before .before .before .before .before .before .before .before .if2 .left)) (sym (c .before .before .before .before .before .before .atoms-formed .ensures) ∙ not-false _ (c .before .before .before .before .before .if3 .left)) (sym (c .before .before .before .updates-formed .ensures) ∙ not-false _ (c .before .before .if4 .left)) (sym (c .resets-formed .ensures))
+returns-5 c =
+    let at-if3 = c .before .before .before .before .before in
+    let if1-left = at-if3 .before .before .before .before .before .if1 .left in
+    edge-is _ _ _ _ (lt-ltb _ _ if1-left) (lt-ltb _ _ (at-if3 .before .before .before .if2 .left))
+    (told-true (at-if3 .before .atoms-formed .ensures) (at-if3 .if3 .left))
+    (told-true (c .before .before .before .updates-formed .ensures) (c .before .before .if4 .left)) (sym (c .resets-formed .ensures))
 
 pub edge-formed-spec : {M : Type 1} → statement M
-edge-formed-spec =
-    tie.close
-    (tie.spec
-    returns
-    returns-2
-    atoms-formed-requires
-    returns-3
-    updates-formed-requires
-    returns-4
-    resets-formed-requires
-    returns-5)
+edge-formed-spec = tie.close (tie.spec returns returns-2 atoms-formed-requires returns-3 updates-formed-requires returns-4 resets-formed-requires returns-5)

@@ -1,24 +1,18 @@
+-- `edge_slot_formed`: a used slot is judged by the model's sizes, another by those that only a blank edge meets.
 use borrow.Author.Tests.{lt-ltb, le-ltb}
 use borrow.Author.Needs.{needs}
 use Rattle.form.proofs.edge_slot_formed.Statement.{statement}
 use Rattle.form.proofs.edge_slot_formed.Tie as tie
-use Rattle.form.proofs.edge_slot_formed.Reads as reads
-use Rattle.form.proofs.edge_slot_formed.Lts as lts
-use Rattle.form.proofs.edge_formed.Reads as edge-formed-reads
 
--- src/lib.rt:282:9
 edge-formed-requires : tie.Need-edge-formed-requires
 edge-formed-requires c κs = search needs
 
--- src/lib.rt:284:9
 edge-formed-requires-2 : tie.Need-edge-formed-requires-2
 edge-formed-requires-2 c κs = search needs
 
--- src/lib.rt:278:1
 returns : tie.Need-returns
 returns c = rw (lt-ltb _ _ (c .before .if1 .taken)) (c .edge-formed .ensures)
 
--- src/lib.rt:278:1
 returns-2 : tie.Need-returns-2
 returns-2 c = rw (le-ltb _ _ (c .before .if1 .left)) (c .edge-formed2 .ensures)
 

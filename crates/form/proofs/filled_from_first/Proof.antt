@@ -1,11 +1,11 @@
+-- `filled_from_first`: so far no atom stood after a blank slot; the first that does makes the answer false.
 use borrow.Author.Needs.{needs}
 use Prim.Native.Nat.{_≤_, _-_, _+_}
-use mathlib.Core.Path.{_≡_, sym, _∙_}
+use mathlib.Core.Path.{_≡_, sym}
 use mathlib.Core.Bool.{true}
 use native.Mathlib.Omega.{arith}
-use borrow.Author.Tests.{not-true, not-false}
 use Rattle.model.specs.Indexed.{allBelow}
-use Rattle.model.proofs.IndexedLaws.{all-none, all-next, all-fails}
+use Rattle.model.proofs.IndexedLaws.{all-none, all-stops, all-goes}
 use Rattle.model.specs.Record.{atomAt}
 use Rattle.model.specs.Form.{noGap, filledFromFirst}
 use Rattle.form.proofs.filled_from_first.Statement.{statement}
@@ -40,7 +40,9 @@ no-gap-requires c κs = search needs
 
 returns : tie.Need-returns Inv-loop μ-loop
 unfolding filledFromFirst
-returns c = sym (all-fails _ (c .before .before .before .before .before .loop .k) 3 (c .before .before .before .before .loop-test .taken) (sym (c .before .no-gap .ensures) ∙ not-true _ (c .if1 .taken)))
+returns c =
+    let loop-k = c .before .before .before .before .before .loop .k in
+    all-stops _ loop-k 3 (c .before .before .before .before .loop-test .taken) (c .before .no-gap .ensures) (c .if1 .taken)
 
 add-k : tie.Need-add-k Inv-loop μ-loop
 add-k c = search needs
@@ -49,7 +51,7 @@ loop-less : tie.Need-loop-less Inv-loop μ-loop
 loop-less c = search needs
 
 loop-again : tie.Need-loop-again Inv-loop μ-loop
-loop-again c = (search needs, all-next _ _ (c .before .before .before .before .before .loop .inv .1) (sym (c .before .no-gap .ensures) ∙ not-false _ (c .if1 .left)))
+loop-again c = (search needs, all-goes _ _ (c .before .before .before .before .before .loop .inv .1) (c .before .no-gap .ensures) (c .if1 .left))
 
 returns-2 : tie.Need-returns-2 Inv-loop μ-loop
 unfolding filledFromFirst
@@ -58,19 +60,5 @@ returns-2 c = let e : c .before .loop .k ≡ 3 = omega arith in
 
 pub filled-from-first-spec : {M : Type 1} → statement M
 filled-from-first-spec =
-    tie.close
-    (tie.spec
-    Inv-loop
-    μ-loop
-    loop-holds
-    mul-a
-    array-copy-out-a
-    add-b
-    mul-b
-    array-copy-out-b
-    no-gap-requires
-    returns
-    add-k
-    loop-less
-    loop-again
+    tie.close (tie.spec Inv-loop μ-loop loop-holds mul-a array-copy-out-a add-b mul-b array-copy-out-b no-gap-requires returns add-k loop-less loop-again
     returns-2)

@@ -1,24 +1,18 @@
+-- `invariant_slot_formed`: a used slot may name the model's clocks, another none.
 use borrow.Author.Tests.{lt-ltb, le-ltb}
 use borrow.Author.Needs.{needs}
 use Rattle.form.proofs.invariant_slot_formed.Statement.{statement}
 use Rattle.form.proofs.invariant_slot_formed.Tie as tie
-use Rattle.form.proofs.invariant_slot_formed.Reads as reads
-use Rattle.form.proofs.invariant_slot_formed.Lts as lts
-use Rattle.form.proofs.atoms_formed.Reads as atoms-formed-reads
 
--- src/lib.rt:158:9
 atoms-formed-requires : tie.Need-atoms-formed-requires
 atoms-formed-requires c κs = search needs
 
--- src/lib.rt:160:9
 atoms-formed-requires-2 : tie.Need-atoms-formed-requires-2
 atoms-formed-requires-2 c κs = search needs
 
--- src/lib.rt:154:1
 returns : tie.Need-returns
 returns c = rw (lt-ltb _ _ (c .before .if1 .taken)) (c .atoms-formed .ensures)
 
--- src/lib.rt:154:1
 returns-2 : tie.Need-returns-2
 returns-2 c = rw (le-ltb _ _ (c .before .if1 .left)) (c .atoms-formed2 .ensures)
 

@@ -1,3 +1,4 @@
+-- `is_blank_counter`: both zeros, tested in the definition's order.
 use borrow.Author.Tests.{eq-eqb, ne-eqb}
 use Rattle.form.proofs.is_blank_counter.Statement.{statement}
 use Rattle.form.proofs.is_blank_counter.Tie as tie

@@ -1,3 +1,4 @@
+-- `reset_slot_formed`: a declared clock's slot may hold either update, another only "unchanged".
 use borrow.Author.Tests.{lt-ltb, le-ltb}
 use borrow.Author.Needs.{needs}
 use Rattle.form.proofs.reset_slot_formed.Statement.{statement}

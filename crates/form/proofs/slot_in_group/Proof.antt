@@ -1,3 +1,4 @@
+-- `slot_in_group`: a declared slot is held to its greatest value, another to 0.
 use borrow.Author.Tests.{lt-ltb, le-ltb}
 use Rattle.form.proofs.slot_in_group.Statement.{statement}
 use Rattle.form.proofs.slot_in_group.Tie as tie

@@ -1,3 +1,4 @@
+-- `update_slot_formed`: a declared counter's slot holds a well-formed update, another "keep".
 use borrow.Author.Tests.{lt-ltb, le-ltb}
 use borrow.Author.Needs.{needs}
 use Rattle.form.proofs.update_slot_formed.Statement.{statement}

@@ -1,3 +1,4 @@
+-- `in_range`: the code's test is the definition's, on both sides.
 use borrow.Author.Needs.{needs}
 use borrow.Author.Tests.{le-leb, lt-leb}
 use Rattle.new_values.proofs.in_range.Statement.{statement}

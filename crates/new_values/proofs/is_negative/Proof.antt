@@ -1,3 +1,4 @@
+-- `is_negative`: the comparison with 0 is the definition's test on the sign.
 use mir.Facts.{toZ-ofZ}
 use Rattle.new_values.proofs.Signed.{negative-test}
 use Rattle.new_values.proofs.is_negative.Statement.{statement}

@@ -1,3 +1,4 @@
+-- `move_by`: by the sign, and below zero by the test that the value does not fall under 0; the rest is what `in_range` ensures.
 use borrow.Author.Needs.{needs}
 use borrow.Author.Tests.{le-leb, lt-leb}
 use Rattle.new_values.proofs.move_by.Statement.{statement}
@@ -25,13 +26,4 @@ returns-3 : tie.Need-returns-3
 returns-3 c = rw (c .before .if1 .left) (c .in-range2 .ensures)
 
 pub move-by-spec : {M : Type 1} → statement M
-move-by-spec =
-    tie.close
-    (tie.spec
-    cast-in-range
-    in-range-requires
-    add-in-range
-    in-range-requires-2
-    returns
-    returns-2
-    returns-3)
+move-by-spec = tie.close (tie.spec cast-in-range in-range-requires add-in-range in-range-requires-2 returns returns-2 returns-3)

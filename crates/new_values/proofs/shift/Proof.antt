@@ -1,3 +1,4 @@
+-- `shift` is `move_by` at the offset's sign and size; the offset is read back from its bits unchanged.
 use borrow.Author.Needs.{needs}
 use mathlib.Core.Path.{_∙_, ap, ap₂}
 use mathlib.Core.Bool.{Bool}
@@ -21,7 +22,9 @@ returns : tie.Need-returns
 returns c =
     let a = c .before .before .before .args in
     let back = toZ-ofZ (c .before .before .before .fits .offset) in
-    c .move-by .ensures ∙ ap₂ (λ (b : Bool) (n : ℕ). newValue (moved (a .v) b n (a .greatest))) (c .before .before .is-negative .ensures ∙ ap isNegative back) (c .before .amount .ensures ∙ ap natAbs back)
+    c .move-by .ensures
+    ∙ ap₂ (λ (b : Bool) (n : ℕ). newValue (moved (a .v) b n (a .greatest))) (c .before .before .is-negative .ensures ∙ ap isNegative back)
+    (c .before .amount .ensures ∙ ap natAbs back)
 
 pub shift-spec : {M : Type 1} → statement M
 shift-spec = tie.close (tie.spec is-negative-requires amount-requires move-by-requires returns)

@@ -1,3 +1,4 @@
+-- `full_model`, field by field; its edge is what `full_edge` ensures.
 use Rattle.samples.specs.Models.{fullModel, holding}
 use Rattle.model.specs.declared.Relation.the-variants.{LessEqual}
 use Rattle.model.specs.declared.Atom.the-variants.{OnClock}

@@ -1,3 +1,4 @@
+-- `model_b`: the blank record with its counter, its invariant and its three edges stored one after the other.
 use Rattle.samples.specs.Models.{modelB, edge}
 use Rattle.model.specs.Record.{blankModel}
 use Rattle.model.specs.declared.ClockUpdate.the-variants.{Unchanged}
@@ -50,8 +51,11 @@ element-set-from-m-5 c = search needs
 returns : tie.Need-returns
 unfolding modelB blankModel
 returns c =
+    let edge-of = c .before .before .before .before .edge-of in
+    let on-clock = c .before .before .before .before .before .on-clock in
     let b = c .before .before .before .before .before .before .blank .ensures in
-    let early = c .before .before .edge-of2 .ensures ∙ ap (λ (g : List AtomSlot). edge 1 2 g (Sum 0 (pos 1)) Unchanged) (c .before .before .before .on-clock2 .ensures) in
+    let early = c .before .before .edge-of2 .ensures
+    ∙ ap (λ (g : List AtomSlot). edge 1 2 g (Sum 0 (pos 1)) Unchanged) (c .before .before .before .on-clock2 .ensures) in
     let late = c .edge-of3 .ensures ∙ ap (λ (g : List AtomSlot). edge 1 3 g Keep Unchanged) (c .before .on-clock3 .ensures) in
     λ i. record {
       locations = 4;
@@ -60,25 +64,12 @@ returns c =
       clocks = 1;
       vars = 1;
       counters = set (b i .counters) 0 (record { greatest = 1; initial = 0 });
-      invariants = set (b i .invariants) 1 (record { atoms = c .before .before .before .before .before .on-clock .ensures i });
+      invariants = set (b i .invariants) 1 (record { atoms = on-clock .ensures i });
       used = 3;
-      edges = set (set (set (b i .edges) 0 (c .before .before .before .before .edge-of .ensures i)) 1 (early i)) 2 (late i);
+      edges = set (set (set (b i .edges) 0 (edge-of .ensures i)) 1 (early i)) 2 (late i);
     }
 
 pub model-b-spec : {M : Type 1} → statement M
 model-b-spec =
-    tie.close
-    (tie.spec
-    blank-requires
-    element-set-from-m
-    on-clock-requires
-    element-set-from-m-2
-    edge-of-requires
-    element-set-from-m-3
-    on-clock-requires-2
-    edge-of-requires-2
-    element-set-from-m-4
-    on-clock-requires-3
-    edge-of-requires-3
-    element-set-from-m-5
-    returns)
+    tie.close (tie.spec blank-requires element-set-from-m on-clock-requires element-set-from-m-2 edge-of-requires element-set-from-m-3 on-clock-requires-2
+    edge-of-requires-2 element-set-from-m-4 on-clock-requires-3 edge-of-requires-3 element-set-from-m-5 returns)

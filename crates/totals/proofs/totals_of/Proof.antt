@@ -1,7 +1,8 @@
+-- `totals_of`: refusals 20 and 21 in the report's order, then the numbers of `sizes` and `variables`.
+use Rattle.model.proofs.IndexedLaws.{told-false, told-true}
 use Rattle.totals.specs.TotalsCall.{totalsReport, totalsReported}
 use Rattle.model.proofs.FormLaws.{state-of-sizes, choices-of-sizes}
-use borrow.Author.Tests.{not-true, not-false, lt-ltb, le-ltb}
-use mathlib.Core.Path.{sym, _∙_}
+use borrow.Author.Tests.{lt-ltb, le-ltb}
 use borrow.Author.Needs.{needs}
 use Rattle.totals.proofs.totals_of.Statement.{statement}
 use Rattle.totals.proofs.totals_of.Tie as tie
@@ -11,11 +12,11 @@ well-formed-requires c κs = search needs
 
 returns : tie.Need-returns
 unfolding totalsReport
-returns c = rw (sym (c .before .well-formed .ensures) ∙ not-true _ (c .if1 .taken))
+returns c = rw (told-false (c .before .well-formed .ensures) (c .if1 .taken))
 
 returns-2 : tie.Need-returns-2
 unfolding totalsReport
-returns-2 c = rw (sym (c .before .before .well-formed .ensures) ∙ not-false _ (c .before .if1 .left), lt-ltb _ _ (c .if2 .taken))
+returns-2 c = rw (told-true (c .before .before .well-formed .ensures) (c .before .if1 .left), lt-ltb _ _ (c .if2 .taken))
 
 sizes-requires : tie.Need-sizes-requires
 sizes-requires c κs = search needs
@@ -28,16 +29,11 @@ variables-requires c κs = search needs
 
 returns-3 : tie.Need-returns-3
 unfolding totalsReport
-returns-3 c = rw (sym (c .before .before .before .before .well-formed .ensures) ∙ not-false _ (c .before .before .before .if1 .left), le-ltb _ _ (c .before .before .if2 .left)) (λ i. totalsReported 0 (state-of-sizes _ _ (c .before .sizes .ensures) i) (choices-of-sizes _ _ (c .before .sizes .ensures) i) (c .variables .ensures i))
+returns-3 c =
+    let sizes-ensures = c .before .sizes .ensures in
+    let well-formed = c .before .before .before .before .well-formed in
+    rw (told-true (well-formed .ensures) (c .before .before .before .if1 .left), le-ltb _ _ (c .before .before .if2 .left))
+    (λ i. totalsReported 0 (state-of-sizes _ _ sizes-ensures i) (choices-of-sizes _ _ sizes-ensures i) (c .variables .ensures i))
 
 pub totals-of-spec : {M : Type 1} → statement M
-totals-of-spec =
-    tie.close
-    (tie.spec
-    well-formed-requires
-    returns
-    returns-2
-    sizes-requires
-    cast-variables
-    variables-requires
-    returns-3)
+totals-of-spec = tie.close (tie.spec well-formed-requires returns returns-2 sizes-requires cast-variables variables-requires returns-3)

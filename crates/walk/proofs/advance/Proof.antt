@@ -1,3 +1,4 @@
+-- `advance`: a byte up to the ceiling is a delay, one below the number of choices an edge, any other no step.
 use Rattle.model.proofs.StepLaws.{step-is-delay, step-is-edge, step-is-none}
 use Rattle.model.proofs.FormLaws.{formed, choices-is}
 use Rattle.model.specs.Automaton.{ceiling, delayStep, edgeStep, stepped}
@@ -14,9 +15,12 @@ delay-requires c κs = search needs
 
 returns : tie.Need-returns
 returns c =
-    let m = c .before .before .args .t1 in
-    let p : c .before .before .args .byte ≤ ceiling m = omega (arith, c .before .if1 .taken, c .before .before .pre .1) in
-    c .delay .ensures ∙ ap (λ (t : ℕ). stepped (c .before .before .args .s) (delayStep m t (c .before .before .args .byte) (c .before .before .args .s))) (c .before .before .pre .1) ∙ ap (stepped (c .before .before .args .s)) (sym (step-is-delay m (c .before .before .args .s) (c .before .before .args .byte) p))
+    let args = c .before .before .args in
+    let m = args .t1 in
+    let pre₁ = c .before .before .pre .1 in
+    let s = args .s in
+    let p : args .byte ≤ ceiling m = omega (arith, c .before .if1 .taken, pre₁) in
+    c .delay .ensures ∙ ap (λ (t : ℕ). stepped s (delayStep m t (args .byte) s)) pre₁ ∙ ap (stepped s) (sym (step-is-delay m s (args .byte) p))
 
 add-e : tie.Need-add-e
 add-e c = search needs
@@ -38,27 +42,22 @@ edge-requires c κs = search needs
 
 returns-2 : tie.Need-returns-2
 returns-2 c =
-    let m = c .before .before .before .before .args .t1 in
-    let p : ceiling m < c .before .before .before .before .args .byte = omega (arith, c .before .before .before .if1 .left, c .before .before .before .before .pre .1) in
-    let q : c .before .before .before .before .args .byte - (ceiling m + 1) < m .used = omega (arith, c .before .before .if2 .taken, c .before .before .before .before .pre .1) in
-    c .edge2 .ensures ∙ ap (λ (t : ℕ). stepped (c .before .before .before .before .args .s) (edgeStep m (edgeAt m (c .before .before .before .before .args .byte - (t + 1))) (c .before .before .before .before .args .s))) (c .before .before .before .before .pre .1) ∙ ap (stepped (c .before .before .before .before .args .s)) (sym (step-is-edge m (c .before .before .before .before .args .s) (c .before .before .before .before .args .byte) p q))
+    let entry = c .before .before .before .before in
+    let args = entry .args in
+    let m = args .t1 in
+    let s = args .s in
+    let pre₁ = entry .pre .1 in
+    let byte = args .byte in
+    let p : ceiling m < byte = omega (arith, c .before .before .before .if1 .left, pre₁) in
+    let q : byte - (ceiling m + 1) < m .used = omega (arith, c .before .before .if2 .taken, pre₁) in
+    c .edge2 .ensures ∙ ap (λ (t : ℕ). stepped s (edgeStep m (edgeAt m (byte - (t + 1))) s)) pre₁ ∙ ap (stepped s) (sym (step-is-edge m s byte p q))
 
 returns-3 : tie.Need-returns-3
 returns-3 c =
-    let m = c .before .before .args .t1 in
-    sym (ap (stepped (c .before .before .args .s)) (step-is-none m (c .before .before .args .s) (c .before .before .args .byte) (omega (arith, choices-is m, c .before .if1 .left, c .if2 .left, c .before .before .pre .1))))
+    let args = c .before .before .args in
+    let m = args .t1 in
+    let s = args .s in
+    sym (ap (stepped s) (step-is-none m s (args .byte) (omega (arith, choices-is m, c .before .if1 .left, c .if2 .left, c .before .before .pre .1))))
 
 pub advance-spec : {M : Type 1} → statement M
-advance-spec =
-    tie.close
-    (tie.spec
-    delay-requires
-    returns
-    add-e
-    sub-e
-    cast-if2
-    mul-edge
-    element-copy-out-edge
-    edge-requires
-    returns-2
-    returns-3)
+advance-spec = tie.close (tie.spec delay-requires returns add-e sub-e cast-if2 mul-edge element-copy-out-edge edge-requires returns-2 returns-3)

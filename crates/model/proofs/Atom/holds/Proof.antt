@@ -1,3 +1,4 @@
+-- `Atom::holds`: each kind of atom compares the slot that it names, which `slot` and `Relation::holds` ensure.
 use borrow.Author.Needs.{needs}
 use Rattle.model.proofs.Atom.holds.Statement.{statement}
 use Rattle.model.proofs.Atom.holds.Tie as tie
@@ -34,15 +35,4 @@ returns-3 c = rw (c .before .before .before .before .self2 .given .1) (rw (c .be
 
 pub holds-spec : {M : Type 1} → statement M
 holds-spec =
-    tie.close
-    (tie.spec
-    enum-told
-    enum-known-self
-    slot-requires
-    holds-requires
-    enum-known-self-2
-    slot-requires-2
-    holds-requires-2
-    returns
-    returns-2
-    returns-3)
+    tie.close (tie.spec enum-told enum-known-self slot-requires holds-requires enum-known-self-2 slot-requires-2 holds-requires-2 returns returns-2 returns-3)

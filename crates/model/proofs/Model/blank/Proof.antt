@@ -1,3 +1,4 @@
+-- `blank` builds the very record that `blankModel` defines.
 use mathlib.Core.Path.{refl}
 use Rattle.model.specs.Record.{blankModel}
 use Rattle.model.proofs.Model.blank.Statement.{statement}

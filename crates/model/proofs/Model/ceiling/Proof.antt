@@ -1,3 +1,4 @@
+-- `ceiling`: one more than the larger of both greatest constants, at most 256, since each is a byte.
 use Rattle.model.specs.Automaton.{ceiling}
 use borrow.Author.Needs.{needs}
 use Rattle.model.proofs.Model.ceiling.Statement.{statement}
@@ -23,12 +24,4 @@ unfolding ceiling
 returns c = record { is = search needs; most = search needs }
 
 pub ceiling-spec : {M : Type 1} → statement M
-ceiling-spec =
-    tie.close
-    (tie.spec
-    invariant-constant-requires
-    guard-constant-requires
-    larger-requires
-    cast-result
-    add-result
-    returns)
+ceiling-spec = tie.close (tie.spec invariant-constant-requires guard-constant-requires larger-requires cast-result add-result returns)

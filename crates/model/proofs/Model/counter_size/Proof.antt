@@ -1,3 +1,4 @@
+-- `counter_size`: within the slots the code reads the definition's counter; past them the definition has the blank one, of size 1.
 use Rattle.model.proofs.Known.{lengths}
 use Rattle.model.specs.Record.{blankCounter}
 use Rattle.model.specs.declared.Counter.{Counter}
@@ -26,8 +27,9 @@ returns c = search needs
 
 returns-2 : tie.Need-returns-2
 returns-2 c =
-    let h : length (c .before .args .t1 .counters) ≤ c .before .args .i = omega (arith, lengths (c .before .args .t1) _ (c .before .good .0) .counters) in
-    (sym (ap (λ (x : Counter). x .greatest + 1) (List·getD-eq-default (c .before .args .t1 .counters) blankCounter h)), search needs)
+    let t1 = c .before .args .t1 in
+    let h : length (t1 .counters) ≤ c .before .args .i = omega (arith, lengths t1 _ (c .before .good .0) .counters) in
+    (sym (ap (λ (x : Counter). x .greatest + 1) (List·getD-eq-default (t1 .counters) blankCounter h)), search needs)
 
 pub counter-size-spec : {M : Type 1} → statement M
 counter-size-spec =

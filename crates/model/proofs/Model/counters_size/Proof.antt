@@ -1,3 +1,4 @@
+-- `counters_size`: the loop holds the sum over the counters so far, each of size 256 or less.
 use borrow.Author.Needs.{needs}
 use Rattle.model.proofs.IndexedLaws.{sum-none, sum-more}
 use Rattle.model.specs.Automaton.{groupSize, counter}
@@ -34,8 +35,14 @@ loop-less c = search needs
 
 loop-again : tie.Need-loop-again Inv-loop μ-loop
 loop-again c =
-    let v = c .before .before .loop .inv in
-    (search needs, ap₂ (λ (a b : Prim.Native.Nat.ℕ). a + b) (v .1) (c .counter-size .ensures .0) ∙ sym (sum-more _ _), omega (arith, c .counter-size .ensures .1), v .3, v .4)
+    let counter-size = c .counter-size in
+    let v = c .before .before .loop .inv in (
+      search needs,
+      ap₂ (λ (a b : Prim.Native.Nat.ℕ). a + b) (v .1) (counter-size .ensures .0) ∙ sym (sum-more _ _),
+      omega (arith, counter-size .ensures .1),
+      v .3,
+      v .4,
+    )
 
 returns : tie.Need-returns Inv-loop μ-loop
 returns c =
@@ -44,16 +51,4 @@ returns c =
     (rw e at (v .1), omega (arith, v .2, v .4))
 
 pub counters-size-spec : {M : Type 1} → statement M
-counters-size-spec =
-    tie.close
-    (tie.spec
-    Inv-loop
-    μ-loop
-    cast-i-end
-    loop-holds
-    counter-size-requires
-    add-sum
-    add-i
-    loop-less
-    loop-again
-    returns)
+counters-size-spec = tie.close (tie.spec Inv-loop μ-loop cast-i-end loop-holds counter-size-requires add-sum add-i loop-less loop-again returns)

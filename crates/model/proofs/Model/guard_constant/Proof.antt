@@ -1,3 +1,4 @@
+-- `guard_constant`: the loop holds the greatest constant of the guards so far.
 use borrow.Author.Needs.{needs}
 use Prim.Native.Nat.{_≤_, _-_, max}
 use mathlib.Core.Path.{_≡_, sym, _∙_, ap₂}
@@ -37,7 +38,9 @@ loop-less : tie.Need-loop-less Inv-loop μ-loop
 loop-less c = search needs
 
 loop-again : tie.Need-loop-again Inv-loop μ-loop
-loop-again c = (search needs, c .larger .ensures ∙ ap₂ max (c .before .before .before .before .before .loop .inv .1) (c .before .greatest-constant .ensures) ∙ sym (max-more _ _))
+loop-again c =
+    let loop-inv₁ = c .before .before .before .before .before .loop .inv .1 in
+    (search needs, c .larger .ensures ∙ ap₂ max loop-inv₁ (c .before .greatest-constant .ensures) ∙ sym (max-more _ _))
 
 returns : tie.Need-returns Inv-loop μ-loop
 returns c = let e : c .before .loop .e ≡ 32 = omega arith in
@@ -45,16 +48,4 @@ returns c = let e : c .before .loop .e ≡ 32 = omega arith in
 
 pub guard-constant-spec : {M : Type 1} → statement M
 guard-constant-spec =
-    tie.close
-    (tie.spec
-    Inv-loop
-    μ-loop
-    loop-holds
-    mul-edge
-    element-copy-out-edge
-    greatest-constant-requires
-    larger-requires
-    add-e
-    loop-less
-    loop-again
-    returns)
+    tie.close (tie.spec Inv-loop μ-loop loop-holds mul-edge element-copy-out-edge greatest-constant-requires larger-requires add-e loop-less loop-again returns)

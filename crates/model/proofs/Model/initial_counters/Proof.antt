@@ -1,3 +1,4 @@
+-- `initial_counters`: the loop has filled the array with the first counters' initial values.
 use borrow.Author.Needs.{needs}
 use Rattle.model.proofs.Filled.{filled, whole}
 use Rattle.model.proofs.IndexedLaws.{list-none}
@@ -45,16 +46,4 @@ returns c =
     whole _ _ (c .before .loop .inv .1) (rw e at (c .before .loop .inv .2))
 
 pub initial-counters-spec : {M : Type 1} → statement M
-initial-counters-spec =
-    tie.close
-    (tie.spec
-    Inv-loop
-    μ-loop
-    loop-holds
-    mul-c
-    element-copy-out-c
-    array-write-values
-    add-i
-    loop-less
-    loop-again
-    returns)
+initial-counters-spec = tie.close (tie.spec Inv-loop μ-loop loop-holds mul-c element-copy-out-c array-write-values add-i loop-less loop-again returns)

@@ -1,3 +1,4 @@
+-- `initial_state`, field by field; the counters are what `initial_counters` ensures.
 use Rattle.model.specs.Indexed.{listBelow}
 use Rattle.model.specs.Automaton.{initialState}
 use borrow.Author.Needs.{needs}

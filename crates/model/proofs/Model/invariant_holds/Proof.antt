@@ -1,3 +1,4 @@
+-- `invariant_holds` asks `all_hold` of the location's atoms; past the last location the definition's invariant is blank and holds.
 use lib.ListN.{length}
 use Prim.Native.Nat.{_≤_}
 use lib.ListN.{List·getD-eq-default}
@@ -31,8 +32,10 @@ returns c = c .all-hold .ensures
 
 returns-2 : tie.Need-returns-2
 unfolding invariantHolds allHold allBelow
-returns-2 c = let h : length (c .before .args .t1 .invariants) ≤ c .before .args .s .location = omega (arith, lengths (c .before .args .t1) _ (c .before .good .0) .invariants) in
-    rw (List·getD-eq-default (c .before .args .t1 .invariants) pastInvariant h)
+returns-2 c =
+    let t1 = c .before .args .t1 in
+    let h : length (t1 .invariants) ≤ c .before .args .s .location = omega (arith, lengths t1 _ (c .before .good .0) .invariants) in
+    rw (List·getD-eq-default (t1 .invariants) pastInvariant h)
 
 pub invariant-holds-spec : {M : Type 1} → statement M
 invariant-holds-spec =

@@ -1,3 +1,4 @@
+-- `sizes`, number by number; no sum or product wraps, because every factor is a byte or bounded by a callee.
 use Rattle.model.specs.Automaton.{ceiling, stateSize, choices, sizes}
 use Rattle.model.specs.declared.Model.{Model}
 use Prim.Native.Nat.{_+_, _*_, _≤_}
@@ -29,10 +30,14 @@ product : (m : Model) (n : Prim.Native.Nat.ℕ) → m .clocks ≤ 255 → n ≤ 
 product m n p q = let r : n + 1 ≤ 257 = omega arith in mul-le-mul p r
 
 mul-t8 : tie.Need-mul-t8
-mul-t8 c = record { fits = omega (arith, product (c .before .before .before .before .args .self) (c .before .before .before .ceiling .result) (search needs) (c .before .before .before .ceiling .ensures .most)) }
+mul-t8 c =
+    let at-ceiling = c .before .before .before .ceiling in
+    record { fits = omega (arith, product (c .before .before .before .before .args .self) (at-ceiling .result) (search needs) (at-ceiling .ensures .most)) }
 
 add-t9 : tie.Need-add-t9
-add-t9 c = record { fits = omega (arith, product (c .before .before .before .before .args .self) (c .before .before .before .ceiling .result) (search needs) (c .before .before .before .ceiling .ensures .most)) }
+add-t9 c =
+    let at-ceiling = c .before .before .before .ceiling in
+    record { fits = omega (arith, product (c .before .before .before .before .args .self) (at-ceiling .result) (search needs) (at-ceiling .ensures .most)) }
 
 add-t10 : tie.Need-add-t10
 add-t10 c = search needs
@@ -46,29 +51,17 @@ add-t12 c = search needs
 returns : tie.Need-returns
 unfolding sizes stateSize choices
 returns c =
-    let m = c .before .before .before .before .before .args .self in
-    let p = c .before .before .before .before .ceiling .ensures .is in
+    let at-ceiling = c .before .before .before .before .ceiling in
     let q = c .before .before .before .counters-size .ensures .0 in
+    let m = c .before .before .before .before .before .args .self in
+    let p = at-ceiling .ensures .is in
     record {
       is = λ i. record { ceiling = p i; state = m .locations + q i + m .clocks * (p i + 1); choices = p i + 1 + m .used };
-      ceiling-most = c .before .before .before .before .ceiling .ensures .most;
-      state-most = omega (arith, product m (c .before .before .before .before .ceiling .result) (search needs) (c .before .before .before .before .ceiling .ensures .most), c .before .before .before .counters-size .ensures .1);
+      ceiling-most = at-ceiling .ensures .most;
+      state-most =
+          omega (arith, product m (at-ceiling .result) (search needs) (at-ceiling .ensures .most), c .before .before .before .counters-size .ensures .1);
       choices-most = search needs;
     }
 
 pub sizes-spec : {M : Type 1} → statement M
-sizes-spec =
-    tie.close
-    (tie.spec
-    ceiling-requires
-    counters-size-requires
-    cast-t4
-    add-t5
-    cast-t6
-    add-t7
-    mul-t8
-    add-t9
-    add-t10
-    cast-t11
-    add-t12
-    returns)
+sizes-spec = tie.close (tie.spec ceiling-requires counters-size-requires cast-t4 add-t5 cast-t6 add-t7 mul-t8 add-t9 add-t10 cast-t11 add-t12 returns)

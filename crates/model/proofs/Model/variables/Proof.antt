@@ -1,3 +1,4 @@
+-- `variables`: the definition at the numbers of `sizes`, whose bounds keep the product below 2^64.
 use Rattle.model.specs.Automaton.{sizes, variables}
 use Rattle.model.specs.declared.Sizes.{Sizes}
 use mathlib.Core.Path.{ap}
@@ -18,10 +19,30 @@ product : (k s h : ℕ) → k ≤ 255 → s ≤ 131070 → h ≤ 512 → k * (s 
 product k s h p q r = let t : s + h ≤ 131582 = omega arith in mul-le-mul p t
 
 mul-result : tie.Need-mul-result
-mul-result c = record { fits = omega (arith, product (c .before .before .args .bound) (c .before .sizes .result .state) (c .before .sizes .result .choices) (search needs) (c .before .sizes .ensures .state-most) (c .before .sizes .ensures .choices-most)) }
+mul-result c =
+    let at-sizes = c .before .sizes in
+    let sizes-result = at-sizes .result in
+    let sizes-ensures = at-sizes .ensures in
+    record {
+      fits = omega (
+        arith,
+        product (c .before .before .args .bound) (sizes-result .state) (sizes-result .choices) (search needs) (sizes-ensures .state-most)
+            (sizes-ensures .choices-most),
+      );
+    }
 
 add-result-2 : tie.Need-add-result-2
-add-result-2 c = record { fits = omega (arith, product (c .before .before .before .args .bound) (c .before .before .sizes .result .state) (c .before .before .sizes .result .choices) (search needs) (c .before .before .sizes .ensures .state-most) (c .before .before .sizes .ensures .choices-most)) }
+add-result-2 c =
+    let at-sizes = c .before .before .sizes in
+    let sizes-result = at-sizes .result in
+    let sizes-ensures = at-sizes .ensures in
+    record {
+      fits = omega (
+        arith,
+        product (c .before .before .before .args .bound) (sizes-result .state) (sizes-result .choices) (search needs) (sizes-ensures .state-most)
+            (sizes-ensures .choices-most),
+      );
+    }
 
 returns : tie.Need-returns
 unfolding sizes variables

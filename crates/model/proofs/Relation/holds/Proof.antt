@@ -1,3 +1,4 @@
+-- `Relation::holds`: each relation's test is the definition's.
 use borrow.Author.Needs.{needs}
 use Rattle.model.proofs.Relation.holds.Statement.{statement}
 use Rattle.model.proofs.Relation.holds.Tie as tie
@@ -40,17 +41,4 @@ returns-6 c = rw (c .enum-told6 .given .1)
 
 pub holds-spec : {M : Type 1} → statement M
 holds-spec =
-    tie.close
-    (tie.spec
-    enum-told
-    enum-told-2
-    enum-told-3
-    enum-told-4
-    enum-told-5
-    enum-told-6
-    returns
-    returns-2
-    returns-3
-    returns-4
-    returns-5
-    returns-6)
+    tie.close (tie.spec enum-told enum-told-2 enum-told-3 enum-told-4 enum-told-5 enum-told-6 returns returns-2 returns-3 returns-4 returns-5 returns-6)

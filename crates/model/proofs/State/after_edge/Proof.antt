@@ -1,3 +1,4 @@
+-- `after_edge`, field by field: the target, and what `next_counters` and `next_clocks` ensure.
 use Rattle.model.specs.Automaton.{afterEdge}
 use borrow.Author.Needs.{needs}
 use Rattle.model.proofs.State.after_edge.Statement.{statement}

@@ -1,3 +1,4 @@
+-- `delayed`: the loop has filled the array with the first clocks' delayed values.
 use borrow.Author.Needs.{needs}
 use Prim.Native.Nat.{ℕ, _≤_, _-_}
 use mathlib.Core.Path.{_≡_, refl, sym, ap}
@@ -41,21 +42,11 @@ loop-again c = let i = c .before .before .loop .inv in
 
 returns : tie.Need-returns Inv-loop μ-loop
 unfolding delayed
-returns c = let i = c .before .before .loop .inv in
+returns c =
+    let i = c .before .before .loop .inv in
+    let self = c .before .before .before .args .self in
     let e : c .before .before .loop .i ≡ 4 = omega arith in
-    ap (λ (l : List ℕ). record { location = c .before .before .before .args .self .location; counters = c .before .before .before .args .self .counters; clocks = l }) (whole _ _ (i .1) (rw e at (i .2)))
+    ap (λ (l : List ℕ). record { location = self .location; counters = self .counters; clocks = l }) (whole _ _ (i .1) (rw e at (i .2)))
 
 pub delayed-spec : {M : Type 1} → statement M
-delayed-spec =
-    tie.close
-    (tie.spec
-    Inv-loop
-    μ-loop
-    loop-holds
-    cast-delayed-clock
-    delayed-clock-requires
-    array-write-next
-    add-i
-    loop-less
-    loop-again
-    returns)
+delayed-spec = tie.close (tie.spec Inv-loop μ-loop loop-holds cast-delayed-clock delayed-clock-requires array-write-next add-i loop-less loop-again returns)

@@ -1,3 +1,4 @@
+-- `delayed_clock`: a declared clock grows up to the ceiling, another stays.
 use borrow.Author.Tests.{lt-ltb, le-ltb}
 use Rattle.model.specs.Automaton.{delayedClock}
 use borrow.Author.Needs.{needs}

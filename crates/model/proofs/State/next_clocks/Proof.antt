@@ -1,3 +1,4 @@
+-- `next_clocks`: the loop has filled the array with the first clocks' new values.
 use borrow.Author.Needs.{needs}
 use Prim.Native.Nat.{_≤_, _-_}
 use mathlib.Core.Path.{_≡_, refl, sym}
@@ -40,15 +41,4 @@ returns c = let e : c .before .loop .i ≡ 4 = omega arith in
     whole _ _ (c .before .loop .inv .1) (rw e at (c .before .loop .inv .2))
 
 pub next-clocks-spec : {M : Type 1} → statement M
-next-clocks-spec =
-    tie.close
-    (tie.spec
-    Inv-loop
-    μ-loop
-    loop-holds
-    next-clock-requires
-    array-write-next
-    add-i
-    loop-less
-    loop-again
-    returns)
+next-clocks-spec = tie.close (tie.spec Inv-loop μ-loop loop-holds next-clock-requires array-write-next add-i loop-less loop-again returns)

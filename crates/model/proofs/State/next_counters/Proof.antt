@@ -1,3 +1,4 @@
+-- `next_counters`: the loop has filled the array with the first counters' new values, 0 where one is out of range.
 use borrow.Author.Needs.{needs}
 use Rattle.model.proofs.Filled.{filled, whole}
 use Rattle.model.proofs.NewValues.{value-is}
@@ -7,13 +8,15 @@ use Rattle.model.specs.Record.{blankCounter, updateAt}
 use Rattle.model.specs.Indexed.{listBelow, orZero}
 use lib.ListN.{length, take, length-set, getD}
 use native.Mathlib.Omega.{arith}
-use mathlib.Core.Path.{_≡_, refl, sym, _∙_, ap}
+use mathlib.Core.Path.{_≡_, sym, _∙_, ap}
 use Prim.Native.Nat.{_≤_, _-_}
 use Rattle.model.proofs.State.next_counters.Statement.{statement}
 use Rattle.model.proofs.State.next_counters.Tie as tie
 
 abbrev Inv-loop : tie.InvT-loop
-Inv-loop e counters values next₀ i₀ next i = (i ≤ 4) × (length next ≡ 4) × (take i next ≡ listBelow (λ j. orZero (newCounter (λ w. getD values w 0) (getD counters j blankCounter .greatest) (getD values j 0) (updateAt e j))) i)
+Inv-loop e counters values next₀ i₀ next i =
+    (i ≤ 4) × (length next ≡ 4)
+    × (take i next ≡ listBelow (λ j. orZero (newCounter (λ w. getD values w 0) (getD counters j blankCounter .greatest) (getD values j 0) (updateAt e j))) i)
 
 abbrev μ-loop : tie.MeasureT-loop
 μ-loop e counters values next₀ i₀ next i = 4 - i
@@ -38,9 +41,14 @@ loop-less c = search needs
 
 loop-again : tie.Need-loop-again Inv-loop μ-loop
 loop-again c =
-    let v = c .before .before .before .loop .inv in
-    let a = c .before .before .before .before .before .args in
-    (search needs, simp length-set (v .1), filled _ _ _ _ (omega arith) (v .2) (c .value-or-zero .ensures ∙ ap valueOrZero (c .before .next-counter .ensures) ∙ value-is (nextCounter (a .counters) (a .e) (a .self) (c .before .before .before .loop .i))))
+    let loop = c .before .before .before .loop in
+    let v = loop .inv in
+    let a = c .before .before .before .before .before .args in (
+      search needs,
+      simp length-set (v .1),
+      filled _ _ _ _ (omega arith) (v .2)
+          (c .value-or-zero .ensures ∙ ap valueOrZero (c .before .next-counter .ensures) ∙ value-is (nextCounter (a .counters) (a .e) (a .self) (loop .i))),
+    )
 
 returns : tie.Need-returns Inv-loop μ-loop
 returns c =
@@ -49,15 +57,4 @@ returns c =
 
 pub next-counters-spec : {M : Type 1} → statement M
 next-counters-spec =
-    tie.close
-    (tie.spec
-    Inv-loop
-    μ-loop
-    loop-holds
-    next-counter-requires
-    value-or-zero-requires
-    array-write-next
-    add-i
-    loop-less
-    loop-again
-    returns)
+    tie.close (tie.spec Inv-loop μ-loop loop-holds next-counter-requires value-or-zero-requires array-write-next add-i loop-less loop-again returns)

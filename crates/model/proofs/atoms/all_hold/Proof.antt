@@ -1,13 +1,13 @@
-use borrow.Author.Tests.{not-true, not-false}
+-- `all_hold`: so far every atom held; the first that does not makes the answer false.
 use native.Mathlib.Omega.{arith}
 use borrow.Author.Needs.{needs}
 use Prim.Native.Nat.{_≤_, _-_}
-use mathlib.Core.Path.{_≡_, sym, _∙_}
+use mathlib.Core.Path.{_≡_, sym}
 use mathlib.Core.Bool.{true}
 use Rattle.model.specs.Record.{atomAt}
 use Rattle.model.specs.Automaton.{atomHolds, allHold}
 use Rattle.model.specs.Indexed.{allBelow}
-use Rattle.model.proofs.IndexedLaws.{all-none, all-next, all-fails}
+use Rattle.model.proofs.IndexedLaws.{all-none, all-stops, all-goes}
 use Rattle.model.proofs.atoms.all_hold.Statement.{statement}
 use Rattle.model.proofs.atoms.all_hold.Tie as tie
 
@@ -32,7 +32,7 @@ holds-requires c κs = search needs
 returns : tie.Need-returns Inv-loop μ-loop
 unfolding allHold
 returns c = let i = c .before .before .before .before .loop .k in
-    sym (all-fails _ i 4 (c .before .before .before .loop-test .taken) (sym (c .before .holds .ensures) ∙ not-true _ (c .if1 .taken)))
+    all-stops _ i 4 (c .before .before .before .loop-test .taken) (c .before .holds .ensures) (c .if1 .taken)
 
 add-k : tie.Need-add-k Inv-loop μ-loop
 add-k c = search needs
@@ -41,7 +41,7 @@ loop-less : tie.Need-loop-less Inv-loop μ-loop
 loop-less c = search needs
 
 loop-again : tie.Need-loop-again Inv-loop μ-loop
-loop-again c = (search needs, all-next _ _ (c .before .before .before .before .loop .inv .1) (sym (c .before .holds .ensures) ∙ not-false _ (c .if1 .left)))
+loop-again c = (search needs, all-goes _ _ (c .before .before .before .before .loop .inv .1) (c .before .holds .ensures) (c .if1 .left))
 
 returns-2 : tie.Need-returns-2 Inv-loop μ-loop
 unfolding allHold
@@ -49,17 +49,4 @@ returns-2 c = let e : c .before .loop .k ≡ 4 = omega arith in
     sym (rw e at (c .before .loop .inv .1))
 
 pub all-hold-spec : {M : Type 1} → statement M
-all-hold-spec =
-    tie.close
-    (tie.spec
-    Inv-loop
-    μ-loop
-    loop-holds
-    mul-a
-    array-copy-out-a
-    holds-requires
-    returns
-    add-k
-    loop-less
-    loop-again
-    returns-2)
+all-hold-spec = tie.close (tie.spec Inv-loop μ-loop loop-holds mul-a array-copy-out-a holds-requires returns add-k loop-less loop-again returns-2)

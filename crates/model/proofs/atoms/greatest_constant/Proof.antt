@@ -1,3 +1,4 @@
+-- `greatest_constant`: the loop holds the greatest clock constant of the atoms so far.
 use borrow.Author.Needs.{needs}
 use Prim.Native.Nat.{_≤_, _-_, max}
 use mathlib.Core.Path.{_≡_, sym, _∙_, ap₂}
@@ -37,7 +38,8 @@ loop-less : tie.Need-loop-less Inv-loop μ-loop
 loop-less c = search needs
 
 loop-again : tie.Need-loop-again Inv-loop μ-loop
-loop-again c = (search needs, c .larger .ensures ∙ ap₂ max (c .before .before .before .before .loop .inv .1) (c .before .clock-constant .ensures) ∙ sym (max-more _ _))
+loop-again c =
+    (search needs, c .larger .ensures ∙ ap₂ max (c .before .before .before .before .loop .inv .1) (c .before .clock-constant .ensures) ∙ sym (max-more _ _))
 
 returns : tie.Need-returns Inv-loop μ-loop
 unfolding greatestConstant
@@ -46,16 +48,4 @@ returns c = let e : c .before .loop .k ≡ 4 = omega arith in
 
 pub greatest-constant-spec : {M : Type 1} → statement M
 greatest-constant-spec =
-    tie.close
-    (tie.spec
-    Inv-loop
-    μ-loop
-    loop-holds
-    mul-a
-    array-copy-out-a
-    clock-constant-requires
-    larger-requires
-    add-k
-    loop-less
-    loop-again
-    returns)
+    tie.close (tie.spec Inv-loop μ-loop loop-holds mul-a array-copy-out-a clock-constant-requires larger-requires add-k loop-less loop-again returns)

@@ -1,3 +1,4 @@
+-- `slot`: within the array the read is the definition's; past its end both give 0.
 use mathlib.Core.Path.{sym}
 use lib.ListN.{List·getD-eq-default}
 use native.Mathlib.Omega.{arith}
