@@ -93,11 +93,13 @@ run-is m k a z h =
     ap (λ (H : ℕ). listBelow (stepByte a (stateWidth oneHotWidth m) H) k) (choices-of-sizes m z h)
 
 -- step t + 1 of k lies within an assignment for k, and so does the state block after it
-pub step-fits : (m : Model) (k t n : ℕ) (z : Sizes) → KnownSizes m z → n ≡ variables m k → t < k → t * (z .state + z .choices) + z .state + (z .choices + z .state) ≤ n
+pub step-fits :
+    (m : Model) (k t n : ℕ) (z : Sizes) → KnownSizes m z → n ≡ variables m k → t < k → t * (z .state + z .choices) + z .state + (z .choices + z .state) ≤ n
 step-fits m k t n z h l p =
     let S = state-of-sizes m z h in
     let H = choices-of-sizes m z h in
-    let e : variables m k ≡ z .state + k * (z .state + z .choices) = variables-is m k ∙ ap (λ (x : ℕ). x + k * (x + choices m)) (sym S) ∙ ap (λ (x : ℕ). z .state + k * (z .state + x)) (sym H) in
+    let e : variables m k ≡ z .state + k * (z .state + z .choices) = variables-is m k ∙ ap (λ (x : ℕ). x + k * (x + choices m)) (sym S)
+    ∙ ap (λ (x : ℕ). z .state + k * (z .state + x)) (sym H) in
     let q : t + 1 ≤ k = omega arith in
     omega (arith, mul-le-mul-right (z .state + z .choices) q)
 
@@ -105,5 +107,7 @@ step-fits m k t n z h l p =
 pub beyond : (old new : List ℕ) (t x : ℕ) → drop t new ≡ drop t old → drop (t + 1) (set new t x) ≡ drop (t + 1) old
 beyond old new t x h = drop-set-lt (t + 1) new t x (omega arith) ∙ sym (drop-drop 1 t new) ∙ ap (drop 1) h ∙ drop-drop 1 t old
 
-pub run-written : (m : Model) (k : ℕ) (a old new : List ℕ) (z : Sizes) → KnownSizes m z → take k new ≡ listBelow (stepByte a (z .state) (z .choices)) k → drop k new ≡ drop k old → new ≡ runOf m k a ++ drop k old
-run-written m k a old new z h p q = sym (take-append-drop k new) ∙ ap (λ (l : List ℕ). l ++ drop k new) (p ∙ run-is m k a z h) ∙ ap (λ (l : List ℕ). runOf m k a ++ l) q
+pub run-written : (m : Model) (k : ℕ) (a old new : List ℕ) (z : Sizes) → KnownSizes m z → take k new ≡ listBelow (stepByte a (z .state) (z .choices)) k
+    → drop k new ≡ drop k old → new ≡ runOf m k a ++ drop k old
+run-written m k a old new z h p q =
+    sym (take-append-drop k new) ∙ ap (λ (l : List ℕ). l ++ drop k new) (p ∙ run-is m k a z h) ∙ ap (λ (l : List ℕ). runOf m k a ++ l) q

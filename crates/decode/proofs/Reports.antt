@@ -65,7 +65,8 @@ module _ (m : Model) (k : ℕ) (a old : List ℕ) where
   unfolding decodeLeft
   left-refused h f = rw (h, f)
 
-  pub refused : {x : Refusal} → decodeReport m k a (length old) ≡ x → isAccepted x ≡ false → (x ≡ decodeReport m k a (length old)) × (old ≡ decodeLeft m k a old)
+  pub refused :
+      {x : Refusal} → decodeReport m k a (length old) ≡ x → isAccepted x ≡ false → (x ≡ decodeReport m k a (length old)) × (old ≡ decodeLeft m k a old)
   refused h f = (sym h, left-refused h f)
 
   -- the buffer of an accepted call
@@ -73,7 +74,8 @@ module _ (m : Model) (k : ℕ) (a old : List ℕ) where
   unfolding decodeLeft
   left-accepted h = rw h
 
-  pub written : {new : List ℕ} → decodeReport m k a (length old) ≡ accepted → new ≡ runOf m k a ++ drop k old → (accepted ≡ decodeReport m k a (length old)) × (new ≡ decodeLeft m k a old)
+  pub written : {new : List ℕ} → decodeReport m k a (length old) ≡ accepted → new ≡ runOf m k a ++ drop k old
+      → (accepted ≡ decodeReport m k a (length old)) × (new ≡ decodeLeft m k a old)
   written h e = (sym h, e ∙ sym (left-accepted h))
 
 -- ---- accepted: the model is well formed, the bound is at most 64, the run buffer has room for k bytes, and the assignment satisfies the list for k
@@ -87,10 +89,14 @@ decode-accepts m k a n = (to, of)
     refuses f e = f (ap numbered e)
 
     to : decodeReport m k a n ≡ accepted → T (wellFormed m) × (k ≤ 64) × (k ≤ n) × Satisfies m k a
-    to h = unfold decodeReport in go (wellFormed m) (ltb 64 k) (eqb (length a) (variables m k)) (firstWrongByte 0 a) (ltb n k) (firstFalse a (clauses m k)) refl refl refl refl refl h
+    to h =
+        unfold decodeReport in go (wellFormed m) (ltb 64 k) (eqb (length a) (variables m k)) (firstWrongByte 0 a) (ltb n k) (firstFalse a (clauses m k)) refl
+        refl refl refl refl h
       where
-        go : (w b l : Bool) (x : Option ℕ) (s : Bool) (f : Option ℕ) → ltb 64 k ≡ b → eqb (length a) (variables m k) ≡ l → firstWrongByte 0 a ≡ x → ltb n k ≡ s → firstFalse a (clauses m k) ≡ f
-            → cond (not w) (refusal 20 0) (cond b (refusal 21 0) (cond (not l) (refusal 23 0) (maybe x (cond s (refusal 25 0) (maybe f accepted (λ i. refusal 26 i))) (λ i. refusal 24 i)))) ≡ accepted
+        go : (w b l : Bool) (x : Option ℕ) (s : Bool) (f : Option ℕ) → ltb 64 k ≡ b → eqb (length a) (variables m k) ≡ l → firstWrongByte 0 a ≡ x → ltb n k ≡ s
+            → firstFalse a (clauses m k) ≡ f
+            → cond (not w) (refusal 20 0) (cond b (refusal 21 0)
+            (cond (not l) (refusal 23 0) (maybe x (cond s (refusal 25 0) (maybe f accepted (λ i. refusal 26 i))) (λ i. refusal 24 i)))) ≡ accepted
             → T w × (k ≤ 64) × (k ≤ n) × Satisfies m k a
         go false b l x s f p q r t u h = absurd (refuses (λ z. omega arith) h)
         go true true l x s f p q r t u h = absurd (refuses (λ z. omega arith) h)
@@ -110,4 +116,6 @@ decode-accepts m k a n = (to, of)
         )
 
     of : T (wellFormed m) × (k ≤ 64) × (k ≤ n) × Satisfies m k a → decodeReport m k a n ≡ accepted
-    of h = report-0 m k a n (T-true (wellFormed m) .0 (h .0)) (le-ltb 64 k (h .1)) (eq-eqb (length a) (variables m k) (h .3 .long)) (wrong-iff a 0 .1 (h .3 .binary)) (le-ltb n k (h .2)) (first-false-none a (clauses m k) .1 (h .3 .satisfies))
+    of h =
+        report-0 m k a n (T-true (wellFormed m) .0 (h .0)) (le-ltb 64 k (h .1)) (eq-eqb (length a) (variables m k) (h .3 .long))
+        (wrong-iff a 0 .1 (h .3 .binary)) (le-ltb n k (h .2)) (first-false-none a (clauses m k) .1 (h .3 .satisfies))

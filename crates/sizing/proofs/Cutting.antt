@@ -24,7 +24,8 @@ firstAt-cut b zero l h = absurd (omega (arith, h))
 firstAt-cut b (suc n) [] h = refl
 firstAt-cut b (suc n) (x ∷ l) h = go (eqb x b) (firstAt-cut b n l) h
   where
-    go : (t : Bool) → (firstAt b l < n → firstAt b (take n l) ≡ firstAt b l) → cond t 0 (firstAt b l + 1) < suc n → cond t 0 (firstAt b (take n l) + 1) ≡ cond t 0 (firstAt b l + 1)
+    go : (t : Bool) → (firstAt b l < n → firstAt b (take n l) ≡ firstAt b l) → cond t 0 (firstAt b l + 1) < suc n
+        → cond t 0 (firstAt b (take n l) + 1) ≡ cond t 0 (firstAt b l + 1)
     go true f h = refl
     go false f h = ap (λ (p : ℕ). p + 1) (f (omega (arith, h)))
 
@@ -94,7 +95,9 @@ module _ (n : ℕ) (t : List ℕ) (room : ℕ) (enough : 8202 < n) (long : n < l
     same-line = take-shorter (firstAt 10 t) n t (omega (arith, short, enough))
 
     same-ended : ltb (firstAt 10 t) (length cut) ≡ ltb (firstAt 10 t) (length t)
-    same-ended = lt-ltb (firstAt 10 t) (length cut) (omega (arith, short, enough, cut-length)) ∙ sym (lt-ltb (firstAt 10 t) (length t) (omega (arith, short, enough, long)))
+    same-ended =
+        lt-ltb (firstAt 10 t) (length cut) (omega (arith, short, enough, cut-length))
+        ∙ sym (lt-ltb (firstAt 10 t) (length t) (omega (arith, short, enough, long)))
 
     same-bound : boundReport cut ≡ boundReport t
     same-bound =
@@ -105,7 +108,8 @@ module _ (n : ℕ) (t : List ℕ) (room : ℕ) (enough : 8202 < n) (long : n < l
 
     next-le : boundReport t .next ≤ 10
     next-le =
-        let e : boundReport t .next ≡ boundOf (ltb (firstAt 10 t) (length t)) (take (firstAt 10 t) t) (firstAt 10 t + 1) .next = ap (λ (b : BoundReport). b .next) (report-is t) in
+        let e : boundReport t .next ≡ boundOf (ltb (firstAt 10 t) (length t)) (take (firstAt 10 t) t) (firstAt 10 t + 1) .next = ap
+        (λ (b : BoundReport). b .next) (report-is t) in
         omega (arith, e, next-most (ltb (firstAt 10 t) (length t)) (take (firstAt 10 t) t) (firstAt 10 t + 1), short)
 
     same-text : readReport (drop (boundReport t .next) cut) ≡ readReport (drop (boundReport t .next) t)
@@ -121,14 +125,16 @@ module _ (n : ℕ) (t : List ℕ) (room : ℕ) (enough : 8202 < n) (long : n < l
 
   late-refused : (l : List ℕ) → 9 < firstAt 10 l → boundReport l ≡ boundRefused
   late-refused l h =
-      report-is l ∙ long-refused (ltb (firstAt 10 l) (length l)) (take (firstAt 10 l) l) (firstAt 10 l + 1) (omega (arith, length-take (firstAt 10 l) l, firstAt-le 10 l, h))
+      report-is l ∙ long-refused (ltb (firstAt 10 l) (length l)) (take (firstAt 10 l) l) (firstAt 10 l + 1)
+      (omega (arith, length-take (firstAt 10 l) l, firstAt-le 10 l, h))
 
   late-cut : 9 < firstAt 10 t → 9 < firstAt 10 cut
   late-cut h = firstAt-late 10 10 n t (omega (arith, enough)) h
 
   long-line : 9 < firstAt 10 t → sizeReport cut room ≡ sizeReport t room
   unfolding sizeReport
-  long-line h = ap (λ (b : BoundReport). boundSizes b cut room) (late-refused cut (late-cut h)) ∙ ap (λ (b : BoundReport). boundSizes b t room) (sym (late-refused t h))
+  long-line h =
+      ap (λ (b : BoundReport). boundSizes b cut room) (late-refused cut (late-cut h)) ∙ ap (λ (b : BoundReport). boundSizes b t room) (sym (late-refused t h))
 
   cut-same : sizeReport cut room ≡ sizeReport t room
   cut-same = go (ltb 9 (firstAt 10 t)) refl

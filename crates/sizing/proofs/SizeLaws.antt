@@ -14,7 +14,7 @@ use Rattle.text.specs.declared.bytes.NumberRead.{NumberRead}
 use Rattle.text.specs.declared.bytes.NumberRead.the-variants.{Malformed, Number}
 use Rattle.model.specs.declared.Model.{Model}
 use Rattle.text.specs.Bound.{BoundReport, boundRefused, boundAccepted, boundIn, boundReport, boundTold}
-use Rattle.text.specs.Text.{ReadReport, readReport, readTold, outcomeNumber, outcomeLine}
+use Rattle.text.specs.Text.{readReport, readTold, outcomeNumber, outcomeLine}
 use Rattle.text.specs.declared.ReadAnswer.{ReadAnswer}
 use Rattle.text.proofs.Calls.{refused-text, read-text}
 use Rattle.text.specs.declared.BoundRead.{BoundRead}
@@ -38,11 +38,14 @@ module _ (t : List ℕ) (a : ReadAnswer) (is : readTold a ≡ readReport t) (k :
   abbrev unchanged : ℕ → ℕ → List ℤ
   unchanged number line = out
 
-  pub text-refused : (n ≡ 0 → ⊥) → (l : ℕ) → l ≡ outcomeLine (a .outcome) → (r : SizeReport) → r ≡ refusedSizes n l → (r ≡ textSizes (readReport t) k (length out)) × (out ≡ textLeft (readReport t) k out)
+  pub text-refused : (n ≡ 0 → ⊥) → (l : ℕ) → l ≡ outcomeLine (a .outcome) → (r : SizeReport) → r ≡ refusedSizes n l
+      → (r ≡ textSizes (readReport t) k (length out)) × (out ≡ textLeft (readReport t) k out)
   text-refused ne l line r e = (e ∙ refused-text sizes-call refusedSizes t a is n number ne l line, refused-text left-call unchanged t a is n number ne l line)
 
-  pub text-emitted : n ≡ 0 → (e : Emission) → emitTold e ≡ emitReport (a .model) k (length out) → (o : List ℤ) → o ≡ emitLeft (a .model) k (length out) out → (r : SizeReport) → r ≡ emittedSizes (emitTold e) → (r ≡ textSizes (readReport t) k (length out)) × (o ≡ textLeft (readReport t) k out)
-  text-emitted z e told o left r p = (p ∙ ap emittedSizes told ∙ read-text sizes-call refusedSizes t a is n number z, left ∙ read-text left-call unchanged t a is n number z)
+  pub text-emitted : n ≡ 0 → (e : Emission) → emitTold e ≡ emitReport (a .model) k (length out) → (o : List ℤ) → o ≡ emitLeft (a .model) k (length out) out
+      → (r : SizeReport) → r ≡ emittedSizes (emitTold e) → (r ≡ textSizes (readReport t) k (length out)) × (o ≡ textLeft (readReport t) k out)
+  text-emitted z e told o left r p =
+      (p ∙ ap emittedSizes told ∙ read-text sizes-call refusedSizes t a is n number z, left ∙ read-text left-call unchanged t a is n number z)
 
 -- ---- the bound line
 sizes-at : (t : List ℕ) (room : ℕ) (b : BoundReport) → boundReport t ≡ b → boundSizes b t room ≡ sizeReport t room
@@ -87,7 +90,10 @@ module _ (t : List ℕ) (b : BoundRead) (is : boundTold b ≡ boundReport t) whe
       let nine = ap (λ (n : ℕ). refusedSizes n 0) (number ∙ ap (λ (x : BoundRead). boundTold x .number) q) in
       (e ∙ nine ∙ sizes-at t (length out) boundRefused h, left-at t out boundRefused h)
 
-  pub bound-accepted : (n next : ℕ) → b ≡ Bound n next → (s : List ℕ) → s ≡ drop next t → (out o : List ℤ) (r : SizeReport) → (r ≡ textSizes (readReport s) n (length out)) × (o ≡ textLeft (readReport s) n out) → (r ≡ sizeReport t (length out)) × (o ≡ sizeLeft t out)
+  pub bound-accepted : (n next : ℕ) → b ≡ Bound n next → (s : List ℕ) → s ≡ drop next t → (out o : List ℤ) (r : SizeReport)
+      → (r ≡ textSizes (readReport s) n (length out)) × (o ≡ textLeft (readReport s) n out) → (r ≡ sizeReport t (length out)) × (o ≡ sizeLeft t out)
   bound-accepted n next q s part out o r e =
-      let h = accepted-is n next q in
-      (e .0 ∙ ap (λ (x : List ℕ). textSizes (readReport x) n (length out)) part ∙ sizes-at t (length out) (boundAccepted n next) h, e .1 ∙ ap (λ (x : List ℕ). textLeft (readReport x) n out) part ∙ left-at t out (boundAccepted n next) h)
+      let h = accepted-is n next q in (
+        e .0 ∙ ap (λ (x : List ℕ). textSizes (readReport x) n (length out)) part ∙ sizes-at t (length out) (boundAccepted n next) h,
+        e .1 ∙ ap (λ (x : List ℕ). textLeft (readReport x) n out) part ∙ left-at t out (boundAccepted n next) h,
+      )

@@ -6,9 +6,11 @@ use Rattle.text.specs.atoms.Atoms.{relationAt, atomOf, atomFaults, atomSlots, i
 use Rattle.text.specs.updates.Sets.{sumOf, setTo, setOf, setFaults, updateSlots, setItems}
 use Rattle.text.specs.resets.Resets.{resetOf, resetFaults, resetSlots, resetItems}
 use Rattle.text.specs.line.Values.{numberFaults, referenceFaults, counterFaults}
-use Rattle.text.specs.lines.Store.{withLocations, withInitial, withTarget, withClocks, withVars, withUsed, withCounter, withInvariant, withEdge, withSource, withEdgeTarget, withGuard, withUpdates, withResets}
+use Rattle.text.specs.lines.Store.{withLocations, withInitial, withTarget, withClocks, withVars, withUsed, withCounter, withInvariant, withEdge, withSource}
+use Rattle.text.specs.lines.Store.{withEdgeTarget, withGuard, withUpdates, withResets}
 use Rattle.text.specs.lines.Progress.{readLine}
-use Rattle.text.specs.lines.Lines.{locationsLine, initLine, targetLine, clocksLine, varsLine, varLine, invLine, edgesLine, fromLine, toLine, whenLine, setLine, resetLine}
+use Rattle.text.specs.lines.Lines.{locationsLine, initLine, targetLine, clocksLine, varsLine, varLine, invLine, edgesLine, fromLine, toLine, whenLine, setLine}
+use Rattle.text.specs.lines.Lines.{resetLine}
 use Rattle.text.specs.lines.Sequence.{inTurn, readHead, readCounters, readInvariants, readEdge, readEdges, readLines}
 use Rattle.text.specs.Text.{readEnded, readReport}
 use Rattle.text.specs.Bound.{boundReport}
@@ -17,12 +19,143 @@ use Rattle.model.specs.Record.{blankModel}
 use Rattle.text_cases.specs.Cases.{EachRead, EachBound, accepted, refused, bounds}
 
 pub accepted-read : EachRead accepted
-unfolding accepted firstAt startsWith isDue valueOf numberOf digitsOf splitOn isHyphen itemsOf faultNumber lineNumber anyOf risesFrom relationAt atomOf atomFaults atomSlots invItems whenItems sumOf setTo setOf setFaults updateSlots setItems resetOf resetFaults resetSlots resetItems numberFaults referenceFaults counterFaults withLocations withInitial withTarget withClocks withVars withUsed withCounter withInvariant withEdge withSource withEdgeTarget withGuard withUpdates withResets readLine locationsLine initLine targetLine clocksLine varsLine varLine invLine edgesLine fromLine toLine whenLine setLine resetLine inTurn readHead readCounters readInvariants readEdge readEdges readLines readEnded readReport modelA modelB blankModel
+unfolding accepted firstAt startsWith isDue valueOf numberOf digitsOf splitOn isHyphen itemsOf faultNumber lineNumber anyOf risesFrom relationAt atomOf
+    atomFaults atomSlots invItems whenItems sumOf setTo setOf setFaults updateSlots setItems resetOf resetFaults resetSlots resetItems numberFaults
+    referenceFaults counterFaults withLocations withInitial withTarget withClocks withVars withUsed withCounter withInvariant withEdge withSource withEdgeTarget
+    withGuard withUpdates withResets readLine locationsLine initLine targetLine clocksLine varsLine varLine invLine edgesLine fromLine toLine whenLine setLine
+    resetLine inTurn readHead readCounters readInvariants readEdge readEdges readLines readEnded readReport modelA modelB blankModel
 accepted-read = (refl, (refl, tt))
 
 pub refused-read : EachRead refused
-unfolding refused firstAt startsWith isDue valueOf numberOf digitsOf splitOn isHyphen itemsOf faultNumber lineNumber anyOf risesFrom relationAt atomOf atomFaults atomSlots invItems whenItems sumOf setTo setOf setFaults updateSlots setItems resetOf resetFaults resetSlots resetItems numberFaults referenceFaults counterFaults withLocations withInitial withTarget withClocks withVars withUsed withCounter withInvariant withEdge withSource withEdgeTarget withGuard withUpdates withResets readLine locationsLine initLine targetLine clocksLine varsLine varLine invLine edgesLine fromLine toLine whenLine setLine resetLine inTurn readHead readCounters readInvariants readEdge readEdges readLines readEnded readReport modelA modelB blankModel
-refused-read = (refl, (refl, (refl, (refl, (refl, (refl, (refl, (refl, (refl, (refl, (refl, (refl, (refl, (refl, (refl, (refl, (refl, (refl, (refl, (refl, (refl, (refl, (refl, (refl, (refl, (refl, (refl, (refl, (refl, (refl, (refl, (refl, (refl, (refl, (refl, (refl, (refl, (refl, (refl, (refl, (refl, tt)))))))))))))))))))))))))))))))))))))))))
+unfolding refused firstAt startsWith isDue valueOf numberOf digitsOf splitOn isHyphen itemsOf faultNumber lineNumber anyOf risesFrom relationAt atomOf
+    atomFaults atomSlots invItems whenItems sumOf setTo setOf setFaults updateSlots setItems resetOf resetFaults resetSlots resetItems numberFaults
+    referenceFaults counterFaults withLocations withInitial withTarget withClocks withVars withUsed withCounter withInvariant withEdge withSource withEdgeTarget
+    withGuard withUpdates withResets readLine locationsLine initLine targetLine clocksLine varsLine varLine invLine edgesLine fromLine toLine whenLine setLine
+    resetLine inTurn readHead readCounters readInvariants readEdge readEdges readLines readEnded readReport modelA modelB blankModel
+refused-read = (
+  refl,
+  (
+    refl,
+    (
+      refl,
+      (
+        refl,
+        (
+          refl,
+          (
+            refl,
+            (
+              refl,
+              (
+                refl,
+                (
+                  refl,
+                  (
+                    refl,
+                    (
+                      refl,
+                      (
+                        refl,
+                        (
+                          refl,
+                          (
+                            refl,
+                            (
+                              refl,
+                              (
+                                refl,
+                                (
+                                  refl,
+                                  (
+                                    refl,
+                                    (
+                                      refl,
+                                      (
+                                        refl,
+                                        (
+                                          refl,
+                                          (
+                                            refl,
+                                            (
+                                              refl,
+                                              (
+                                                refl,
+                                                (
+                                                  refl,
+                                                  (
+                                                    refl,
+                                                    (
+                                                      refl,
+                                                      (
+                                                        refl,
+                                                        (
+                                                          refl,
+                                                          (
+                                                            refl,
+                                                            (
+                                                              refl,
+                                                              (
+                                                                refl,
+                                                                (
+                                                                  refl,
+                                                                  (
+                                                                    refl,
+                                                                    (
+                                                                      refl,
+                                                                      (
+                                                                        refl,
+                                                                        (
+                                                                          refl,
+                                                                          (
+                                                                            refl,
+                                                                            (
+                                                                              refl,
+                                                                              (
+                                                                                refl,
+                                                                                (
+                                                                                  refl,
+                                                                                  tt,
+                                                                                ),
+                                                                              ),
+                                                                            ),
+                                                                          ),
+                                                                        ),
+                                                                      ),
+                                                                    ),
+                                                                  ),
+                                                                ),
+                                                              ),
+                                                            ),
+                                                          ),
+                                                        ),
+                                                      ),
+                                                    ),
+                                                  ),
+                                                ),
+                                              ),
+                                            ),
+                                          ),
+                                        ),
+                                      ),
+                                    ),
+                                  ),
+                                ),
+                              ),
+                            ),
+                          ),
+                        ),
+                      ),
+                    ),
+                  ),
+                ),
+              ),
+            ),
+          ),
+        ),
+      ),
+    ),
+  ),
+)
 
 pub bounds-read : EachBound bounds
 unfolding bounds firstAt startsWith isDue valueOf numberOf digitsOf splitOn isHyphen itemsOf boundReport

@@ -1,3 +1,4 @@
+-- `first_wrong_byte`: the search from the start equals the search from here; it stops at the first byte above 1.
 use borrow.Author.Needs.{needs}
 use mathlib.Core.Path.{_≡_, refl, sym, _∙_, ap}
 use Prim.Native.Nat.{_≤_, _<_, _-_}
@@ -23,8 +24,9 @@ shared-slice-read-if1 c = omega (arith, c .before .before .loop .inv .1)
 
 returns : tie.Need-returns Inv-loop μ-loop
 returns c =
-    let l : c .before .before .before .loop .i < length (c .before .before .before .before .args .a .now) = omega (arith, c .before .before .before .loop .inv .1, c .before .before .loop-test .taken) in
-    sym (c .before .before .before .loop .inv .2 ∙ wrong-here _ _ l (lt-ltb _ _ (c .if1 .taken)))
+    let loop = c .before .before .before .loop in
+    let l : loop .i < length (c .before .before .before .before .args .a .now) = omega (arith, loop .inv .1, c .before .before .loop-test .taken) in
+    sym (loop .inv .2 ∙ wrong-here _ _ l (lt-ltb _ _ (c .if1 .taken)))
 
 add-i : tie.Need-add-i Inv-loop μ-loop
 add-i c = search needs
@@ -34,8 +36,9 @@ loop-less c = search needs
 
 loop-again : tie.Need-loop-again Inv-loop μ-loop
 loop-again c =
-    let l : c .before .before .before .loop .i < length (c .before .before .before .before .args .a .now) = omega (arith, c .before .before .before .loop .inv .1, c .before .before .loop-test .taken) in
-    (search needs, c .before .before .before .loop .inv .1, c .before .before .before .loop .inv .2 ∙ wrong-later _ _ l (le-ltb _ _ (c .if1 .left)))
+    let loop = c .before .before .before .loop in
+    let l : loop .i < length (c .before .before .before .before .args .a .now) = omega (arith, loop .inv .1, c .before .before .loop-test .taken) in
+    (search needs, loop .inv .1, loop .inv .2 ∙ wrong-later _ _ l (le-ltb _ _ (c .if1 .left)))
 
 returns-2 : tie.Need-returns-2 Inv-loop μ-loop
 returns-2 c =
@@ -43,15 +46,4 @@ returns-2 c =
     sym (c .before .loop .inv .2 ∙ ap (firstWrongByte _) (drop-of-length-le _ l) ∙ wrong-none _)
 
 pub first-wrong-byte-spec : {M : Type 1} → statement M
-first-wrong-byte-spec =
-    tie.close
-    (tie.spec
-    Inv-loop
-    μ-loop
-    loop-holds
-    shared-slice-read-if1
-    returns
-    add-i
-    loop-less
-    loop-again
-    returns-2)
+first-wrong-byte-spec = tie.close (tie.spec Inv-loop μ-loop loop-holds shared-slice-read-if1 returns add-i loop-less loop-again returns-2)

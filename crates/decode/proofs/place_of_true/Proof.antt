@@ -1,3 +1,4 @@
+-- `place_of_true`: the place in the group is the members passed plus the place in what is left of it.
 use borrow.Author.Needs.{needs}
 use mathlib.Core.Path.{_≡_}
 use Prim.Native.Nat.{_≤_, _-_, _+_}
@@ -25,8 +26,10 @@ shared-slice-read-if1 c = search needs
 
 returns : tie.Need-returns Inv-loop μ-loop
 returns c =
-    let p = place-here (c .before .before .before .before .args .a .now) (c .before .before .before .before .args .b) (c .before .before .before .before .args .n) (c .before .before .before .loop .v) (c .before .before .loop-test .taken) (eq-eqb _ _ (c .if1 .taken)) in
-    record { is = omega (arith, c .before .before .before .loop .inv .1); most = omega arith }
+    let loop = c .before .before .before .loop in
+    let args = c .before .before .before .before .args in
+    let p = place-here (args .a .now) (args .b) (args .n) (loop .v) (c .before .before .loop-test .taken) (eq-eqb _ _ (c .if1 .taken)) in
+    record { is = omega (arith, loop .inv .1); most = omega arith }
 
 add-v : tie.Need-add-v Inv-loop μ-loop
 add-v c = search needs
@@ -36,23 +39,16 @@ loop-less c = search needs
 
 loop-again : tie.Need-loop-again Inv-loop μ-loop
 loop-again c =
-    let p = place-later (c .before .before .before .before .args .a .now) (c .before .before .before .before .args .b) (c .before .before .before .before .args .n) (c .before .before .before .loop .v) (c .before .before .loop-test .taken) (ne-eqb _ _ (c .if1 .left)) in
-    (search needs, omega (arith, c .before .before .before .loop .inv .1))
+    let loop = c .before .before .before .loop in
+    let args = c .before .before .before .before .args in
+    let p = place-later (args .a .now) (args .b) (args .n) (loop .v) (c .before .before .loop-test .taken) (ne-eqb _ _ (c .if1 .left)) in
+    (search needs, omega (arith, loop .inv .1))
 
 returns-2 : tie.Need-returns-2 Inv-loop μ-loop
-returns-2 c = record { is = omega (arith, c .before .loop .inv .1, place-none (c .before .before .args .a .now) (c .before .before .args .b + c .before .loop .v) (c .before .before .args .n - c .before .loop .v) (omega arith)); most = omega arith }
+returns-2 c =
+    let loop = c .before .loop in
+    let args = c .before .before .args in
+    record { is = omega (arith, loop .inv .1, place-none (args .a .now) (args .b + loop .v) (args .n - loop .v) (omega arith)); most = omega arith }
 
 pub place-of-true-spec : {M : Type 1} → statement M
-place-of-true-spec =
-    tie.close
-    (tie.spec
-    Inv-loop
-    μ-loop
-    loop-holds
-    add-if1
-    shared-slice-read-if1
-    returns
-    add-v
-    loop-less
-    loop-again
-    returns-2)
+place-of-true-spec = tie.close (tie.spec Inv-loop μ-loop loop-holds add-if1 shared-slice-read-if1 returns add-v loop-less loop-again returns-2)

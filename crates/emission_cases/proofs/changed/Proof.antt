@@ -1,3 +1,4 @@
+-- `changed` counts at most one a turn, so the count never wraps.
 use borrow.Author.Needs.{needs}
 use lib.ListN.{length}
 use mathlib.Core.Path.{_≡_}
@@ -40,16 +41,4 @@ returns c = search needs
 
 pub changed-spec : {M : Type 1} → statement M
 changed-spec =
-    tie.close
-    (tie.spec
-    Inv-loop
-    μ-loop
-    loop-holds
-    mul-differs
-    shared-slice-copy-out-differs
-    differs-requires
-    add-n
-    add-i
-    loop-less
-    loop-again
-    returns)
+    tie.close (tie.spec Inv-loop μ-loop loop-holds mul-differs shared-slice-copy-out-differs differs-requires add-n add-i loop-less loop-again returns)

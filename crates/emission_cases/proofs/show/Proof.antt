@@ -1,3 +1,4 @@
+-- `show`: every need is arithmetic on the index, which stays below the list's length.
 use borrow.Author.Needs.{needs}
 use lib.ListN.{length}
 use mathlib.Core.Path.{_≡_}
@@ -49,19 +50,5 @@ returns c = search needs
 
 pub show-spec : {M : Type 1} → statement M
 show-spec =
-    tie.close
-    (tie.spec
-    Inv-loop
-    μ-loop
-    loop-holds
-    mul-w
-    shared-slice-copy-out-w
-    word-requires
-    slice-aggregate-text
-    text-requires
-    slice-aggregate-text-2
-    text-requires-2
-    add-i
-    loop-less
-    loop-again
-    returns)
+    tie.close (tie.spec Inv-loop μ-loop loop-holds mul-w shared-slice-copy-out-w word-requires slice-aggregate-text text-requires slice-aggregate-text-2
+    text-requires-2 add-i loop-less loop-again returns)

@@ -1,3 +1,4 @@
+-- `written`: the part that is shown and the part beyond it both lie within the buffer.
 use native.Mathlib.Omega.{arith}
 use lib.Seq.{length-take-le}
 use mathlib.Core.Path.{sym}
@@ -49,19 +50,5 @@ returns-2 c = search needs
 
 pub written-spec : {M : Type 1} → statement M
 written-spec =
-    tie.close
-    (tie.spec
-    slice-aggregate-show
-    show-requires
-    slice-aggregate-text
-    text-requires
-    mul-changed
-    sub-changed
-    part-changed-start
-    part-changed-end
-    changed-requires
-    number-requires
-    slice-aggregate-text-2
-    text-requires-2
-    returns
-    returns-2)
+    tie.close (tie.spec slice-aggregate-show show-requires slice-aggregate-text text-requires mul-changed sub-changed part-changed-start part-changed-end
+    changed-requires number-requires slice-aggregate-text-2 text-requires-2 returns returns-2)

@@ -1,3 +1,4 @@
+-- `emitted`, by the kind of emission: what `told` says at its numbers.
 use Rattle.sizing.proofs.SizeLaws.{told-is}
 use borrow.Author.Needs.{needs}
 use Rattle.sizing.proofs.emitted.Statement.{statement}
@@ -41,17 +42,5 @@ returns-4 c = told-is (c .before .before .e2 .given .1) (c .told4 .ensures)
 
 pub emitted-spec : {M : Type 1} → statement M
 emitted-spec =
-    tie.close
-    (tie.spec
-    enum-told
-    told-requires
-    enum-told-2
-    told-requires-2
-    enum-known-e
-    told-requires-3
-    enum-known-e-2
-    told-requires-4
-    returns
-    returns-2
-    returns-3
-    returns-4)
+    tie.close (tie.spec enum-told told-requires enum-told-2 told-requires-2 enum-known-e told-requires-3 enum-known-e-2 told-requires-4 returns returns-2
+    returns-3 returns-4)

@@ -1,3 +1,4 @@
+-- `refused` builds the very record that `refusedSizes` defines.
 use mathlib.Core.Path.{refl}
 use Rattle.sizing.proofs.refused.Statement.{statement}
 use Rattle.sizing.proofs.refused.Tie as tie

@@ -1,3 +1,4 @@
+-- `text_sizes`: the reader's refusal, or what `emit` answers for the model that was read.
 use Rattle.sizing.proofs.SizeLaws.{text-refused, text-emitted}
 use denote.Ref.{now}
 use borrow.Author.Needs.{needs}
@@ -17,7 +18,14 @@ refused-requires : tie.Need-refused-requires
 refused-requires c κs = search needs
 
 returns : tie.Need-returns
-returns c = text-refused (now (c .before .before .before .before .before .before .args .text)) (c .before .before .before .before .read-model .result) (c .before .before .before .before .read-model .ensures) (c .before .before .before .before .before .before .args .bound) (now (c .before .before .before .before .before .before .args .out)) (c .before .before .before .number .result) (c .before .before .before .number .ensures) (c .before .before .if1 .taken) (c .before .line .result) (c .before .line .ensures) _ (c .refused .ensures)
+returns c =
+    let line = c .before .line in
+    let at-number = c .before .before .before in
+    let number = at-number .number in
+    let read-model = at-number .before .read-model in
+    let args = at-number .before .before .before .args in
+    text-refused (now (args .text)) (read-model .result) (read-model .ensures) (args .bound) (now (args .out)) (number .result) (number .ensures)
+    (c .before .before .if1 .taken) (line .result) (line .ensures) _ (c .refused .ensures)
 
 emit-requires : tie.Need-emit-requires
 emit-requires c κs = search needs
@@ -29,18 +37,16 @@ same-length : tie.Need-same-length
 same-length c = search needs
 
 returns-2 : tie.Need-returns-2
-returns-2 c = text-emitted (now (c .before .before .before .before .before .before .before .before .before .args .text)) (c .before .before .before .before .before .before .before .read-model .result) (c .before .before .before .before .before .before .before .read-model .ensures) (c .before .before .before .before .before .before .before .before .before .args .bound) (now (c .before .before .before .before .before .before .before .before .before .args .out)) (c .before .before .before .before .before .before .number .result) (c .before .before .before .before .before .before .number .ensures) (c .before .before .before .before .before .if1 .left) (c .before .before .emit .result) (c .before .before .emit .ensures .0) _ (c .before .before .emit .ensures .1) _ (c .emitted .ensures)
+returns-2 c =
+    let emit = c .before .before .emit in
+    let emit-ensures = emit .ensures in
+    let at-if1 = c .before .before .before .before .before in
+    let number = at-if1 .before .number in
+    let read-model = at-if1 .before .before .read-model in
+    let args = at-if1 .before .before .before .before .args in
+    text-emitted (now (args .text)) (read-model .result) (read-model .ensures) (args .bound) (now (args .out)) (number .result) (number .ensures)
+    (at-if1 .if1 .left) (emit .result) (emit-ensures .0) _ (emit-ensures .1) _ (c .emitted .ensures)
 
 pub text-sizes-spec : {M : Type 1} → statement M
 text-sizes-spec =
-    tie.close
-    (tie.spec
-    read-model-requires
-    number-requires
-    line-requires
-    refused-requires
-    returns
-    emit-requires
-    emitted-requires
-    same-length
-    returns-2)
+    tie.close (tie.spec read-model-requires number-requires line-requires refused-requires returns emit-requires emitted-requires same-length returns-2)
