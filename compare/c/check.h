@@ -10,6 +10,7 @@ void check_sizes(const char *name, struct wirdoku_sizes found, uint8_t number, s
 void check_shape(const char *name, struct wirdoku_shape found, struct wirdoku_shape expected);
 void check_state(const char *name, struct wirdoku_state_answer found, uint8_t number, size_t line, struct wirdoku_state state);
 
+int none_failed(void);
 /* Writes 'N passed, M failed' and returns the program's exit status. */
 int finish(void);
 
@@ -37,7 +38,10 @@ int words_kept(const int32_t *words, size_t from, size_t length);
 uint8_t *lent_bytes(size_t length);
 int bytes_kept(const uint8_t *bytes, size_t from, size_t length);
 
+/* Structs by the names of their fields, so that an expected answer does not follow the header's order. */
 struct wirdoku_state state_of(uint8_t location, uint8_t v0, uint8_t x0);
+struct wirdoku_state slots_of(uint8_t location, uint32_t counters, uint32_t clocks);
+struct wirdoku_shape refused_shape(uint8_t number, size_t line);
 
 /* The tests, by what they concern. */
 void layout_tests(void);

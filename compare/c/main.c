@@ -5,8 +5,11 @@
 
 int main(void) {
     layout_tests();
-    text_tests();
-    list_tests();
-    run_tests();
+    /* an answer may be written beyond a struct that is too small */
+    if (none_failed()) {
+        text_tests();
+        list_tests();
+        run_tests();
+    }
     return finish();
 }

@@ -38,12 +38,10 @@ static void all_slots(void) {
     struct text t = text_of("locations=12\ninit=10\ntarget=11\nclocks=4\nvars=4\nvar=9,1\nvar=9,2\nvar=9,3\nvar=9,4\n"
                             "inv=-\ninv=-\ninv=-\ninv=-\ninv=-\ninv=-\ninv=-\ninv=-\ninv=-\ninv=-\ninv=-\ninv=-\nedges=1\n"
                             "from=10\nto=11\nwhen=x0<=30\nset=v0:=v3+0,v1:=v2+0,v2:=v1+0,v3:=v0+0\nreset=x1,x3\n");
-    const struct wirdoku_state start = {10, {1, 2, 3, 4}, {0, 0, 0, 0}};
-    const struct wirdoku_state before = {10, {1, 2, 3, 4}, {5, 6, 7, 8}};
-    const struct wirdoku_state waited = {10, {1, 2, 3, 4}, {25, 26, 27, 28}};
-    const struct wirdoku_state after = {11, {4, 3, 2, 1}, {5, 0, 7, 0}};
+    const struct wirdoku_state start = slots_of(10, 0x01020304, 0), before = slots_of(10, 0x01020304, 0x05060708);
+    const struct wirdoku_state waited = slots_of(10, 0x01020304, 0x15161718), after = slots_of(11, 0x04030201, 0x05000700);
     check_state("every slot: initial", wirdoku_initial(t.at, t.length), WIRDOKU_ACCEPTED, 0, start);
-    check_state("every slot: delay", wirdoku_step(t.at, t.length, before, 20), WIRDOKU_ACCEPTED, 0, waited);
+    check_state("every slot: delay", wirdoku_step(t.at, t.length, before, 16), WIRDOKU_ACCEPTED, 0, waited);
     check_state("every slot: edge", wirdoku_step(t.at, t.length, before, 32), WIRDOKU_ACCEPTED, 0, after);
     check_state("every slot: refused", wirdoku_step(t.at, t.length, after, 32), WIRDOKU_STEP_NOT_ALLOWED, 0, after);
 }

@@ -43,15 +43,13 @@ static const struct {
 
 /* Every call with a refused text: its number and line, zeros beside them, the given state, and lent buffers as they were. */
 static void refused(const char *name, struct text t, uint8_t number, size_t line) {
-    const struct wirdoku_state given = {11, {12, 13, 14, 15}, {16, 17, 18, 19}};
-    const struct wirdoku_state zeros = {0, {0, 0, 0, 0}, {0, 0, 0, 0}};
-    const struct wirdoku_shape none = {number, line, 0, 0, 0, 0, 0, 0, 0, 0, 0};
+    const struct wirdoku_state given = slots_of(0x11, 0x12131415, 0x16171819), zeros = state_of(0, 0, 0);
     const uint8_t run[1] = {0}, assignment[2] = {1, 0};
     struct text input = joined(text_of("bound=1\n"), t);
     int32_t *words = lent_words(60);
     uint8_t *bytes = lent_bytes(60);
     check_answer(name, wirdoku_read(t.at, t.length), number, line);
-    check_shape(name, wirdoku_shape(t.at, t.length), none);
+    check_shape(name, wirdoku_shape(t.at, t.length), refused_shape(number, line));
     check_sizes(name, wirdoku_counts(t.at, t.length, 1), number, line, 0, 0, 0);
     check_sizes(name, wirdoku_counts(t.at, t.length, 65), number, line, 0, 0, 0);
     check_sizes(name, wirdoku_emit(t.at, t.length, 1, words, 60), number, line, 0, 0, 0);
@@ -83,11 +81,13 @@ static void refusals(void) {
 /* A model with another number in every field of its shape. */
 static void shapes(void) {
     struct text b = file_text("models/logger_b.txt");
-    const struct wirdoku_shape shape_b = {WIRDOKU_ACCEPTED, 0, 4, 0, 3, 1, 1, 3, 4, 11, 8};
+    const struct wirdoku_shape shape_b = {
+        .locations = 4, .initial = 0, .target = 3, .clocks = 1, .counters = 1, .edges = 3, .ceiling = 4, .state = 11, .choices = 8};
     check_shape("P6 B: M=4, S=11, H=8", wirdoku_shape(b.at, b.length), shape_b);
     struct text other = declaring(9, 4, 3, 6, 7, "x0<=9");
     other = with_line(with_line(other, 2, "init=8"), 3, "target=5");
-    const struct wirdoku_shape shape = {WIRDOKU_ACCEPTED, 0, 9, 8, 5, 4, 3, 7, 10, 9 + 3 * 7 + 4 * 11, 11 + 7};
+    const struct wirdoku_shape shape = {.locations = 9, .initial = 8, .target = 5, .clocks = 4, .counters = 3, .edges = 7, .ceiling = 10,
+                                        .state = 9 + 3 * 7 + 4 * 11, .choices = 11 + 7};
     check_shape("another number in every field", wirdoku_shape(other.at, other.length), shape);
 }
 
@@ -100,7 +100,8 @@ static void declared_limits(void) {
     const unsigned l = WIRDOKU_MAX_LOCATIONS, x = WIRDOKU_MAX_CLOCKS, v = WIRDOKU_MAX_COUNTERS, e = WIRDOKU_MAX_EDGES;
     const unsigned top = WIRDOKU_MAX_COUNTER_VALUE;
     struct text full = declaring(l, x, v, top, e, "-");
-    const struct wirdoku_shape shape = {WIRDOKU_ACCEPTED, 0, l, 0, 0, x, v, e, 1, l + v * (top + 1) + x * 2, 2 + e};
+    const struct wirdoku_shape shape = {
+        .locations = l, .clocks = x, .counters = v, .edges = e, .ceiling = 1, .state = l + v * (top + 1) + x * 2, .choices = 2 + e};
     check_shape("as much as a model may declare", wirdoku_shape(full.at, full.length), shape);
     read_as("no location", declaring(0, x, v, top, e, "-"), WIRDOKU_OUT_OF_RANGE, 1);
     read_as("a location more", declaring(l + 1, x, v, top, e, "-"), WIRDOKU_OUT_OF_RANGE, 1);
@@ -138,12 +139,10 @@ static void item_limits(void) {
 
 /* An empty slice may be NULL and 0. */
 static void nulls(void) {
-    const struct wirdoku_state given = {7, {1, 2, 3, 4}, {5, 6, 8, 9}};
-    const struct wirdoku_state zeros = {0, {0, 0, 0, 0}, {0, 0, 0, 0}};
-    const struct wirdoku_shape none = {WIRDOKU_NO_SUCH_LINE, 1, 0, 0, 0, 0, 0, 0, 0, 0, 0};
+    const struct wirdoku_state given = slots_of(7, 0x01020304, 0x05060809), zeros = state_of(0, 0, 0);
     struct text a = with_line(file_text("models/a.txt"), 3, "target=0");
     check_answer("no text: read", wirdoku_read(NULL, 0), WIRDOKU_NO_SUCH_LINE, 1);
-    check_shape("no text: shape", wirdoku_shape(NULL, 0), none);
+    check_shape("no text: shape", wirdoku_shape(NULL, 0), refused_shape(WIRDOKU_NO_SUCH_LINE, 1));
     check_sizes("no text: counts", wirdoku_counts(NULL, 0, 1), WIRDOKU_NO_SUCH_LINE, 1, 0, 0, 0);
     check_sizes("no text: emit", wirdoku_emit(NULL, 0, 1, NULL, 0), WIRDOKU_NO_SUCH_LINE, 1, 0, 0, 0);
     check_sizes("no input: size", wirdoku_size(NULL, 0, NULL, 0), WIRDOKU_NO_BOUND_LINE, 0, 0, 0, 0);
