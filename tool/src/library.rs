@@ -1,8 +1,8 @@
 //! The calls of the proved library (crates/wirdoku/include/wirdoku.h), one safe function each.
 //!
-//! No call has a precondition. `number` is 0 or the number of a refusal; `line` is the line of the text, from 1, for refusals 2
-//! to 8. After a refusal a lent buffer holds what it held. A slice's length is handed over with its pointer, and Rust's rules
-//! of borrowing keep lent buffers apart: this is all that the header asks of a caller.
+//! `number` is 0 or the number of a refusal; `line` is the line of the text, from 1, for refusals 2 to 8. After a refusal a lent
+//! buffer holds what it held. What the header asks of a caller is seen to here: a slice's length is handed over with its pointer,
+//! and Rust's rules of borrowing keep lent buffers apart. So these functions have no precondition.
 
 /// `place`: the line for 2 to 8, the byte's index for 24, the clause's index for 26, the step for 27 and 28, else 0.
 #[repr(C)]

@@ -37,6 +37,34 @@ fn state_answer(number: u8, line: usize, state: State) -> StateAnswer {
     StateAnswer { number, line, state }
 }
 
+/// The lines that the C header's structs are held to as well (compare/c/layout.c): struct or field, its offset, its size.
+macro_rules! layout {
+    ($name:literal, $value:expr, $($field:ident)*) => {{
+        let value = $value;
+        let start = &value as *const _ as usize;
+        let mut lines = format!("{} 0 {}\n", $name, std::mem::size_of_val(&value));
+        $(
+            let offset = &value.$field as *const _ as usize - start;
+            lines += &format!("{}.{} {} {}\n", $name, stringify!($field), offset, std::mem::size_of_val(&value.$field));
+        )*
+        lines
+    }};
+}
+
+#[test]
+fn structs_have_the_headers_layout() {
+    let shape = layout!(
+        "wirdoku_shape", Shape::default(),
+        number line locations initial target clocks counters edges ceiling state choices
+    );
+    let found = layout!("wirdoku_answer", Answer::default(), number place)
+        + &layout!("wirdoku_sizes", Sizes::default(), number line variables clauses words)
+        + &shape
+        + &layout!("wirdoku_state", State::default(), location counters clocks)
+        + &layout!("wirdoku_state_answer", StateAnswer::default(), number line state);
+    assert_eq!(found, include_str!("../../compare/c/layout.txt"));
+}
+
 #[test]
 fn texts_are_read() {
     assert_eq!(library::read(&a()), answer(0, 0));

@@ -1,8 +1,16 @@
-/* The calls of the proved library, for C and for every language that calls C. Link with libwirdoku.a (rt staticlib wirdoku).
+/* The calls of the proved library, for C and for every language that calls C. Link with libwirdoku.a (`rt staticlib wirdoku`),
+ * which is built for x86-64 Linux.
  *
- * A slice is a pointer and the number of its elements; an empty one may be NULL and 0. Buffers that one call is lent do not overlap.
- * Every call takes the bytes of a model text and reads it. No call has a precondition; each one returns, keeps nothing, and takes no
- * memory but a stack below 1 MiB. What each answers, and what every lent buffer holds afterwards, is proved: crates/wirdoku/specs says what it is.
+ * A slice is a pointer and the number of its elements; an empty one may be NULL and 0. What a caller must see to, and all that it must:
+ * - each pointer is aligned for its elements and leads to as many as the number says, which may be read, or written where it is lent;
+ * - a buffer that a call writes to (a pointer without `const`) overlaps nothing else that the call is given;
+ * - nothing else writes to any of them while the call lasts.
+ * Every call takes the bytes of a model text and reads it. Whatever bytes and numbers it is given, it returns. It keeps nothing from one
+ * call to the next, so that several threads may call, and takes no memory but its stack.
+ *
+ * What each call answers, and what every lent buffer holds afterwards, is proved: crates/wirdoku/src/lib.rt states it, in the words of
+ * docs/NOTATION.md. Not proved but tested: that this header declares what the archive has (scripts/c-calls), and that a stack of 1 MiB
+ * suffices for every call, with half of it to spare (scripts/compare-calls). docs/TRUST.md says what else is assumed.
  *
  * `number` is 0, or the number of a refusal; `line` is the line of the text, from 1, for refusals 2 to 8, else 0.
  * After a refusal every other number is 0 unless said otherwise, and a lent buffer holds what it held.
@@ -14,6 +22,49 @@
 #ifdef __cplusplus
 extern "C" {
 #endif
+
+/* Rises by 1 with every change of what stands in this file or of what a call answers; CHANGELOG.md says what changed. */
+#define WIRDOKU_VERSION 1
+
+/* Refusals, as docs/REFUSALS.md has them. No call of this header answers 20: a text that is read gives a well-formed record. */
+enum wirdoku_refusal {
+    WIRDOKU_ACCEPTED = 0,
+    WIRDOKU_TEXT_TOO_LONG = 1,          /* more than 8,192 bytes (the bound line of a program's input is not counted) */
+    WIRDOKU_NO_SUCH_LINE = 2,           /* no LF, or not the due key and `=`; also when the text ends before this line */
+    WIRDOKU_NOT_OF_FORM = 3,            /* the value is not of its form (docs/FORMAT.md); also `!=` on a clock, a counter in `inv`, an offset `-0`, a CR */
+    WIRDOKU_OUT_OF_RANGE = 4,           /* a number is outside its range; also an initial value above its greatest */
+    WIRDOKU_NOT_DECLARED = 5,           /* a location, clock or counter is not declared, however great its number */
+    WIRDOKU_NOT_RISING = 6,             /* the counters that are set, or the clocks that are reset, do not rise strictly */
+    WIRDOKU_TOO_MANY_ATOMS = 7,         /* more than four atoms */
+    WIRDOKU_BYTES_LEFT = 8,             /* bytes are left after the last line */
+    WIRDOKU_NO_BOUND_LINE = 9,          /* not `bound=` and a number of the text's form, ended by LF */
+    WIRDOKU_NO_SUCH_STATE = 10,         /* a number of the state is outside its group, or an unused slot is not 0 */
+    WIRDOKU_NOT_WELL_FORMED = 20,       /* the record is not well formed */
+    WIRDOKU_ABOVE_64 = 21,              /* the bound, or the length of the run, is above 64 */
+    WIRDOKU_WORDS_TOO_SHORT = 22,       /* the word buffer is shorter than the list; the number of words needed is returned too */
+    WIRDOKU_ASSIGNMENT_LENGTH = 23,     /* the assignment's length is not N */
+    WIRDOKU_NOT_0_OR_1 = 24,            /* a byte of the assignment is not 0 or 1 */
+    WIRDOKU_RUN_TOO_SHORT = 25,         /* the run buffer is shorter than the bound */
+    WIRDOKU_CLAUSE_FALSE = 26,          /* a clause is false */
+    WIRDOKU_NO_SUCH_STEP = 27,          /* a byte is H or more: no such delay or edge */
+    WIRDOKU_STEP_NOT_ALLOWED = 28,      /* the step is not allowed: source, guard, range or invariant */
+    WIRDOKU_NO_START = 29,              /* the initial state does not meet its invariant */
+    WIRDOKU_NOT_IN_TARGET = 30,         /* the run does not end in the target */
+    WIRDOKU_ASSIGNMENT_TOO_SHORT = 31   /* the assignment buffer is shorter than N */
+};
+
+/* Limits of a model text, of a model, and of what is asked about it. */
+#define WIRDOKU_MAX_TEXT 8192           /* bytes of a text */
+#define WIRDOKU_MAX_LOCATIONS 16        /* locations; at least 1 */
+#define WIRDOKU_MAX_CLOCKS 4
+#define WIRDOKU_MAX_COUNTERS 4
+#define WIRDOKU_MAX_EDGES 32
+#define WIRDOKU_MAX_ATOMS 4             /* atoms of an invariant, and of a guard */
+#define WIRDOKU_MAX_CLOCK_CONSTANT 30   /* a constant that a clock is compared with */
+#define WIRDOKU_MAX_COUNTER_VALUE 31    /* a counter's value, a constant that it is compared with or set to, an offset in both directions */
+#define WIRDOKU_MAX_STEPS 64            /* the bound, and the length of a run */
+#define WIRDOKU_MAX_VARIABLES 21776     /* N, at most: a buffer of so many bytes takes every assignment */
+#define WIRDOKU_MAX_WORDS 6730133       /* a buffer of so many words takes every list; wirdoku_counts tells the words of one */
 
 /* `place`: the line for 2 to 8, the byte's index for 24, the clause's index for 26, the step for 27 and 28, else 0. */
 struct wirdoku_answer {
@@ -48,8 +99,8 @@ struct wirdoku_shape {
 /* A state: the location, and what each counter and each clock shows. A slot that is not declared shows 0. */
 struct wirdoku_state {
     uint8_t location;
-    uint8_t counters[4];
-    uint8_t clocks[4];
+    uint8_t counters[WIRDOKU_MAX_COUNTERS];
+    uint8_t clocks[WIRDOKU_MAX_CLOCKS];
 };
 
 struct wirdoku_state_answer {
@@ -70,7 +121,7 @@ struct wirdoku_sizes wirdoku_counts(const uint8_t *text, size_t text_len, size_t
 /* Writes the list for a bound from the start of `out`: 1 to 8, 21, 22. */
 struct wirdoku_sizes wirdoku_emit(const uint8_t *text, size_t text_len, size_t bound, int32_t *out, size_t out_len);
 
-/* The size program's question: a bound line and a model text: 9, 1 to 8, 21, 22. */
+/* The size program's question: a bound line and a model text: 9, 1 to 8, 21, 22. It writes the list from the start of `out`. */
 struct wirdoku_sizes wirdoku_size(const uint8_t *input, size_t input_len, int32_t *out, size_t out_len);
 
 /* The initial state, whether or not its invariant holds: 1 to 8, and then a state of zeros. */

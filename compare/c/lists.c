@@ -1,0 +1,136 @@
+/* Lists: totals, emission, the size program's question; 9, 21 and 22; P1, P2, P5. */
+#include "check.h"
+#include <stdio.h>
+#include <stdlib.h>
+#include <string.h>
+
+/* Model A's list at bound 1, as the document writes it (P2). */
+static const int32_t LIST_A[] = {
+    1, 2, 0, -1, -2, 0, 1, 0,
+    3, 4, 5, 0, -3, -4, 0, -3, -5, 0, -4, -5, 0,
+    -3, -1, 6, 0, -3, -2, 7, 0, -4, -1, 6, 0, -4, -2, 7, 0,
+    -5, 1, 0, -5, 7, 0,
+    6, 7, 0, -6, -7, 0, 7, 0,
+};
+static const size_t WORDS_A = sizeof LIST_A / sizeof *LIST_A;
+
+static void totals(struct text a, struct text b) {
+    check_sizes("P1 A at 0", wirdoku_counts(a.at, a.length, 0), WIRDOKU_ACCEPTED, 0, 2, 4, 10);
+    check_sizes("P2 A at 1", wirdoku_counts(a.at, a.length, 1), WIRDOKU_ACCEPTED, 0, 7, 16, 51);
+    check_sizes("P5 A at 2", wirdoku_counts(a.at, a.length, 2), WIRDOKU_ACCEPTED, 0, 12, 28, 92);
+    check_sizes("P6 B at 3", wirdoku_counts(b.at, b.length, 3), WIRDOKU_ACCEPTED, 0, 68, 424, 1516);
+    check_sizes("A at 64", wirdoku_counts(a.at, a.length, WIRDOKU_MAX_STEPS), WIRDOKU_ACCEPTED, 0, 322, 772, 2634);
+    check_sizes("A at 65", wirdoku_counts(a.at, a.length, WIRDOKU_MAX_STEPS + 1), WIRDOKU_ABOVE_64, 0, 0, 0, 0);
+    check_sizes("A at the greatest bound", wirdoku_counts(a.at, a.length, SIZE_MAX), WIRDOKU_ABOVE_64, 0, 0, 0, 0);
+}
+
+static void lists(struct text a) {
+    for (size_t more = 0; more < 4; more++) {
+        int32_t *out = lent_words(WORDS_A + more);
+        check_sizes("P2 A at 1: totals", wirdoku_emit(a.at, a.length, 1, out, WORDS_A + more), WIRDOKU_ACCEPTED, 0, 7, 16, WORDS_A);
+        check("P2 A at 1: words", memcmp(out, LIST_A, sizeof LIST_A) == 0);
+        check("P2 A at 1: nothing beyond", words_kept(out, WORDS_A, WORDS_A + more));
+    }
+    for (size_t room = 0; room < WORDS_A; room++) {
+        int32_t *out = lent_words(room);
+        check_sizes("A at 1, too few words", wirdoku_emit(a.at, a.length, 1, out, room), WIRDOKU_WORDS_TOO_SHORT, 0, 0, 0, WORDS_A);
+        check("A at 1, too few words: untouched", words_kept(out, 0, room));
+    }
+    int32_t *out = lent_words(2634);
+    check_sizes("A at 65: 21 before 22", wirdoku_emit(a.at, a.length, 65, out, 1), WIRDOKU_ABOVE_64, 0, 0, 0, 0);
+    check_sizes("A at the greatest bound", wirdoku_emit(a.at, a.length, SIZE_MAX, out, 2634), WIRDOKU_ABOVE_64, 0, 0, 0, 0);
+    check("A above 64: untouched", words_kept(out, 0, 2634));
+    check_sizes("A at 64", wirdoku_emit(a.at, a.length, 64, out, 2634), WIRDOKU_ACCEPTED, 0, 322, 772, 2634);
+    check("A at 64 begins as A at 1 less its last clause", memcmp(out, LIST_A, (WORDS_A - 2) * sizeof *out) == 0);
+    check("A at 64 ends with the target", out[2632] == 322 && out[2633] == 0);
+}
+
+/* Whether each clause has a literal that the assignment makes true; counts the clauses. */
+static int satisfied(const int32_t *words, size_t length, const uint8_t *assignment, int32_t variables, size_t *clauses) {
+    int all = 1, some = 0;
+    *clauses = 0;
+    for (size_t i = 0; i < length; i++) {
+        if (words[i] == 0) {
+            all = all && some;
+            some = 0;
+            ++*clauses;
+        } else if (abs(words[i]) > variables) {
+            return 0;
+        } else {
+            some = some || assignment[abs(words[i]) - 1] == (words[i] > 0);
+        }
+    }
+    return all;
+}
+
+static void satisfying(struct text b) {
+    const uint8_t run[3] = {5, 3, 7};
+    uint8_t *assignment = lent_bytes(68);
+    int32_t *out = lent_words(1516);
+    size_t clauses;
+    check_answer("B: assignment of 5 3 7", wirdoku_run_to_assignment(b.at, b.length, run, 3, assignment, 68), WIRDOKU_ACCEPTED, 0);
+    check_sizes("B at 3", wirdoku_emit(b.at, b.length, 3, out, 1516), WIRDOKU_ACCEPTED, 0, 68, 424, 1516);
+    check("B at 3 is satisfied by it", satisfied(out, 1516, assignment, 68, &clauses) && clauses == 424);
+    unsigned others = 0;
+    for (size_t i = 0; i < 68; i++) {
+        assignment[i] ^= 1;
+        others += satisfied(out, 1516, assignment, 68, &clauses);
+        assignment[i] ^= 1;
+    }
+    check("B at 3 is not, with any one value changed", others == 0);
+}
+
+static void size_program(struct text a) {
+    struct text input = joined(text_of("bound=1\n"), a);
+    int32_t *out = lent_words(53);
+    check_sizes("size: no bound line", wirdoku_size(a.at, a.length, out, 53), WIRDOKU_NO_BOUND_LINE, 0, 0, 0, 0);
+    const char *const wrong[] = {"", "bound=1", "bound=01\n", "bound=1000\n", "bound=\n", "bound=1\r\n", "bounds=1\n", "bound=-1\n"};
+    for (size_t i = 0; i < sizeof wrong / sizeof *wrong; i++) {
+        struct text t = text_of(wrong[i]);
+        check_sizes(wrong[i], wirdoku_size(t.at, t.length, out, 53), WIRDOKU_NO_BOUND_LINE, 0, 0, 0, 0);
+    }
+    struct text above = joined(text_of("bound=999\n"), a);
+    check_sizes("size: bound=999", wirdoku_size(above.at, above.length, out, 53), WIRDOKU_ABOVE_64, 0, 0, 0, 0);
+    check_sizes("size: 50 words", wirdoku_size(input.at, input.length, out, 50), WIRDOKU_WORDS_TOO_SHORT, 0, 0, 0, 51);
+    check("size: refused, untouched", words_kept(out, 0, 53));
+    check_sizes("size: A at 1", wirdoku_size(input.at, input.length, out, 53), WIRDOKU_ACCEPTED, 0, 7, 16, 51);
+    check("size: A at 1, words", memcmp(out, LIST_A, sizeof LIST_A) == 0 && words_kept(out, 51, 53));
+}
+
+/* Lists of exactly the size program's words, and of one more. */
+static void sharp_sizes(void) {
+    int32_t *out = lent_words(16384);
+    struct text most = joined(text_of("bound=57\n"), declaring(1, 1, 1, 1, 7, "-"));
+    most = with_line(most, 8, "inv=x0<=0");
+    for (size_t edge = 0; edge < 7; edge++)
+        most = with_line(most, 13 + 5 * edge, "set=v0:=31");
+    struct text more = with_line(joined(text_of("bound=50\n"), declaring(3, 1, 0, 0, 6, "-")), 7, "inv=x0<=1");
+    check_sizes("size: 16,385 words", wirdoku_size(more.at, more.length, out, 16384), WIRDOKU_WORDS_TOO_SHORT, 0, 0, 0, 16385);
+    check("size: 16,385 words, untouched", words_kept(out, 0, 16384));
+    check_sizes("size: 16,384 words", wirdoku_size(most.at, most.length, out, 16384), WIRDOKU_ACCEPTED, 0, 803, 5026, 16384);
+    check("size: 16,384 words, the last clause", out[16383] == 0 && !words_kept(out, 16383, 16384));
+}
+
+/* The largest list that the limits allow, in the buffer that takes every list. */
+static void largest(void) {
+    struct text t = declaring(WIRDOKU_MAX_LOCATIONS, WIRDOKU_MAX_CLOCKS, WIRDOKU_MAX_COUNTERS, WIRDOKU_MAX_COUNTER_VALUE,
+                              WIRDOKU_MAX_EDGES, "x0<0,x0<0,x0<0,x0<0");
+    char guard[64];
+    snprintf(guard, sizeof guard, "when=x0>%d,x0<0,x0<0,x0<0", WIRDOKU_MAX_CLOCK_CONSTANT);
+    t = with_line(t, 6 + WIRDOKU_MAX_COUNTERS + WIRDOKU_MAX_LOCATIONS + 3, guard);
+    int32_t *out = lent_words(WIRDOKU_MAX_WORDS);
+    struct wirdoku_sizes found = wirdoku_emit(t.at, t.length, WIRDOKU_MAX_STEPS, out, WIRDOKU_MAX_WORDS);
+    check_sizes("the largest list", found, WIRDOKU_ACCEPTED, 0, WIRDOKU_MAX_VARIABLES, 1876043, 6729941);
+    check("the largest list ends with the target", out[6729940] == 0 && out[6729939] == WIRDOKU_MAX_VARIABLES - 271);
+    check("the largest list, nothing beyond", words_kept(out, 6729941, WIRDOKU_MAX_WORDS));
+}
+
+void list_tests(void) {
+    struct text a = file_text("models/a.txt"), b = file_text("models/logger_b.txt");
+    totals(a, b);
+    lists(a);
+    satisfying(b);
+    size_program(a);
+    sharp_sizes();
+    largest();
+}
