@@ -18,145 +18,28 @@ use Rattle.samples.specs.Models.{modelA, modelB}
 use Rattle.model.specs.Record.{blankModel}
 use Rattle.text_cases.specs.Cases.{EachRead, EachBound, accepted, refused, bounds}
 
-pub accepted-read : EachRead accepted
-unfolding accepted firstAt startsWith isDue valueOf numberOf digitsOf splitOn isHyphen itemsOf faultNumber lineNumber anyOf risesFrom relationAt atomOf
-    atomFaults atomSlots invItems whenItems sumOf setTo setOf setFaults updateSlots setItems resetOf resetFaults resetSlots resetItems numberFaults
+infixr 5 _&_
+_&_ : {A B : Type 0} → A → B → A × B
+a & b = (a, b)
+
+texts-read : EachRead accepted × EachRead refused
+unfolding accepted refused firstAt startsWith isDue valueOf numberOf digitsOf splitOn isHyphen itemsOf faultNumber lineNumber anyOf risesFrom relationAt
+    atomOf atomFaults atomSlots invItems whenItems sumOf setTo setOf setFaults updateSlots setItems resetOf resetFaults resetSlots resetItems numberFaults
     referenceFaults counterFaults withLocations withInitial withTarget withClocks withVars withUsed withCounter withInvariant withEdge withSource withEdgeTarget
     withGuard withUpdates withResets readLine locationsLine initLine targetLine clocksLine varsLine varLine invLine edgesLine fromLine toLine whenLine setLine
     resetLine inTurn readHead readCounters readInvariants readEdge readEdges readLines readEnded readReport modelA modelB blankModel
-accepted-read = (refl, (refl, tt))
+texts-read = (
+  refl & refl & tt,
+  refl & refl & refl & refl & refl & refl & refl & refl & refl & refl & refl & refl & refl & refl & refl & refl & refl & refl & refl & refl & refl &
+      refl & refl & refl & refl & refl & refl & refl & refl & refl & refl & refl & refl & refl & refl & refl & refl & refl & refl & refl & refl & tt,
+)
+
+pub accepted-read : EachRead accepted
+accepted-read = texts-read .0
 
 pub refused-read : EachRead refused
-unfolding refused firstAt startsWith isDue valueOf numberOf digitsOf splitOn isHyphen itemsOf faultNumber lineNumber anyOf risesFrom relationAt atomOf
-    atomFaults atomSlots invItems whenItems sumOf setTo setOf setFaults updateSlots setItems resetOf resetFaults resetSlots resetItems numberFaults
-    referenceFaults counterFaults withLocations withInitial withTarget withClocks withVars withUsed withCounter withInvariant withEdge withSource withEdgeTarget
-    withGuard withUpdates withResets readLine locationsLine initLine targetLine clocksLine varsLine varLine invLine edgesLine fromLine toLine whenLine setLine
-    resetLine inTurn readHead readCounters readInvariants readEdge readEdges readLines readEnded readReport modelA modelB blankModel
-refused-read = (
-  refl,
-  (
-    refl,
-    (
-      refl,
-      (
-        refl,
-        (
-          refl,
-          (
-            refl,
-            (
-              refl,
-              (
-                refl,
-                (
-                  refl,
-                  (
-                    refl,
-                    (
-                      refl,
-                      (
-                        refl,
-                        (
-                          refl,
-                          (
-                            refl,
-                            (
-                              refl,
-                              (
-                                refl,
-                                (
-                                  refl,
-                                  (
-                                    refl,
-                                    (
-                                      refl,
-                                      (
-                                        refl,
-                                        (
-                                          refl,
-                                          (
-                                            refl,
-                                            (
-                                              refl,
-                                              (
-                                                refl,
-                                                (
-                                                  refl,
-                                                  (
-                                                    refl,
-                                                    (
-                                                      refl,
-                                                      (
-                                                        refl,
-                                                        (
-                                                          refl,
-                                                          (
-                                                            refl,
-                                                            (
-                                                              refl,
-                                                              (
-                                                                refl,
-                                                                (
-                                                                  refl,
-                                                                  (
-                                                                    refl,
-                                                                    (
-                                                                      refl,
-                                                                      (
-                                                                        refl,
-                                                                        (
-                                                                          refl,
-                                                                          (
-                                                                            refl,
-                                                                            (
-                                                                              refl,
-                                                                              (
-                                                                                refl,
-                                                                                (
-                                                                                  refl,
-                                                                                  tt,
-                                                                                ),
-                                                                              ),
-                                                                            ),
-                                                                          ),
-                                                                        ),
-                                                                      ),
-                                                                    ),
-                                                                  ),
-                                                                ),
-                                                              ),
-                                                            ),
-                                                          ),
-                                                        ),
-                                                      ),
-                                                    ),
-                                                  ),
-                                                ),
-                                              ),
-                                            ),
-                                          ),
-                                        ),
-                                      ),
-                                    ),
-                                  ),
-                                ),
-                              ),
-                            ),
-                          ),
-                        ),
-                      ),
-                    ),
-                  ),
-                ),
-              ),
-            ),
-          ),
-        ),
-      ),
-    ),
-  ),
-)
+refused-read = texts-read .1
 
 pub bounds-read : EachBound bounds
 unfolding bounds firstAt startsWith isDue valueOf numberOf digitsOf splitOn isHyphen itemsOf boundReport
-bounds-read = (refl, (refl, (refl, (refl, (refl, tt)))))
+bounds-read = refl & refl & refl & refl & refl & tt

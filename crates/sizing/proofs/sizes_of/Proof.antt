@@ -1,3 +1,4 @@
+-- `sizes_of`: refusal 9, or `text_sizes` of what follows the bound line, which lies within the input.
 use Rattle.sizing.proofs.SizeLaws.{next-within, accepted-is, bound-refused, bound-accepted}
 use Rattle.text.proofs.Laws.Bytewise.{part-to-end}
 use denote.Ref.{now}
