@@ -1,6 +1,7 @@
 // Assignment to run: the run of a satisfying assignment, written into a lent buffer.
 use form::well_formed;
 use model::Model;
+use parts::numbering::variable_number;
 use search::Found;
 use search::first_false;
 ghost use mathlib.Core.Path.{_≡_};
@@ -86,10 +87,9 @@ fn put_run(m: Model, bound: usize, a: &[u8], run: &mut [u8])
     ensures { λ r. ⌜ now (run .exit) ≡ runOf m bound (now (a .entry)) ++ drop bound (now (run .entry)) ⌝ }
 {
     let z = m.sizes();
-    let mut b = z.state;
     for t in 0..bound {
-        run[t] = place_of_true(a, b, z.choices) as u8;
-        b += z.choices + z.state;
+        let choice = variable_number(m, z, t, z.state) - 1;
+        run[t] = place_of_true(a, choice, z.choices) as u8;
     }
 }
 

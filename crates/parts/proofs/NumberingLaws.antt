@@ -51,3 +51,7 @@ choices-most m z ok k = omega (arith, choices-of-sizes m z k, choices-le m (form
 module _ (m : Model) (z : Sizes) (k : KnownSizes m z) where
   pub width-is : z .state ≡ stateWidth oneHotWidth m
   width-is = state-of-sizes m z k ∙ sym (state-width m)
+
+  pub number-is : (t p : ℕ) → variableNumber m t p ≡ t * (z .state + z .choices) + p + 1
+  unfolding variableNumber
+  number-is t p = rw (state-of-sizes m z k, choices-of-sizes m z k) refl
