@@ -32,13 +32,13 @@ pub record AtomFits (b : GroupTable) (o : ℕ) (atom : Atom) : Type 0 where
 
 -- The same of an update of counter i.
 pub record UpdateFits (b : GroupTable) (o i : ℕ) (u : Update) : Type 0 where
-  pub named : UpdateIn b u
+  pub named : UpdateIn u
   pub fits : Fits (updatePart b o i u) mostVariables
 
 -- The same of all that an edge asks.
 pub record EdgeFits (b : GroupTable) (o : ℕ) (e : Edge) : Type 0 where
   pub guards : (k : ℕ) → k < 4 → AtomIn b (atomAt (e .guard) k)
-  pub sources : (i : ℕ) → i < b .vars → UpdateIn b (updateAt e i)
+  pub sources : (i : ℕ) → i < b .vars → UpdateIn (updateAt e i)
   pub parts : (j : ℕ) → j < b .groups + 5 → Fits (edgePart b e o j) mostVariables
 
 -- The atoms of the invariant of location l.

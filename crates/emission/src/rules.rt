@@ -14,7 +14,7 @@ ghost use Prim.Native.Nat.{ℕ, _+_, _<_, _≤_};
 ghost use lib.Dec.{leb};
 ghost use Rattle.parts.specs.Numbering.{mostVariables};
 ghost use Rattle.parts.specs.declared.Rule.{Rule};
-ghost use Rattle.parts.specs.Rules.{ruleClauses, rowClauses};
+ghost use Rattle.parts.specs.Rules.{ruleClauses, rowClauses, reach};
 ghost use Rattle.emission.specs.Written.{RoomFor, WroteClauses};
 
 // The value `v`, whose variable is `y`: not `x`, not that value, where it fails the comparison.
@@ -148,7 +148,7 @@ pub fn put_constant(
     out: &mut [i32],
     at: usize,
 ) -> usize
-    requires { ⌜ (x < mostVariables) × (after + greatest < mostVariables) × RoomFor (ruleClauses x 0 after 0 (cond (leb n greatest) (Rule.Set n) Rule.Forbid)) (now out) at ⌝ }
+    requires { ⌜ (x < mostVariables) × (after + reach 1 (cond (leb n greatest) (Rule.Set n) Rule.Forbid) ≤ mostVariables) × RoomFor (ruleClauses x 0 after 0 (cond (leb n greatest) (Rule.Set n) Rule.Forbid)) (now out) at ⌝ }
     ensures { λ r. ⌜ WroteClauses (ruleClauses x 0 after 0 (cond (leb n greatest) (Rule.Set n) Rule.Forbid)) (now (out .entry)) (now (out .exit)) at r ⌝ }
 {
     if n <= greatest {

@@ -1,91 +1,100 @@
-use native.Mathlib.Omega.{arith}
-use borrow.Author.Needs.{needs}
-use Rattle.emission.proofs.ListPieces.{stepPiece}
-use Rattle.words.proofs.Kit.{wrote-then, wrote-tail, wrote-each-tail, wrote-each-none, room-first, room-then, room-each, room-tail, wrote-as, room-as}
-use Rattle.words.specs.Written.{Wrote}
-use Rattle.list.proofs.Pieces.{clauses-pieces}
-use Rattle.list.specs.Clauses.{oneHotWidth, clausesOf}
-use Rattle.list.specs.Items.{startItems}
-use Rattle.model.specs.Indexed.{each}
-use Prim.Native.Nat.{_+_, _-_, _≤_}
-use denote.Ref.{now}
-use mathlib.Core.List.{_++_}
-use mathlib.Core.Path.{_≡_}
 use Rattle.emission.proofs.put_list.Statement.{statement}
 use Rattle.emission.proofs.put_list.Tie as tie
+use Rattle.emission.proofs.put_list.Reads as reads
+use Rattle.emission.proofs.put_list.Lts as lts
+use Rattle.emission.proofs.put_end.Reads as put-end-reads
+use Rattle.emission.proofs.put_start.Reads as put-start-reads
+use Rattle.emission.proofs.put_step.Reads as put-step-reads
 
 abbrev Inv-loop : tie.InvT-loop
-Inv-loop m bound out₀ z at₀ t₀ out at t = (t ≤ bound) × Wrote (each t (stepPiece m)) out₀ out at₀ at
+Inv-loop m z b bound out₀ first size at₀ t₀ out at t = ?
 
 abbrev μ-loop : tie.MeasureT-loop
-μ-loop m bound out₀ z at₀ t₀ out at t = bound - t
+μ-loop m z b bound out₀ first size at₀ t₀ out at t = ?
 
-sizes-requires : tie.Need-sizes-requires Inv-loop μ-loop
-sizes-requires c κs = search needs
+-- src/lib.rt:108:9
+slice-aggregate-first : tie.Need-slice-aggregate-first Inv-loop μ-loop
+slice-aggregate-first c = ?
 
+-- src/lib.rt:109:9
+slice-aggregate-size : tie.Need-slice-aggregate-size Inv-loop μ-loop
+slice-aggregate-size c = ?
+
+-- src/lib.rt:110:9
 put-start-requires : tie.Need-put-start-requires Inv-loop μ-loop
-put-start-requires c κs = (c .before .before .pre .0, c .before .sizes .ensures, room-first _ (room-first _ (room-as (clauses-pieces (c .before .before .args .m) (c .before .before .args .bound)) (c .before .before .pre .2))))
+put-start-requires c κs = ?
 
+-- src/lib.rt:111:5
 loop-holds : tie.Need-loop-holds Inv-loop μ-loop
-loop-holds c = (omega arith, wrote-each-none _ _ _ (omega arith))
+loop-holds c = ?
 
+-- src/lib.rt:112:51
 mul-put-step : tie.Need-mul-put-step Inv-loop μ-loop
-mul-put-step c = search needs
+mul-put-step c = ?
 
+-- src/lib.rt:112:51
 sub-put-step : tie.Need-sub-put-step Inv-loop μ-loop
-sub-put-step c = search needs
+sub-put-step c = ?
 
+-- src/lib.rt:112:51
 part-put-step-start : tie.Need-part-put-step-start Inv-loop μ-loop
-part-put-step-start c = search needs
+part-put-step-start c = ?
 
+-- src/lib.rt:112:51
 part-put-step-end : tie.Need-part-put-step-end Inv-loop μ-loop
-part-put-step-end c = search needs
+part-put-step-end c = ?
 
+-- src/lib.rt:112:13
 put-step-requires : tie.Need-put-step-requires Inv-loop μ-loop
-put-step-requires c κs = (c .before .before .before .before .before .before .before .pre .0, c .before .before .before .before .before .before .sizes .ensures, omega arith, room-tail (room-each _ _ _ (c .before .before .loop .inv .1) (c .before .loop-test .taken) (room-then (c .before .before .before .before .put-start .ensures) (room-first _ (room-as (clauses-pieces (c .before .before .before .before .before .before .before .args .m) (c .before .before .before .before .before .before .before .args .bound)) (c .before .before .before .before .before .before .before .pre .2))))))
+put-step-requires c κs = ?
 
+-- src/lib.rt:113:9
 add-at : tie.Need-add-at Inv-loop μ-loop
-add-at c = search needs
+add-at c = ?
 
+-- src/lib.rt:111:9
 add-t : tie.Need-add-t Inv-loop μ-loop
-add-t c = search needs
+add-t c = ?
 
+-- src/lib.rt:111:5
 loop-less : tie.Need-loop-less Inv-loop μ-loop
-loop-less c = search needs
+loop-less c = ?
 
+-- src/lib.rt:111:5
 loop-again : tie.Need-loop-again Inv-loop μ-loop
-loop-again c = (omega arith, wrote-each-tail _ _ (c .before .before .before .before .loop .inv .1) (c .before .put-step .ensures))
+loop-again c = ?
 
--- after the loop the start and all steps are written
-steps-done : (c : tie.After-loop Inv-loop μ-loop)
-    → Wrote (clausesOf (startItems oneHotWidth (c .before .before .before .before .before .before .args .m)) ++ each (c .before .before .before .before .before .before .args .bound) (stepPiece (c .before .before .before .before .before .before .args .m))) (now (c .before .before .before .before .before .before .args .out)) (c .before .loop .out) 0 (c .before .loop .at)
-steps-done c =
-    let done : c .before .loop .t ≡ c .before .before .before .before .before .before .args .bound = omega arith in
-    wrote-then (c .before .before .before .put-start .ensures) (rw done at (c .before .loop .inv .1))
-
+-- src/lib.rt:115:34
 mul-put-end : tie.Need-mul-put-end Inv-loop μ-loop
-mul-put-end c = search needs
+mul-put-end c = ?
 
+-- src/lib.rt:115:34
 sub-put-end : tie.Need-sub-put-end Inv-loop μ-loop
-sub-put-end c = search needs
+sub-put-end c = ?
 
+-- src/lib.rt:115:34
 part-put-end-start : tie.Need-part-put-end-start Inv-loop μ-loop
-part-put-end-start c = search needs
+part-put-end-start c = ?
 
+-- src/lib.rt:115:34
 part-put-end-end : tie.Need-part-put-end-end Inv-loop μ-loop
-part-put-end-end c = search needs
+part-put-end-end c = ?
 
+-- src/lib.rt:115:9
 put-end-requires : tie.Need-put-end-requires Inv-loop μ-loop
-put-end-requires c κs = (c .before .before .before .before .before .before .before .pre .0, c .before .before .before .before .before .before .sizes .ensures, omega arith, room-tail (room-then (steps-done (c .before)) (room-as (clauses-pieces (c .before .before .before .before .before .before .before .args .m) (c .before .before .before .before .before .before .before .args .bound)) (c .before .before .before .before .before .before .before .pre .2))))
+put-end-requires c κs = ?
 
+-- src/lib.rt:116:5
 add-result : tie.Need-add-result Inv-loop μ-loop
-add-result c = search needs
+add-result c = ?
 
+-- src/lib.rt:102:1
 same-length : tie.Need-same-length Inv-loop μ-loop
-same-length c = search needs
+same-length c = ?
 
+-- src/lib.rt:102:1
 returns : tie.Need-returns Inv-loop μ-loop
-returns c = wrote-as (clauses-pieces (c .before .before .before .before .before .before .before .before .before .args .m) (c .before .before .before .before .before .before .before .before .before .args .bound)) (wrote-tail (steps-done (c .before .before .before)) (c .before .put-end .ensures))
+returns c = ?
 
 pub put-list-spec : {M : Type 1} → statement M
 put-list-spec =
@@ -93,7 +102,8 @@ put-list-spec =
     (tie.spec
     Inv-loop
     μ-loop
-    sizes-requires
+    slice-aggregate-first
+    slice-aggregate-size
     put-start-requires
     loop-holds
     mul-put-step

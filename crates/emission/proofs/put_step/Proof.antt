@@ -1,45 +1,60 @@
-use Rattle.words.proofs.Kit.{wrote-then, room-first, room-then, wrote-as, room-as}
-use Rattle.emission.proofs.ListPieces.{step-is}
-use native.Mathlib.Omega.{arith}
-use Rattle.model.proofs.FormLaws.{formed}
-use Rattle.state_pieces.proofs.StateLaws.{state-by, invariants-by}
 use borrow.Author.Needs.{needs}
 use Rattle.emission.proofs.put_step.Statement.{statement}
 use Rattle.emission.proofs.put_step.Tie as tie
+use Rattle.emission.proofs.put_step.Reads as reads
+use Rattle.emission.proofs.put_step.Lts as lts
+use Rattle.emission.proofs.delay.put_choice.Reads as put-choice-reads
+use Rattle.emission.proofs.delay.put_delays.Reads as put-delays-reads
+use Rattle.emission.proofs.edge.put_edges.Reads as put-edges-reads
+use Rattle.emission.proofs.state.put_state.Reads as put-state-reads
+use Rattle.parts.proofs.numbering.block_start.Reads as block-start-reads
 
-step-blocks-requires : tie.Need-step-blocks-requires
-step-blocks-requires c κs = search needs
+-- src/lib.rt:83:9
+block-start-requires : tie.Need-block-start-requires
+block-start-requires c κs = search needs
 
+-- src/lib.rt:84:34
+add-block-start : tie.Need-add-block-start
+add-block-start c = search needs
+
+-- src/lib.rt:84:9
+block-start-requires-2 : tie.Need-block-start-requires-2
+block-start-requires-2 c κs = search needs
+
+-- src/lib.rt:85:9
 put-choice-requires : tie.Need-put-choice-requires
-put-choice-requires c κs = (c .before .before .pre .0, c .before .before .pre .1, c .before .step-blocks .ensures .1, room-first _ (room-first _ (room-first _ (room-as (step-is (c .before .before .args .m) (c .before .before .args .t) _ (c .before .step-blocks .ensures .0) (c .before .step-blocks .ensures .1)) (c .before .before .pre .3)))))
+put-choice-requires c κs = ?
 
+-- src/lib.rt:86:9
 put-delays-requires : tie.Need-put-delays-requires
-put-delays-requires c κs = (c .before .before .before .before .before .pre .0, c .before .before .before .before .before .pre .1, c .before .before .before .before .step-blocks .ensures .1, room-then (c .before .before .put-choice .ensures) (room-first _ (room-first _ (room-as (step-is (c .before .before .before .before .before .args .m) (c .before .before .before .before .before .args .t) _ (c .before .before .before .before .step-blocks .ensures .0) (c .before .before .before .before .step-blocks .ensures .1)) (c .before .before .before .before .before .pre .3)))))
+put-delays-requires c κs = ?
 
+-- src/lib.rt:87:9
 put-edges-requires : tie.Need-put-edges-requires
-put-edges-requires c κs = (c .before .before .before .before .before .before .before .before .pre .0, c .before .before .before .before .before .before .before .before .pre .1, c .before .before .before .before .before .before .before .step-blocks .ensures .1, room-then (wrote-then (c .before .before .before .before .before .put-choice .ensures) (c .before .before .put-delays .ensures)) (room-first _ (room-as (step-is (c .before .before .before .before .before .before .before .before .args .m) (c .before .before .before .before .before .before .before .before .args .t) _ (c .before .before .before .before .before .before .before .step-blocks .ensures .0) (c .before .before .before .before .before .before .before .step-blocks .ensures .1)) (c .before .before .before .before .before .before .before .before .pre .3))))
+put-edges-requires c κs = ?
 
-layout-of-requires : tie.Need-layout-of-requires
-layout-of-requires c κs = search needs
-
+-- src/lib.rt:89:5
 put-state-requires : tie.Need-put-state-requires
-put-state-requires c κs = (c .before .before .layout-of .ensures .1, omega (arith, c .before .before .before .before .before .before .before .before .before .before .before .before .step-blocks .ensures .1 .within), invariants-by (c .before .before .before .before .before .before .before .before .before .before .before .before .before .args .m) (c .before .before .layout-of .result) (c .before .before .layout-of .ensures .0) (formed (c .before .before .before .before .before .before .before .before .before .before .before .before .before .args .m) (c .before .before .before .before .before .before .before .before .before .before .before .before .before .pre .0)), room-as (state-by (c .before .before .before .before .before .before .before .before .before .before .before .before .before .args .m) (c .before .before .before .before .before .before .before .before .before .before .before .before .step-blocks .result .next) (c .before .before .layout-of .result) (c .before .before .layout-of .ensures .0)) (room-then (wrote-then (wrote-then (c .before .before .before .before .before .before .before .before .before .before .put-choice .ensures) (c .before .before .before .before .before .before .before .put-delays .ensures)) (c .before .before .before .before .put-edges .ensures)) (room-as (step-is (c .before .before .before .before .before .before .before .before .before .before .before .before .before .args .m) (c .before .before .before .before .before .before .before .before .before .before .before .before .before .args .t) _ (c .before .before .before .before .before .before .before .before .before .before .before .before .step-blocks .ensures .0) (c .before .before .before .before .before .before .before .before .before .before .before .before .step-blocks .ensures .1)) (c .before .before .before .before .before .before .before .before .before .before .before .before .before .pre .3))))
+put-state-requires c κs = ?
 
+-- src/lib.rt:71:1
 same-length : tie.Need-same-length
 same-length c = search needs
 
+-- src/lib.rt:71:1
 returns : tie.Need-returns
-returns c = wrote-as (step-is (c .before .before .before .before .before .before .before .before .before .before .before .before .before .before .before .args .m) (c .before .before .before .before .before .before .before .before .before .before .before .before .before .before .before .args .t) _ (c .before .before .before .before .before .before .before .before .before .before .before .before .before .before .step-blocks .ensures .0) (c .before .before .before .before .before .before .before .before .before .before .before .before .before .before .step-blocks .ensures .1)) (wrote-then (wrote-then (wrote-then (c .before .before .before .before .before .before .before .before .before .before .before .before .put-choice .ensures) (c .before .before .before .before .before .before .before .before .before .put-delays .ensures)) (c .before .before .before .before .before .before .put-edges .ensures)) (wrote-as (state-by (c .before .before .before .before .before .before .before .before .before .before .before .before .before .before .before .args .m) (c .before .before .before .before .before .before .before .before .before .before .before .before .before .before .step-blocks .result .next) (c .before .before .before .before .layout-of .result) (c .before .before .before .before .layout-of .ensures .0)) (c .before .put-state .ensures)))
+returns c = ?
 
 pub put-step-spec : {M : Type 1} → statement M
 put-step-spec =
     tie.close
     (tie.spec
-    step-blocks-requires
+    block-start-requires
+    add-block-start
+    block-start-requires-2
     put-choice-requires
     put-delays-requires
     put-edges-requires
-    layout-of-requires
     put-state-requires
     same-length
     returns)
