@@ -35,7 +35,7 @@ initial-value-requires c κs = known-bounded (c .before .before .before .before 
 
 -- src/start.rt:47:24
 mul-put-unit : tie.Need-mul-put-unit Inv-loop μ-loop
-mul-put-unit c = search needs
+mul-put-unit c = omega (arith, at-most-nine (c .before .before .before .before .before .pre .0))
 
 -- src/start.rt:47:24
 shared-slice-read-put-unit : tie.Need-shared-slice-read-put-unit Inv-loop μ-loop

@@ -34,7 +34,7 @@ loop-holds c = (omega arith, wrote-each-none _ _ _ (omega (arith, c .before .bef
 
 -- src/state.rt:116:17
 mul-v : tie.Need-mul-v Inv-loop μ-loop
-mul-v c = search needs
+mul-v c = omega (arith, size-at (c .before .before .before .before .before .pre .0) 0, c .before .before .before .before .before .pre .1 .locations-le)
 
 -- src/state.rt:116:17
 array-copy-out-v : tie.Need-array-copy-out-v Inv-loop μ-loop

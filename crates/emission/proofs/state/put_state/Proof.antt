@@ -1,3 +1,4 @@
+use Rattle.emission.proofs.ClauseLaws.{wrote-then, room-first, room-then}
 use borrow.Author.Needs.{needs}
 use Rattle.emission.proofs.state.put_state.Statement.{statement}
 use Rattle.emission.proofs.state.put_state.Tie as tie
@@ -8,11 +9,11 @@ use Rattle.emission.proofs.state.put_invariants.Reads as put-invariants
 
 -- src/state.rt:136:9
 put-groups-requires : tie.Need-put-groups-requires
-put-groups-requires c κs = ?
+put-groups-requires c κs = (c .before .before .before .pre .0, c .before .before .before .pre .1, room-first _ (c .before .before .before .pre .3))
 
 -- src/state.rt:137:5
 put-invariants-requires : tie.Need-put-invariants-requires
-put-invariants-requires c κs = ?
+put-invariants-requires c κs = (c .before .before .before .before .before .before .pre .0, c .before .before .before .before .before .before .pre .2, room-then (c .before .before .put-groups .ensures) (c .before .before .before .before .before .before .pre .3))
 
 -- src/state.rt:124:1
 same-length : tie.Need-same-length
@@ -20,7 +21,7 @@ same-length c = search needs
 
 -- src/state.rt:124:1
 returns : tie.Need-returns
-returns c = ?
+returns c = wrote-then (c .before .before .before .before .put-groups .ensures) (c .before .put-invariants .ensures)
 
 pub put-state-spec : {M : Type 1} → statement M
 put-state-spec =
