@@ -11,8 +11,8 @@ use Rattle.list.specs.Items.{invariantOf, edgeOf}
 use Rattle.list.specs.Clauses.{oneHotWidth}
 use Rattle.list.specs.Assignments.{bit}
 use Rattle.truth.proofs.Skips.{AllTrue, all-each, part-true}
-use Rattle.piece_tables.specs.Tables.{Table}
-use Rattle.piece_tables.proofs.TableLaws.{clauses-are}
+use Rattle.counts.specs.Tables.{Table, mostInvariantClauses, mostEdgeClauses}
+use Rattle.counts.proofs.TableLaws.{clauses-are}
 use Rattle.parts.specs.declared.GroupTable.{GroupTable}
 use Rattle.parts.specs.PartsOf.{atomPart, delayPart, edgePart}
 use Rattle.parts.specs.Pieces.{Known, atomPiece, locationPiece, delayPiece, delayPieces, edgePiece, edgeClauses}
@@ -28,7 +28,8 @@ module _ {m : Model} {b : GroupTable} (k : Known m b) where
   location-true a o l h =
       all-each a (atomPiece b o (o + l) (invariantAt m l)) 4 (λ j. part-true a (o + l) h (atomPart b o (atomAt (invariantAt m l) j)))
 
-  pub location-clauses : {table : List ℕ} (o l : ℕ) → l < m .locations → Table (invariantOf oneHotWidth m) (m .locations) 16 1024 table → getD table l 0 ≡ length (locationPiece m b o l)
+  pub location-clauses : {table : List ℕ} (o l : ℕ) → l < m .locations → Table (invariantOf oneHotWidth m) (m .locations) 16 mostInvariantClauses table
+      → getD table l 0 ≡ length (locationPiece m b o l)
   location-clauses o l p t = clauses-are t (wf k .locations-le) l p o ∙ ap length (sym (location-piece-of k o l p))
 
   -- an edge that is false
@@ -36,6 +37,7 @@ module _ {m : Model} {b : GroupTable} (k : Known m b) where
   edge-true a o x e l z h =
       subst (AllTrue a) (edge-piece-of k o x e l z) (all-each a (edgePiece x b (edgeAt m e) o) (b .groups + 5) (λ j. part-true a x h (edgePart b (edgeAt m e) o j)))
 
-  pub edge-clauses : {table : List ℕ} (o e : ℕ) → e < m .used → Table (edgeOf oneHotWidth m) (m .used) 32 3074 table → getD table e 0 ≡ length (edgeClauses m o e)
+  pub edge-clauses : {table : List ℕ} (o e : ℕ) → e < m .used → Table (edgeOf oneHotWidth m) (m .used) 32 mostEdgeClauses table
+      → getD table e 0 ≡ length (edgeClauses m o e)
   unfolding edgeClauses
   edge-clauses o e l t = clauses-are t (wf k .used-le) e l o

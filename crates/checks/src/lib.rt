@@ -18,7 +18,7 @@ ghost use Rattle.list.specs.Items.{stateItems, initialItems, startItems, invari
 ghost use Rattle.list.specs.Clauses.{oneHotWidth, clausesOf};
 ghost use Rattle.truth.specs.Scanning.{Checked};
 ghost use Rattle.parts.specs.Rules.{Fits};
-ghost use Rattle.piece_tables.specs.Tables.{Table};
+ghost use Rattle.counts.specs.Tables.{Table, mostInvariantClauses};
 ghost use Rattle.parts.specs.Numbering.{mostVariables};
 ghost use Rattle.parts.specs.StateBlock.{componentAt, Bounded};
 ghost use Rattle.parts.specs.PartsOf.{atomPart};
@@ -82,12 +82,12 @@ fn check_atoms(b: GroupTable, a: &[u8], o: usize, x: usize, atoms: [AtomSlot; 4]
 pub fn check_state(
     m: Model,
     b: GroupTable,
-    table: [usize; 16],
+    table: [usize; Model::LOCATIONS],
     a: &[u8],
     o: usize,
     at: usize,
 ) -> Scan
-    requires { ⌜ Known m b × Table (invariantOf oneHotWidth m) (m .locations) 16 1024 table × (o ≤ mostVariables) × (o + stateSize m ≤ length (now a)) × (at ≤ 600000000) ⌝ }
+    requires { ⌜ Known m b × Table (invariantOf oneHotWidth m) (m .locations) 16 mostInvariantClauses table × (o ≤ mostVariables) × (o + stateSize m ≤ length (now a)) × (at ≤ 600000000) ⌝ }
     ensures { λ r. ⌜ Checked (now (a .entry)) (clausesOf (stateItems oneHotWidth m o)) at 60000 r ⌝ }
 {
     let s = check_groups(b, a, o, at);
@@ -164,8 +164,8 @@ fn check_initial(m: Model, b: GroupTable, a: &[u8], at: usize) -> Scan
 }
 
 // The clauses of the start.
-pub fn check_start(m: Model, b: GroupTable, table: [usize; 16], a: &[u8]) -> Scan
-    requires { ⌜ Known m b × Table (invariantOf oneHotWidth m) (m .locations) 16 1024 table × (stateSize m ≤ length (now a)) ⌝ }
+pub fn check_start(m: Model, b: GroupTable, table: [usize; Model::LOCATIONS], a: &[u8]) -> Scan
+    requires { ⌜ Known m b × Table (invariantOf oneHotWidth m) (m .locations) 16 mostInvariantClauses table × (stateSize m ≤ length (now a)) ⌝ }
     ensures { λ r. ⌜ Checked (now (a .entry)) (clausesOf (startItems oneHotWidth m)) 0 70000 r ⌝ }
 {
     let s = check_state(m, b, table, a, 0, 0);

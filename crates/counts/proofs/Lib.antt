@@ -1,2 +1,7 @@
-pub mod ListSize
+pub mod CountLaws
+pub mod GroupLaws
+pub mod PartLaws
+pub mod EdgeLaws
+pub mod ListTotals
 pub mod PieceBounds
+pub mod TableLaws

@@ -1,202 +1,169 @@
 -- What the pieces of the list and the whole list have at most: clauses and words. No piece that emission writes at once is longer than the group of
 -- 64 choices, 6,113 words; and the pieces, one after the other, are the list.
-use mathlib.Core.Path.{_≡_, refl, sym, ap, ap₂, subst, _∙_}
-use mathlib.Core.Bool.{Bool, true, false, cond}
+use mathlib.Core.Path.{_≡_, refl, sym, ap, ap₂, _∙_}
 use mathlib.Core.List.{List, [], _∷_, _++_, flatMap}
-use mathlib.Core.Option.{Option, none, some}
-use Prim.Native.Nat.{ℕ, zero, suc, _+_, _*_, _≤_, _<_}
-use native.Mathlib.Nat.{mul-le-mul, suc-mul}
+use Prim.Native.Nat.{ℕ, zero, suc, _+_, _≤_, _<_}
 use native.Mathlib.Omega.{arith}
 use lib.Dec.{T}
 use lib.ListN.{length}
-use Rattle.model.specs.declared.Atom.{Atom}
-use Rattle.model.specs.declared.Atom.the-variants.{Blank, OnClock, OnCounter}
-use Rattle.model.specs.declared.Update.{Update}
-use Rattle.model.specs.declared.Update.the-variants.{Keep, Constant, Sum}
-use Rattle.model.specs.declared.ClockUpdate.{ClockUpdate}
-use Rattle.model.specs.declared.ClockUpdate.the-variants.{Unchanged, Reset}
-use Rattle.model.specs.declared.AtomSlot.{AtomSlot}
-use Rattle.model.specs.declared.Edge.{Edge}
 use Rattle.model.specs.declared.Model.{Model}
 use Rattle.model.specs.Indexed.{each}
-use Rattle.model.specs.Record.{atomAt, updateAt, resetAt, counterAt, invariantAt, edgeAt}
-use Rattle.model.specs.Automaton.{ceiling, choices, Component, loc, counter, clock, groupSize, meets, inRange, shifted}
+use Rattle.model.specs.Record.{atomAt, invariantAt, edgeAt}
+use Rattle.model.specs.Automaton.{ceiling, choices, Component, loc, counter, clock, groupSize, stateSize}
 use Rattle.model.specs.Form.{wellFormed}
-use Rattle.model.proofs.IndexedLaws.{each-zero, each-suc}
-use Rattle.model.proofs.FormLaws.{DeclaredAtom, DeclaredUpdate, WellFormed, WellFormedEdge, formed, choices-le, stateSize-le}
-use Rattle.list.specs.Lists.{All, toList}
-use Rattle.list.specs.Items.{Member, Item, group, rule, overComponents, offset, stateWidth, blockAt, nextBlock, stateMember, choiceMember, excludeValue, excludeFailing, excludeAllFailing, groupItems, invariantOf, invariantItems, stateItems, initialItems, startItems, choiceItems, puts, delayItems, delaysItems, sourceItems, targetItems, guardItems, updateItems, updatesItems, resetItems, resetsItems, edgeItems, edgeOf, edgesItems, stepItems, endItems, bodyItems, items}
-use Rattle.list.specs.Clauses.{oneHotWidth, clausesOf, clauses, words}
-use Rattle.list.proofs.ListLaws.{all-app, all-app₃, all-app₄, all-each, flat-app, flat-one, flat-each, each-cong}
-use Rattle.piece_counts.specs.Sized.{Sized, lead}
-use Rattle.piece_counts.proofs.SizedLaws.{sized-none, sized-app, sized-rule}
-use Rattle.piece_counts.proofs.GroupLaws.{sized-group}
-use Rattle.piece_counts.proofs.PieceLaws.{lead-size, puts-size}
-use Rattle.counts.specs.Pieces.{pieceWords, statePieces, startPieces, stepPieces, pieces}
-use Rattle.counts.proofs.ListSize.{initial-size, delay-size}
+use Rattle.model.proofs.FormLaws.{WellFormed, formed, choices-le, stateSize-le}
+use Rattle.list.specs.Lists.{All}
+use Rattle.list.specs.Items.{Item, group, overComponents, offset, stateWidth, blockAt, nextBlock, groupItems, invariantOf, invariantItems, stateItems}
+use Rattle.list.specs.Items.{initialItems, startItems, choiceItems, delayItems, delaysItems, edgeOf, edgesItems, stepItems, endItems, bodyItems, items}
+use Rattle.list.specs.Clauses.{Clause, oneHotWidth, groupClauses, expand, clausesOf, clauses, wordsOf, words}
+use Rattle.list.proofs.ListLaws.{all-app, all-app₃, all-app₄, all-each, flat-app, flat-one, flat-each, each-cong, each-add}
+use Rattle.list.proofs.Pieces.{clauses-pieces, end-piece, start-piece, state-piece, groups-piece, invariants-piece}
+use Rattle.list.proofs.Pieces.{step-piece, choice-piece, delays-piece, edges-piece}
+use Rattle.parts.specs.declared.Rule.the-variants.{Set}
+use Rattle.parts.specs.declared.GroupTable.{GroupTable}
+use Rattle.parts.specs.Rules.{partClauses}
+use Rattle.parts.specs.StateBlock.{groupTable}
+use Rattle.parts.specs.PartsOf.{setPart}
+use Rattle.parts.specs.Pieces.{Known, edgePiece, edgeClauses}
+use Rattle.parts.proofs.EdgeParts.{source-part, target-part, guard-part}
+use Rattle.parts.proofs.PartPieces.{set-is, delay-law}
+use Rattle.parts.proofs.KnownLaws.{known-bounded, known-groups, known-state, location-piece-of, edge-piece-of}
+use Rattle.counts.specs.KnownCounts.{mostClauses, mostWords}
+use Rattle.counts.specs.WrittenPieces.{mostPieceWords, pieceWords, statePieces, startPieces, stepPieces, pieces}
+use Rattle.counts.proofs.CountLaws.{counted-one, Most, by-count, most-as, most-app, most-few}
+use Rattle.counts.proofs.GroupLaws.{counted-group, group-16, group-32, group-64}
+use Rattle.counts.proofs.PartLaws.{part-most}
+use Rattle.counts.proofs.EdgeLaws.{edge-small, atom-most, atoms-most}
+use Rattle.counts.proofs.ListTotals.{initial-counted, delay-counted}
 
--- ---- at most so many clauses and words
-record Most (p : List Item) (clauses words : ℕ) : Type 0 where
-  clauses-most : length (clausesOf p) ≤ clauses
-  words-most : pieceWords p ≤ words
+-- ---- the pieces of a well-formed model
+module _ (m : Model) (h : T (wellFormed m)) where
+  abbrev ok : WellFormed m
+  ok = formed m h
 
-itself : (p : List Item) → Sized p (length (clausesOf p)) (pieceWords p)
-itself p = record { clauses-are = refl; words-are = refl }
+  abbrev b : GroupTable
+  b = groupTable m
 
-by-size : {p : List Item} {a b c w : ℕ} → Sized p a b → a ≤ c → b ≤ w → Most p c w
-by-size s l h = record { clauses-most = omega (arith, s .clauses-are); words-most = omega (arith, s .words-are) }
+  known : Known m b
+  known = record { formed = h; is = refl }
 
-most-app : (x y : List Item) {a b c d : ℕ} → Most x a b → Most y c d → Most (x ++ y) (a + c) (b + d)
-most-app x y p q =
-    let s = sized-app (itself x) (itself y) in
-    record { clauses-most = omega (arith, p .clauses-most, q .clauses-most, s .clauses-are); words-most = omega (arith, p .words-most, q .words-most, s .words-are) }
+  -- a source or a target: one clause of two literals
+  set-most : (x z w u : ℕ) → Most (partClauses x (setPart z w (Set u))) 1 3
+  set-most x z w u = most-as (sym (set-is x z w (Set u))) (by-count (counted-one _) (omega arith) (omega arith))
 
-most-each : (f : ℕ → List Item) (c w n : ℕ) → ((i : ℕ) → i < n → Most (f i) c w) → Most (each n f) (n * c) (n * w)
-most-each f c w zero h = subst (λ (l : List Item). Most l (0 * c) (0 * w)) (sym (each-zero f)) (by-size sized-none (omega arith) (omega arith))
-most-each f c w (suc n) h =
-    let p = most-app (each n f) (f n) (most-each f c w n (λ i l. h i (omega arith))) (h n (omega arith)) in
-    subst (λ (l : List Item). Most l (suc n * c) (suc n * w)) (sym (each-suc n f))
-    (record { clauses-most = omega (arith, p .clauses-most, suc-mul n c); words-most = omega (arith, p .words-most, suc-mul n w) })
+  -- source and target, four atoms, at most eight groups
+  pub edge-most : (o e : ℕ) → e < m .used → Most (clausesOf (edgeOf oneHotWidth m o e)) 386 1414
+  unfolding edgeClauses
+  edge-most o e l =
+      most-as (sym parts ∙ edge-piece-of known o x e l refl)
+      (most-app _ _ (most-app _ _ (most-few F 1 3 2 2 (omega arith) ends)
+      (most-few (λ j. F (2 + j)) 32 96 4 4 (omega arith)
+      (λ j p. most-as (ap (partClauses x) (sym (guard-part b (edgeAt m e) o j p))) (atom-most b (known-bounded known) o x (atomAt (edgeAt m e .guard) j)))))
+      (most-few (λ i. F (6 + i)) 32 128 (m .vars + m .clocks) 8 (omega (arith, ok .vars-le, ok .clocks-le))
+      (λ i p. part-most x _ (edge-small b (known-bounded known) o (edgeAt m e) (6 + i)))))
+    where
+      x : ℕ
+      x = o + stateSize m + (ceiling m + 1 + e)
 
--- a pieces at most
-most-few : (f : ℕ → List Item) (c w n a : ℕ) → n ≤ a → ((i : ℕ) → i < n → Most (f i) c w) → Most (each n f) (a * c) (a * w)
-most-few f c w n a l h =
-    let p = most-each f c w n h in
-    let r : c ≤ c = omega arith in
-    let t : w ≤ w = omega arith in
-    record { clauses-most = omega (arith, p .clauses-most, mul-le-mul l r); words-most = omega (arith, p .words-most, mul-le-mul l t) }
+      F : ℕ → List Clause
+      F = edgePiece x b (edgeAt m e) o
 
--- ---- groups of up to 16, 32 and 64 members
-module _ (b n : ℕ) where
-  group-16 : n ≤ 16 → Most (group b n ∷ []) 121 377
-  group-16 l = let r : n ≤ n = omega arith in by-size (sized-group b n) (omega (arith, mul-le-mul l r)) (omega (arith, mul-le-mul l r))
+      parts : each (b .groups + 5) F ≡ each 2 F ++ each 4 (λ j. F (2 + j)) ++ each (m .vars + m .clocks) (λ i. F (6 + i))
+      parts =
+          let n : b .groups + 5 ≡ 6 + (m .vars + m .clocks) = omega (arith, known-groups known) in
+          let k = m .vars + m .clocks in
+          ap (λ (i : ℕ). each i F) n ∙ each-add 6 k F ∙ ap (λ (l : List Clause). l ++ each k (λ i. F (6 + i))) (each-add 2 4 F)
 
-  group-32 : n ≤ 32 → Most (group b n ∷ []) 497 1521
-  group-32 l = let r : n ≤ n = omega arith in by-size (sized-group b n) (omega (arith, mul-le-mul l r)) (omega (arith, mul-le-mul l r))
+      ends : (j : ℕ) → j < 2 → Most (F j) 1 3
+      ends zero p = most-as (ap (partClauses x) (sym (source-part b (edgeAt m e) o))) (set-most x _ _ (edgeAt m e .source))
+      ends (suc zero) p = most-as (ap (partClauses x) (sym (target-part b (edgeAt m e) o))) (set-most x _ _ (edgeAt m e .target))
+      ends (suc (suc j)) p = absurd (omega arith)
 
-  group-64 : n ≤ 64 → Most (group b n ∷ []) 2017 6113
-  group-64 l = let r : n ≤ n = omega arith in by-size (sized-group b n) (omega (arith, mul-le-mul l r)) (omega (arith, mul-le-mul l r))
+  pub invariant-most : (o l : ℕ) → l < m .locations → Most (clausesOf (invariantOf oneHotWidth m o l)) 128 384
+  invariant-most o l p = most-as (location-piece-of known o l p) (atoms-most b (known-bounded known) o (o + l) (invariantAt m l) 4 (omega arith))
 
--- ---- atoms
-module _ (m : Model) (ok : WellFormed m) (o : ℕ) (y : Member) where
-  one-value : (x : Component) (v : ℕ) (b : Bool) → Most (cond b [] (rule ((y ∷ []) ++ (stateMember oneHotWidth m o x v ∷ [])) none ∷ [])) 1 3
-  one-value x v true = by-size sized-none (omega arith) (omega arith)
-  one-value x v false = by-size (sized-rule (y ∷ stateMember oneHotWidth m o x v ∷ []) none) (omega arith) (omega arith)
+  counter-most : (first i : ℕ) → i < m .vars → Most (groupClauses first (groupSize m (counter i))) 497 1521
+  counter-most first i l = group-32 first (groupSize m (counter i)) (omega (arith, ok .greatest-le i l))
 
-  atom-most : (a : Atom) → DeclaredAtom m a → Most (excludeFailing oneHotWidth m o (y ∷ []) a) 32 96
-  atom-most Blank d = by-size sized-none (omega arith) (omega arith)
-  atom-most (OnClock x rel k) d =
-      most-few (excludeValue oneHotWidth m o (y ∷ []) (clock x) rel k) 1 3 (ceiling m + 1) 32 (omega (arith, ok .ceiling-le))
-      (λ v l. one-value (clock x) v (meets rel v k))
-  atom-most (OnCounter x rel k) d =
-      most-few (excludeValue oneHotWidth m o (y ∷ []) (counter x) rel k) 1 3 (counterAt m x .greatest + 1) 32 (omega (arith, ok .greatest-le x d))
-      (λ v l. one-value (counter x) v (meets rel v k))
+  clock-most : (first i : ℕ) → Most (groupClauses first (groupSize m (clock i))) 497 1521
+  clock-most first i = group-32 first (groupSize m (clock i)) (omega (arith, ok .ceiling-le))
 
-  atoms-most : (atoms : List AtomSlot) → ((k : ℕ) → k < 4 → DeclaredAtom m (atomAt atoms k)) → Most (excludeAllFailing oneHotWidth m o (y ∷ []) atoms) 128 384
-  atoms-most atoms d = most-each (λ k. excludeFailing oneHotWidth m o (y ∷ []) (atomAt atoms k)) 32 96 4 (λ k l. atom-most (atomAt atoms k) (d k l))
+  delay-most : (o d : ℕ) → Most (clausesOf (delayItems oneHotWidth m o d)) 272 1088
+  delay-most o d =
+      most-as (delay-law m ok o d) (by-count (delay-counted known (o + stateWidth oneHotWidth m + d) o d)
+      (omega (arith, known-state known, stateSize-le m ok)) (omega (arith, known-state known, stateSize-le m ok)))
 
--- ---- an edge
-one-or-none : {A : Type 0} (x : Option A) → length (toList x) ≤ 1
-one-or-none none = omega arith
-one-or-none (some a) = omega arith
+  initial-most : Most (clausesOf (initialItems oneHotWidth m)) 9 18
+  initial-most =
+      let n : b .groups ≤ 9 = omega (arith, known-groups known, ok .vars-le, ok .clocks-le) in
+      by-count (initial-counted known) n (omega (arith, n))
 
-module _ (m : Model) (ok : WellFormed m) (o c : ℕ) where
-  leads-most : (x z : Component) (f : ℕ → Option ℕ) (n : ℕ) → n ≤ 32 → Most (each n (lead m o c x z f)) 32 128
-  leads-most x z f n l =
-      most-few (lead m o c x z f) 1 4 n 32 l (λ v p. by-size (lead-size m o c x z f v) (omega arith) (omega (arith, one-or-none (f v))))
+  end-most : (k : ℕ) → Most (clausesOf (endItems oneHotWidth m k)) 1 2
+  end-most k = most-as (sym (end-piece m k)) (by-count (counted-one _) (omega arith) (omega arith))
 
-  puts-most : (x : Component) (v : Option ℕ) → Most (puts oneHotWidth m o c x v) 32 128
-  puts-most x v = by-size (puts-size m o c x v) (omega arith) (omega (arith, one-or-none v))
+  choice-most : (o : ℕ) → Most (clausesOf (choiceItems oneHotWidth m o)) 2017 6113
+  choice-most o = most-as (sym (choice-piece m o)) (group-64 _ (choices m) (choices-le m ok))
 
-  update-most : (i : ℕ) → i < m .vars → (u : Update) → DeclaredUpdate m u → Most (updateItems oneHotWidth m o c i u) 32 128
-  update-most i l Keep d = leads-most (counter i) (counter i) some (counterAt m i .greatest + 1) (omega (arith, ok .greatest-le i l))
-  update-most i l (Constant n) d = puts-most (counter i) (inRange (counterAt m i .greatest) n)
-  update-most i l (Sum w z) d =
-      leads-most (counter w) (counter i) (shifted z (counterAt m i .greatest)) (counterAt m w .greatest + 1) (omega (arith, ok .greatest-le w d))
+  -- ---- a stretch of invariants, of edges
+  pub invariants-most : (o n : ℕ) → n ≤ m .locations → Most (each n (λ l. clausesOf (invariantOf oneHotWidth m o l))) 2048 6144
+  invariants-most o n l =
+      most-few (λ l. clausesOf (invariantOf oneHotWidth m o l)) 128 384 n 16 (omega (arith, ok .locations-le)) (λ i p. invariant-most o i (omega arith))
 
-  reset-most : (i : ℕ) (u : ClockUpdate) → Most (resetItems oneHotWidth m o c i u) 32 128
-  reset-most i Unchanged = leads-most (clock i) (clock i) some (ceiling m + 1) (omega (arith, ok .ceiling-le))
-  reset-most i Reset = puts-most (clock i) (some 0)
+  pub edges-most : (o n : ℕ) → n ≤ m .used → Most (each n (λ e. clausesOf (edgeOf oneHotWidth m o e))) 12352 45248
+  edges-most o n l = most-few (λ e. clausesOf (edgeOf oneHotWidth m o e)) 386 1414 n 32 (omega (arith, ok .used-le)) (λ e p. edge-most o e (omega arith))
 
-  edge-most : (e : Edge) → WellFormedEdge m e → Most (edgeItems oneHotWidth m o c e) 386 1414
-  unfolding edgeItems sourceItems targetItems guardItems updatesItems resetsItems
-  edge-most e w =
-      most-app _ _
-      (most-app _ _
-      (most-app _ _
-      (most-app _ _ {a = 1} {b = 3} {c = 1} {d = 3}
-      (by-size (sized-rule (choiceMember oneHotWidth m o c ∷ []) (some (stateMember oneHotWidth m o loc (e .source)))) (omega arith) (omega arith))
-      (by-size (sized-rule (choiceMember oneHotWidth m o c ∷ []) (some (stateMember oneHotWidth m (nextBlock oneHotWidth m o) loc (e .target)))) (omega arith) (omega arith)))
-      (atoms-most m ok o (choiceMember oneHotWidth m o c) (e .guard) (w .guard-ok)))
-      (most-few (λ i. updateItems oneHotWidth m o c i (updateAt e i)) 32 128 (m .vars) 4 (ok .vars-le) (λ i l. update-most i l (updateAt e i) (w .sets-ok i l))))
-      (most-few (λ i. resetItems oneHotWidth m o c i (resetAt e i)) 32 128 (m .clocks) 4 (ok .clocks-le) (λ i l. reset-most i (resetAt e i)))
-
--- ---- the other pieces, and the whole list
-module _ (m : Model) (ok : WellFormed m) where
-  invariant-most : (o l : ℕ) → l < m .locations → Most (invariantOf oneHotWidth m o l) 128 384
-  invariant-most o l p = atoms-most m ok o (stateMember oneHotWidth m o loc l) (invariantAt m l) (ok .invariant-ok l p)
-
-  counter-most : (b i : ℕ) → i < m .vars → Most (group b (groupSize m (counter i)) ∷ []) 497 1521
-  counter-most b i l = group-32 b (groupSize m (counter i)) (omega (arith, ok .greatest-le i l))
-
-  clock-most : (b i : ℕ) → Most (group b (groupSize m (clock i)) ∷ []) 497 1521
-  clock-most b i = group-32 b (groupSize m (clock i)) (omega (arith, ok .ceiling-le))
-
-  delay-most : (o d : ℕ) → Most (delayItems oneHotWidth m o d) 272 1088
-  delay-most o d = by-size (delay-size m o d) (stateSize-le m ok) (omega (arith, stateSize-le m ok))
-
-  initial-most : Most (initialItems oneHotWidth m) 9 18
-  initial-most = by-size (initial-size m) (omega (arith, ok .vars-le, ok .clocks-le)) (omega (arith, ok .vars-le, ok .clocks-le))
-
-  end-most : (k : ℕ) → Most (endItems oneHotWidth m k) 1 2
-  unfolding endItems
-  end-most k = by-size (sized-rule [] (some (stateMember oneHotWidth m (blockAt oneHotWidth m k) loc (m .target)))) (omega arith) (omega arith)
-
-  state-most : (o : ℕ) → Most (stateItems oneHotWidth m o) 6145 18689
-  unfolding stateItems groupItems invariantItems
+  -- ---- state clauses, a step, the whole list
+  pub state-most : (o : ℕ) → Most (clausesOf (stateItems oneHotWidth m o)) 6145 18689
   state-most o =
-      most-app _ _
-      (most-app _ _
-      (most-app _ _ (group-16 _ (m .locations) (ok .locations-le)) (most-few _ 497 1521 (m .vars) 4 (ok .vars-le) (λ i l. counter-most _ i l)))
-      (most-few _ 497 1521 (m .clocks) 4 (ok .clocks-le) (λ i l. clock-most _ i)))
-      (most-few _ 128 384 (m .locations) 16 (ok .locations-le) (λ l p. invariant-most o l p))
+      most-as (sym (state-piece m o))
+      (most-app _ _ (most-as (sym (groups-piece m o))
+      (most-app _ _ (most-app _ _ (group-16 _ (m .locations) (ok .locations-le))
+      (most-few _ 497 1521 (m .vars) 4 (ok .vars-le) (λ i l. counter-most _ i l)))
+      (most-few _ 497 1521 (m .clocks) 4 (ok .clocks-le) (λ i l. clock-most _ i))))
+      (most-as (sym (invariants-piece m o)) (invariants-most o (m .locations) (omega arith))))
 
-  step-most : (o : ℕ) → Most (stepItems oneHotWidth m o) 29218 104866
-  unfolding stepItems choiceItems delaysItems edgesItems
-  step-most o =
-      most-app _ _
-      (most-app _ _
-      (most-app _ _ (group-64 _ (choices m) (choices-le m ok)) (most-few _ 272 1088 (ceiling m + 1) 32 (omega (arith, ok .ceiling-le)) (λ d l. delay-most o d)))
-      (most-few _ 386 1414 (m .used) 32 (ok .used-le) (λ e l. edge-most m ok o (ceiling m + 1 + e) (edgeAt m e) (ok .edge-ok e l))))
-      (state-most (nextBlock oneHotWidth m o))
+  pub moves-most : (o : ℕ)
+      → Most (clausesOf (choiceItems oneHotWidth m o) ++ clausesOf (delaysItems oneHotWidth m o) ++ clausesOf (edgesItems oneHotWidth m o)) 23073 86177
+  moves-most o =
+      most-app _ _ (most-app _ _ (choice-most o) (most-as (sym (delays-piece m o))
+      (most-few _ 272 1088 (ceiling m + 1) 32 (omega (arith, ok .ceiling-le)) (λ d l. delay-most o d))))
+      (most-as (sym (edges-piece m o)) (edges-most o (m .used) (omega arith)))
 
-  list-most : (k : ℕ) → k ≤ 64 → Most (items oneHotWidth m k) 1876107 6730133
-  unfolding items bodyItems startItems
-  list-most k h =
-      most-app _ _
-      (most-app _ _ (most-app _ _ (state-most 0) initial-most) (most-few _ 29218 104866 k 64 h (λ t l. step-most (blockAt oneHotWidth m t))))
-      (end-most k)
+  step-most : (o : ℕ) → Most (clausesOf (stepItems oneHotWidth m o)) 29218 104866
+  step-most o = most-as (sym (step-piece m o)) (most-app _ _ (moves-most o) (state-most (nextBlock oneHotWidth m o)))
+
+  pub list-most : (k : ℕ) → k ≤ 64 → Most (clauses m k) mostClauses mostWords
+  list-most k l =
+      most-as (sym (clauses-pieces m k))
+      (most-app _ _ (most-app _ _ (most-as (sym (start-piece m)) (most-app _ _ (state-most 0) initial-most))
+      (most-few _ 29218 104866 k 64 l (λ t p. step-most (blockAt oneHotWidth m t)))) (end-most k))
 
 -- The list of a well-formed model for a bound of at most 64 has at most so many clauses and words.
-pub list-clauses-most : (m : Model) → T (wellFormed m) → (k : ℕ) → k ≤ 64 → length (clauses m k) ≤ 1876107
-unfolding clauses
-list-clauses-most m h k l = list-most m (formed m h) k l .clauses-most
+pub list-clauses-most : (m : Model) → T (wellFormed m) → (k : ℕ) → k ≤ 64 → length (clauses m k) ≤ mostClauses
+list-clauses-most m h k l = list-most m h k l .clauses-most
 
-pub list-words-most : (m : Model) → T (wellFormed m) → (k : ℕ) → k ≤ 64 → length (words m k) ≤ 6730133
-unfolding clauses words
-list-words-most m h k l = list-most m (formed m h) k l .words-most
+pub list-words-most : (m : Model) → T (wellFormed m) → (k : ℕ) → k ≤ 64 → length (words m k) ≤ mostWords
+unfolding words
+list-words-most m h k l = list-most m h k l .words-most
 
 -- ---- each piece
 abbrev Short : List Item → Type 0
-Short p = pieceWords p ≤ 6113
+Short p = pieceWords p ≤ mostPieceWords
 
-short : {p : List Item} {c w : ℕ} → Most p c w → w ≤ 6113 → Short p
-short s l = omega (arith, s .words-most)
+short : (p : List Item) {c w : ℕ} → Most (clausesOf p) c w → w ≤ mostPieceWords → Short p
+short p s l = omega (arith, s .words-most)
 
 shorts : (n : ℕ) (f : ℕ → List Item) → ((i : ℕ) → i < n → Short (f i)) → All Short (each n (λ i. f i ∷ []))
 shorts n f h = all-each Short n (λ i. f i ∷ []) .1 (λ i l. (h i l, tt))
 
-module _ (m : Model) (ok : WellFormed m) where
+-- a group alone
+group-short : (first n : ℕ) {c w : ℕ} → Most (groupClauses first n) c w → w ≤ mostPieceWords → Short (group first n ∷ [])
+group-short first n s l = short (group first n ∷ []) (most-as (sym (flat-one expand (group first n))) s) l
+
+module _ (m : Model) (h : T (wellFormed m)) where
+  abbrev formed-ok : WellFormed m
+  formed-ok = formed m h
+
   state-short : (o : ℕ) → All Short (statePieces m o)
   unfolding statePieces
   state-short o =
@@ -204,41 +171,39 @@ module _ (m : Model) (ok : WellFormed m) where
       let v : ℕ → List Item = invariantOf oneHotWidth m o in
       all-app Short (overComponents m (λ x. g x ∷ [])) (each (m .locations) (λ l. v l ∷ [])) .1 (
         all-app₃ Short (g loc ∷ []) (each (m .vars) (λ i. g (counter i) ∷ [])) (each (m .clocks) (λ i. g (clock i) ∷ [])) .1 (
-          (short (group-16 _ (m .locations) (ok .locations-le)) (omega arith), tt),
-          shorts (m .vars) (λ i. g (counter i)) (λ i l. short (counter-most m ok _ i l) (omega arith)),
-          shorts (m .clocks) (λ i. g (clock i)) (λ i l. short (clock-most m ok _ i) (omega arith)),
+          (group-short _ _ (group-16 _ (m .locations) (formed-ok .locations-le)) (omega arith), tt),
+          shorts (m .vars) (λ i. g (counter i)) (λ i l. group-short _ _ (counter-most m h _ i l) (omega arith)),
+          shorts (m .clocks) (λ i. g (clock i)) (λ i l. group-short _ _ (clock-most m h _ i) (omega arith)),
         ),
-        shorts (m .locations) v (λ l p. short (invariant-most m ok o l p) (omega arith)),
+        shorts (m .locations) v (λ l p. short _ (invariant-most m h o l p) (omega arith)),
       )
 
   step-short : (o : ℕ) → All Short (stepPieces m o)
-  unfolding stepPieces choiceItems
+  unfolding stepPieces
   step-short o =
       all-app₄ Short (choiceItems oneHotWidth m o ∷ []) (each (ceiling m + 1) (λ d. delayItems oneHotWidth m o d ∷ []))
       (each (m .used) (λ e. edgeOf oneHotWidth m o e ∷ [])) (statePieces m (nextBlock oneHotWidth m o)) .1 (
-        (short (group-64 _ (choices m) (choices-le m ok)) (omega arith), tt),
-        shorts (ceiling m + 1) (delayItems oneHotWidth m o) (λ d l. short (delay-most m ok o d) (omega arith)),
-        shorts (m .used) (edgeOf oneHotWidth m o)
-            (λ e l. short (edge-most m ok o (ceiling m + 1 + e) (edgeAt m e) (ok .edge-ok e l)) (omega arith)),
+        (short _ (choice-most m h o) (omega arith), tt),
+        shorts (ceiling m + 1) (delayItems oneHotWidth m o) (λ d l. short _ (delay-most m h o d) (omega arith)),
+        shorts (m .used) (edgeOf oneHotWidth m o) (λ e l. short _ (edge-most m h o e l) (omega arith)),
         state-short (nextBlock oneHotWidth m o),
       )
 
 -- Of a well-formed model, no piece that emission writes at once has more than 6,113 words.
-pub piece-words-most : (m : Model) → T (wellFormed m) → (k : ℕ) → All (λ p. pieceWords p ≤ 6113) (pieces m k)
+pub piece-words-most : (m : Model) → T (wellFormed m) → (k : ℕ) → All (λ p. pieceWords p ≤ mostPieceWords) (pieces m k)
 unfolding pieces startPieces
 piece-words-most m h k =
-    let ok = formed m h in
     all-app₃ Short (startPieces m) (each k (λ t. stepPieces m (blockAt oneHotWidth m t))) (endItems oneHotWidth m k ∷ []) .1 (
-      all-app Short (statePieces m 0) (initialItems oneHotWidth m ∷ []) .1 (state-short m ok 0, (short (initial-most m ok) (omega arith), tt)),
-      all-each Short k (λ t. stepPieces m (blockAt oneHotWidth m t)) .1 (λ t l. step-short m ok (blockAt oneHotWidth m t)),
-      (short (end-most m ok k) (omega arith), tt),
+      all-app Short (statePieces m 0) (initialItems oneHotWidth m ∷ []) .1 (state-short m h 0, (short _ (initial-most m h) (omega arith), tt)),
+      all-each Short k (λ t. stepPieces m (blockAt oneHotWidth m t)) .1 (λ t l. step-short m h (blockAt oneHotWidth m t)),
+      (short _ (end-most m h k) (omega arith), tt),
     )
 
 -- The group of 64 choices has just as many.
-pub choice-words : (m : Model) (o : ℕ) → choices m ≡ 64 → pieceWords (choiceItems oneHotWidth m o) ≡ 6113
-unfolding choiceItems
+pub choice-words : (m : Model) (o : ℕ) → choices m ≡ 64 → pieceWords (choiceItems oneHotWidth m o) ≡ mostPieceWords
 choice-words m o e =
-    ap (λ (n : ℕ). pieceWords (group (o + stateWidth oneHotWidth m) n ∷ [])) e ∙ sym (sized-group (o + stateWidth oneHotWidth m) 64 .words-are)
+    ap (λ (l : List Clause). length (wordsOf l)) (choice-piece m o ∙ ap (groupClauses (o + stateWidth oneHotWidth m)) e) ∙ sym
+    (counted-group (o + stateWidth oneHotWidth m) 64 .words-are)
 
 -- ---- the pieces, one after the other, are the list
 abbrev joined : List (List Item) → List Item
@@ -277,5 +242,6 @@ pieces-joined m k =
     let step : ℕ → List (List Item) = λ t. stepPieces m (blockAt oneHotWidth m t) in
     join-app _ _
     (join-app _ _ (join-app _ _ (state-joined m 0) (flat-one (λ p. p) (initialItems oneHotWidth m)))
-    (flat-each (λ p. p) k step ∙ each-cong k (λ t. joined (step t)) (λ t. stepItems oneHotWidth m (blockAt oneHotWidth m t)) (λ t l. step-joined m (blockAt oneHotWidth m t))))
+    (flat-each (λ p. p) k step ∙ each-cong k (λ t. joined (step t)) (λ t. stepItems oneHotWidth m (blockAt oneHotWidth m t))
+    (λ t l. step-joined m (blockAt oneHotWidth m t))))
     (flat-one (λ p. p) (endItems oneHotWidth m k))

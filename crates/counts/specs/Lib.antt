@@ -1,3 +1,6 @@
+pub mod Counted
+pub mod PartCounts
 pub mod KnownCounts
 pub mod CountsCall
-pub mod Pieces
+pub mod Tables
+pub mod WrittenPieces

@@ -1,28 +1,34 @@
 // The totals of the clause list, by formula: start, the bound times one step, end.
+use edge::atoms_count;
+use edge::edge_count;
 use form::well_formed;
-use model::Counter;
+use group::group_count;
+use group::groups_count;
 use model::Model;
 use model::Sizes;
-use piece_counts::Count;
-use piece_counts::atoms_count;
-use piece_counts::counter_size;
-use piece_counts::edge_count;
-use piece_counts::group_count;
+use parts::GroupTable;
+use parts::group_table;
 ghost use mathlib.Core.Path.{_≡_};
-ghost use mathlib.Core.List.{[], _∷_, _++_};
-ghost use Prim.Native.Nat.{ℕ, _+_, _≤_};
-ghost use lib.Dec.{T};
-ghost use lib.ListN.{getD};
-ghost use Rattle.model.specs.Indexed.{each};
-ghost use Rattle.model.specs.Record.{blankCounter};
-ghost use Rattle.model.specs.Automaton.{ceiling};
+ghost use mathlib.Core.List.{_++_};
+ghost use Prim.Native.Nat.{ℕ, _≤_};
 ghost use Rattle.model.specs.Bounds.{KnownSizes};
-ghost use Rattle.model.specs.Form.{wellFormed};
-ghost use Rattle.list.specs.Items.{group, groupItems, invariantItems, stateItems, choiceItems, delaysItems, edgesItems};
-ghost use Rattle.list.specs.Clauses.{oneHotWidth};
-ghost use Rattle.piece_counts.specs.Sized.{Sized};
+ghost use Rattle.list.specs.Items.{invariantItems, stateItems, choiceItems, delaysItems, edgesItems};
+ghost use Rattle.list.specs.Clauses.{oneHotWidth, clausesOf};
+ghost use Rattle.parts.specs.Pieces.{Known};
+ghost use Rattle.counts.specs.Counted.{Counted};
 ghost use Rattle.counts.specs.KnownCounts.{KnownCounts};
 ghost use Rattle.counts.specs.CountsCall.{listTold, listReport};
+
+mod edge;
+mod group;
+mod part;
+pub mod tables;
+
+// How many clauses and words a piece of the list has.
+pub struct Count {
+    pub clauses: usize,
+    pub words: usize,
+}
 
 pub struct ListCounts {
     pub variables: usize,
@@ -40,49 +46,33 @@ pub enum CountsAnswer {
     },
 }
 
-// The group clauses of the counters.
-fn counter_groups(counters: [Counter; 4], vars: u8) -> Count
-    requires { ⌜ vars ≤ 4 ⌝ }
-    ensures { λ r. ⌜ ((b : ℕ → ℕ) → Sized (each vars (λ i. group (b i) (getD counters i blankCounter .greatest + 1) ∷ [])) (r .clauses) (r .words)) × (r .clauses ≤ 132000) × (r .words ≤ 396000) ⌝ }
-{
-    let mut clauses: usize = 0;
-    let mut words: usize = 0;
-    for i in 0..vars as usize {
-        let g = group_count(counter_size(counters, i));
-        clauses += g.clauses;
-        words += g.words;
-    }
-    Count { clauses, words }
-}
-
-// The group clauses of a state.
-fn state_groups(m: Model, top: usize) -> Count
-    requires { ⌜ T (wellFormed m) × (ceiling m ≡ top) ⌝ }
-    ensures { λ r. ⌜ ((o : ℕ) → Sized (groupItems oneHotWidth m o) (r .clauses) (r .words)) × (r .clauses ≤ 297000) × (r .words ≤ 891000) ⌝ }
-{
-    let l = group_count(m.locations as usize);
-    let counters = m.counters;
-    let v = counter_groups(counters, m.vars);
-    let x = group_count(top + 1);
-    let clocks = m.clocks as usize;
-    Count {
-        clauses: l.clauses + v.clauses + clocks * x.clauses,
-        words: l.words + v.words + clocks * x.words,
+impl CountsAnswer {
+    pub fn number(self) -> u8
+        ensures { λ r. ⌜ r ≡ listTold self .number ⌝ }
+    {
+        match self {
+            CountsAnswer::NotWellFormed => 20,
+            CountsAnswer::BoundTooLarge => 21,
+            CountsAnswer::Counts {
+                variables: _,
+                clauses: _,
+                words: _,
+            } => 0,
+        }
     }
 }
 
 // For each location, the values that fail its invariant.
-fn invariants_count(m: Model, top: usize) -> Count
-    requires { ⌜ T (wellFormed m) × (ceiling m ≡ top) ⌝ }
-    ensures { λ r. ⌜ ((o : ℕ) → Sized (invariantItems oneHotWidth m o) (r .clauses) (r .words)) × (r .clauses ≤ 16384) × (r .words ≤ 49152) ⌝ }
+fn invariants_count(m: Model, b: GroupTable) -> Count
+    requires { ⌜ Known m b ⌝ }
+    ensures { λ r. ⌜ ((o : ℕ) → Counted (clausesOf (invariantItems oneHotWidth m o)) (r .clauses) (r .words)) ⌝ }
 {
-    let counters = m.counters;
     let mut clauses: usize = 0;
     let mut words: usize = 0;
     for l in 0..m.locations as usize {
         let v = m.invariants[l];
         let atoms = v.atoms;
-        let a = atoms_count(atoms, counters, top);
+        let a = atoms_count(b, atoms);
         clauses += a.clauses;
         words += a.words;
     }
@@ -90,12 +80,12 @@ fn invariants_count(m: Model, top: usize) -> Count
 }
 
 // The state clauses of one state.
-fn state_count(m: Model, top: usize) -> Count
-    requires { ⌜ T (wellFormed m) × (ceiling m ≡ top) ⌝ }
-    ensures { λ r. ⌜ ((o : ℕ) → Sized (stateItems oneHotWidth m o) (r .clauses) (r .words)) × (r .clauses ≤ 313384) × (r .words ≤ 940152) ⌝ }
+fn state_count(m: Model, b: GroupTable) -> Count
+    requires { ⌜ Known m b ⌝ }
+    ensures { λ r. ⌜ ((o : ℕ) → Counted (clausesOf (stateItems oneHotWidth m o)) (r .clauses) (r .words)) ⌝ }
 {
-    let g = state_groups(m, top);
-    let i = invariants_count(m, top);
+    let g = groups_count(b);
+    let i = invariants_count(m, b);
     Count {
         clauses: g.clauses + i.clauses,
         words: g.words + i.words,
@@ -103,18 +93,15 @@ fn state_count(m: Model, top: usize) -> Count
 }
 
 // The edges of one step.
-fn edges_count(m: Model, top: usize) -> Count
-    requires { ⌜ T (wellFormed m) × (ceiling m ≡ top) ⌝ }
-    ensures { λ r. ⌜ ((o : ℕ) → Sized (edgesItems oneHotWidth m o) (r .clauses) (r .words)) × (r .clauses ≤ 98368) × (r .words ≤ 360640) ⌝ }
+fn edges_count(m: Model, b: GroupTable) -> Count
+    requires { ⌜ Known m b ⌝ }
+    ensures { λ r. ⌜ ((o : ℕ) → Counted (clausesOf (edgesItems oneHotWidth m o)) (r .clauses) (r .words)) ⌝ }
 {
-    let counters = m.counters;
-    let vars = m.vars;
-    let clocks = m.clocks;
     let mut clauses: usize = 0;
     let mut words: usize = 0;
     for i in 0..m.used as usize {
         let e = m.edges[i];
-        let a = edge_count(e, counters, vars, clocks, top);
+        let a = edge_count(b, e);
         clauses += a.clauses;
         words += a.words;
     }
@@ -122,28 +109,27 @@ fn edges_count(m: Model, top: usize) -> Count
 }
 
 // One step less its state clauses: the choice, each delay (a clause of three literals for each member of a state), each edge.
-fn moves_count(m: Model, z: Sizes) -> Count
-    requires { ⌜ T (wellFormed m) × KnownSizes m z ⌝ }
-    ensures { λ r. ⌜ ((o : ℕ) → Sized (choiceItems oneHotWidth m o ++ delaysItems oneHotWidth m o ++ edgesItems oneHotWidth m o) (r .clauses) (r .words)) × (r .clauses ≤ 140072) × (r .words ≤ 494456) ⌝ }
+fn moves_count(m: Model, b: GroupTable) -> Count
+    requires { ⌜ Known m b ⌝ }
+    ensures { λ r. ⌜ ((o : ℕ) → Counted (clausesOf (choiceItems oneHotWidth m o) ++ clausesOf (delaysItems oneHotWidth m o) ++ clausesOf (edgesItems oneHotWidth m o)) (r .clauses) (r .words)) ⌝ }
 {
-    let c = group_count(z.choices);
-    let delays = (z.ceiling + 1) * z.state;
-    let e = edges_count(m, z.ceiling);
+    let c = group_count(b.choices);
+    let delays = (b.top as usize + 1) * b.state;
+    let e = edges_count(m, b);
     Count {
         clauses: c.clauses + delays + e.clauses,
         words: c.words + delays * 4 + e.words,
     }
 }
 
-// The totals of the list for an accepted record and bound.
-pub fn list_counts(m: Model, bound: usize) -> ListCounts
-    requires { ⌜ T (wellFormed m) × (bound ≤ 64) ⌝ }
+// The totals of the list for an accepted record and bound. `z` are the sizes of `m`, `b` its table.
+pub fn list_counts(m: Model, z: Sizes, b: GroupTable, bound: usize) -> ListCounts
+    requires { ⌜ KnownSizes m z × Known m b × (bound ≤ 64) ⌝ }
     ensures { λ r. ⌜ KnownCounts m bound r ⌝ }
 {
-    let z = m.sizes();
-    let s = state_count(m, z.ceiling);
-    let t = moves_count(m, z);
-    let initial = 1 + m.vars as usize + m.clocks as usize;
+    let s = state_count(m, b);
+    let t = moves_count(m, b);
+    let initial = b.groups;
     ListCounts {
         variables: z.state + bound * (z.state + z.choices),
         clauses: s.clauses + initial + bound * (t.clauses + s.clauses) + 1,
@@ -161,7 +147,9 @@ pub fn counts_of(m: Model, bound: usize) -> CountsAnswer
     if Model::STEPS < bound {
         return CountsAnswer::BoundTooLarge;
     }
-    let n = list_counts(m, bound);
+    let z = m.sizes();
+    let b = group_table(m, z);
+    let n = list_counts(m, z, b, bound);
     CountsAnswer::Counts {
         variables: n.variables,
         clauses: n.clauses,

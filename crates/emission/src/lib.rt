@@ -127,13 +127,13 @@ pub fn emit_within(m: Model, bound: usize, limit: usize, out: &mut [i32]) -> Emi
     if Model::STEPS < bound {
         return Emission::BoundTooLarge;
     }
-    let n = list_counts(m, bound);
+    let z = m.sizes();
+    let b = group_table(m, z);
+    let n = list_counts(m, z, b, bound);
     let words = n.words;
     if room < words {
         return Emission::BufferTooShort { words };
     }
-    let z = m.sizes();
-    let b = group_table(m, z);
     put_list(m, z, b, bound, out);
     Emission::Written {
         variables: n.variables,

@@ -188,7 +188,7 @@ module _ {m : Model} {b : GroupTable} (k : Known m b) where
           (delays-piece m o)
 
   -- a delay has a clause for each member
-  members-are : sumBelow (sizeAt b) (b .groups) ≡ b .state
+  pub members-are : sumBelow (sizeAt b) (b .groups) ≡ b .state
   members-are =
       subst (λ (x : GroupTable). sumBelow (sizeAt x) (x .groups) ≡ x .state) (sym (k .is))
       (ap (sumBelow (sizeAt (groupTable m))) (groups-are m) ∙ sum-same (sizeAt (groupTable m)) (λ g. groupSize m (componentAt m g)) (1 + m .vars + m .clocks)

@@ -8,7 +8,8 @@ use Rattle.model.specs.Indexed.{each}
 use Rattle.truth.proofs.Scans.{Passed, passed-then, passed-each, passed-each-none, failed-then, failed-each, passed-scan, failed-scan, checked-passed, checked-failed, checked-as, passed-as, failed-as}
 use Rattle.truth.proofs.Skips.{passed-over}
 use Rattle.list.proofs.Pieces.{state-piece}
-use Rattle.piece_tables.proofs.TableLaws.{slots-are}
+use Rattle.counts.specs.Tables.{mostInvariantClauses}
+use Rattle.counts.proofs.TableLaws.{slots-are}
 use Rattle.parts.specs.Pieces.{locationPiece}
 use Rattle.parts.proofs.KnownLaws.{wf, block-in, groups-piece-of, known-bounded, known-locations, invariant-fits, invariants-piece-of}
 use Rattle.checks.proofs.FalseChoices.{location-true, location-clauses}
@@ -18,7 +19,7 @@ use Rattle.checks.proofs.check_state.Statement.{statement}
 use Rattle.checks.proofs.check_state.Tie as tie
 
 abbrev Inv-loop : tie.InvT-loop
-Inv-loop b a o at m table n count₀ l₀ count l = (l ≤ n) × (count ≤ at + 37800 + l * 1024) × Passed a (each l (locationPiece m b o)) count₀ count
+Inv-loop b a o at m table n count₀ l₀ count l = (l ≤ n) × (count ≤ at + 37800 + l * mostInvariantClauses) × Passed a (each l (locationPiece m b o)) count₀ count
 
 abbrev μ-loop : tie.MeasureT-loop
 μ-loop b a o at m table n count₀ l₀ count l = n - l

@@ -1,45 +1,64 @@
+-- invariants_count: location after location.
 use native.Mathlib.Omega.{arith}
-use borrow.Author.Needs.{needs}
-use Rattle.piece_counts.proofs.SizedLaws.{sized-each-none, sized-each-more}
-use Rattle.piece_counts.specs.Sized.{Sized}
-use Rattle.list.specs.Clauses.{oneHotWidth}
-use Rattle.list.specs.Items.{stateMember, excludeAllFailing, invariantItems}
-use Rattle.model.proofs.FormLaws.{formed}
-use Rattle.model.specs.Automaton.{loc}
-use Rattle.model.specs.Record.{invariantAt}
+use Prim.Native.Nat.{ℕ, _+_, _-_, _≤_}
+use mathlib.Core.Path.{_≡_}
 use Rattle.model.specs.Indexed.{each}
-use mathlib.Core.Path.{_≡_, refl}
-use mathlib.Core.List.{[], _∷_}
-use Prim.Native.Nat.{_≤_, _-_, _*_, ℕ}
+use Rattle.model.proofs.FormLaws.{formed}
+use Rattle.list.specs.Items.{invariantOf}
+use Rattle.list.specs.Clauses.{oneHotWidth, clausesOf}
+use Rattle.parts.proofs.KnownLaws.{known-bounded}
+use Rattle.counts.specs.Counted.{Counted}
+use Rattle.counts.proofs.CountLaws.{counted-each-none, counted-each-more, Most, clauses-le, words-le}
+use Rattle.counts.proofs.ListTotals.{location-counted, invariants-counted}
+use Rattle.counts.proofs.PieceBounds.{invariants-most}
+use borrow.Author.Needs.{needs}
 use Rattle.counts.proofs.invariants_count.Statement.{statement}
 use Rattle.counts.proofs.invariants_count.Tie as tie
 
 abbrev Inv-loop : tie.InvT-loop
-Inv-loop top m counters clauses₀ words₀ l₀ l-end clauses words l = (l ≤ l-end) × (l-end ≡ m .locations) × (clauses ≤ l * 1024) × (words ≤ l * 3072) × ((o : ℕ) → Sized (each l (λ j. excludeAllFailing oneHotWidth m o (stateMember oneHotWidth m o loc j ∷ []) (invariantAt m j))) clauses words)
+Inv-loop b m clauses₀ words₀ l₀ l-end clauses words l =
+    (l ≤ l-end) × (l-end ≡ m .locations)
+    × ((o : ℕ) → Counted (each l (λ j. clausesOf (invariantOf oneHotWidth m o j))) clauses words)
 
 abbrev μ-loop : tie.MeasureT-loop
-μ-loop top m counters clauses₀ words₀ l₀ l-end clauses words l = l-end - l
+μ-loop b m clauses₀ words₀ l₀ l-end clauses words l = l-end - l
 
 cast-l-end : tie.Need-cast-l-end Inv-loop μ-loop
 cast-l-end c = search needs
 
 loop-holds : tie.Need-loop-holds Inv-loop μ-loop
-loop-holds c = (search needs, search needs, search needs, search needs, λ o. sized-each-none _)
+loop-holds c = (search needs, search needs, λ o. counted-each-none _)
 
 mul-v : tie.Need-mul-v Inv-loop μ-loop
-mul-v c = omega (arith, formed (c .before .before .before .args .t1) (c .before .before .before .pre .0) .locations-le)
+mul-v c = let p = c .before .before in omega (arith, formed (p .args .t1) (p .pre .formed) .locations-le)
 
 element-copy-out-v : tie.Need-element-copy-out-v Inv-loop μ-loop
-element-copy-out-v c = omega (arith, formed (c .before .before .before .args .t1) (c .before .before .before .pre .0) .locations-le)
+element-copy-out-v c = let p = c .before .before in omega (arith, formed (p .args .t1) (p .pre .formed) .locations-le)
 
 atoms-count-requires : tie.Need-atoms-count-requires Inv-loop μ-loop
-atoms-count-requires c κs = omega (arith, formed (c .before .before .before .before .before .args .t1) (c .before .before .before .before .before .pre .0) .ceiling-le, c .before .before .before .before .before .pre .1)
+atoms-count-requires c κs = known-bounded (c .before .before .before .before .pre)
+
+-- with one location more
+next : (c : tie.After-atoms-count Inv-loop μ-loop)
+    → let l = c .before .before .before .before .loop in let m = c .before .before .before .before .before .args .t1 in
+    (o : ℕ) → Counted (each (l .l + 1) (λ j. clausesOf (invariantOf oneHotWidth m o j)))
+    (l .clauses + c .atoms-count .result .clauses) (l .words + c .atoms-count .result .words)
+next c o =
+    let p = c .before .before .before .before in
+    counted-each-more _ (p .loop .inv .2 o) (location-counted (p .before .pre) (p .loop .l) (omega arith) (c .atoms-count .ensures) o)
+
+most : (c : tie.After-atoms-count Inv-loop μ-loop)
+    → let m = c .before .before .before .before .before .args .t1 in
+    Most (each (c .before .before .before .before .loop .l + 1) (λ j. clausesOf (invariantOf oneHotWidth m 0 j))) 2048 6144
+most c =
+    let p = c .before .before .before .before in
+    invariants-most (p .before .args .t1) (p .before .pre .formed) 0 (p .loop .l + 1) (omega arith)
 
 add-clauses : tie.Need-add-clauses Inv-loop μ-loop
-add-clauses c = omega (arith, formed (c .before .before .before .before .before .before .before .args .t1) (c .before .before .before .before .before .before .before .pre .0) .locations-le, c .before .atoms-count .ensures .1)
+add-clauses c = omega (arith, clauses-le (next (c .before) 0) (most (c .before)))
 
 add-words : tie.Need-add-words Inv-loop μ-loop
-add-words c = omega (arith, formed (c .before .before .before .before .before .before .before .before .args .t1) (c .before .before .before .before .before .before .before .before .pre .0) .locations-le, c .before .before .atoms-count .ensures .2)
+add-words c = omega (arith, words-le (next (c .before .before) 0) (most (c .before .before)))
 
 add-l : tie.Need-add-l Inv-loop μ-loop
 add-l c = search needs
@@ -48,13 +67,13 @@ loop-less : tie.Need-loop-less Inv-loop μ-loop
 loop-less c = search needs
 
 loop-again : tie.Need-loop-again Inv-loop μ-loop
-loop-again c = (search needs, search needs, omega (arith, c .before .before .atoms-count .ensures .1), omega (arith, c .before .before .atoms-count .ensures .2), λ o. sized-each-more _ (c .before .before .before .before .before .before .loop .inv .4 o) (c .before .before .atoms-count .ensures .0 (c .before .before .before .before .before .before .before .before .args .t1) o (stateMember oneHotWidth (c .before .before .before .before .before .before .before .before .args .t1) o loc (c .before .before .before .before .before .before .loop .l)) (record { counters-are = refl; ceiling-is = c .before .before .before .before .before .before .before .before .pre .1 })))
+loop-again c = (search needs, search needs, next (c .before .before))
 
 returns : tie.Need-returns Inv-loop μ-loop
-unfolding invariantItems
 returns c =
-    let done : c .before .loop .l ≡ c .before .before .before .args .t1 .locations = omega arith in
-    ((λ o. rw done at (c .before .loop .inv .4 o)), omega (arith, formed (c .before .before .before .args .t1) (c .before .before .before .pre .0) .locations-le), omega (arith, formed (c .before .before .before .args .t1) (c .before .before .before .pre .0) .locations-le))
+    let p = c .before .before in
+    let done : c .before .loop .l ≡ p .args .t1 .locations = omega arith in
+    λ o. invariants-counted (p .pre) o (rw done at (c .before .loop .inv .2 o))
 
 pub invariants-count-spec : {M : Type 1} → statement M
 invariants-count-spec =

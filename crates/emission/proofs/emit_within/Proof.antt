@@ -1,58 +1,91 @@
+-- emit_within: the three refusals, then the list by put_list; the totals say whether it fits.
+use native.Mathlib.Omega.{arith}
+use Rattle.emission.proofs.EmitLaws.{refused-20, refused-21, refused-22, accepted, list-room, room-is}
+use Rattle.model.specs.Form.{wellFormed}
+use Rattle.model.proofs.IndexedLaws.{T-true}
+use borrow.Author.Tests.{not-true, not-false}
+use denote.Ref.{now}
+use lib.ListN.{length}
+use Prim.Native.Nat.{min, _≤_}
+use mathlib.Core.Bool.{true}
+use mathlib.Core.Path.{_≡_, sym, _∙_}
 use borrow.Author.Needs.{needs}
 use Rattle.emission.proofs.emit_within.Statement.{statement}
 use Rattle.emission.proofs.emit_within.Tie as tie
-use Rattle.emission.proofs.emit_within.Reads as reads
-use Rattle.emission.proofs.emit_within.Lts as lts
-use Rattle.counts.proofs.list_counts.Reads as list-counts-reads
-use Rattle.emission.proofs.put_list.Reads as put-list-reads
-use Rattle.form.proofs.well_formed.Reads as well-formed-reads
-use Rattle.model.proofs.Model.sizes.Reads as sizes-reads
-use Rattle.parts.proofs.group_table.Reads as group-table-reads
-use Rattle.parts.proofs.smaller.Reads as smaller-reads
 
--- src/lib.rt:123:9
 smaller-requires : tie.Need-smaller-requires
 smaller-requires c κs = search needs
 
--- src/lib.rt:124:9
 well-formed-requires : tie.Need-well-formed-requires
 well-formed-requires c κs = search needs
 
--- src/lib.rt:125:9
+-- past the first two tests the record is well formed
+formed-is : (c : tie.Else2) → wellFormed (c .before .before .before .before .args .m) ≡ true
+formed-is c = sym (c .before .before .well-formed .ensures) ∙ not-false _ (c .before .if1 .left)
+
 returns : tie.Need-returns
-returns c = ?
+returns c =
+    let a = c .before .before .before .args in
+    let n = min (a .limit) (length (now (a .out))) in
+    let x = refused-20 (a .m) (a .bound) n (now (a .out)) (sym (c .before .well-formed .ensures) ∙ not-true _ (c .if1 .taken)) in
+    (x .report, x .left)
 
--- src/lib.rt:128:9
 returns-2 : tie.Need-returns-2
-returns-2 c = ?
+returns-2 c =
+    let a = c .before .before .before .before .args in
+    let n = min (a .limit) (length (now (a .out))) in
+    let h = sym (c .before .before .well-formed .ensures) ∙ not-false _ (c .before .if1 .left) in
+    let x = refused-21 (a .m) (a .bound) n (now (a .out)) h (c .if2 .taken) in
+    (x .report, x .left)
 
--- src/lib.rt:130:9
-list-counts-requires : tie.Need-list-counts-requires
-list-counts-requires c κs = ?
-
--- src/lib.rt:133:9
-returns-3 : tie.Need-returns-3
-returns-3 c = ?
-
--- src/lib.rt:135:9
 sizes-requires : tie.Need-sizes-requires
 sizes-requires c κs = search needs
 
--- src/lib.rt:136:9
 group-table-requires : tie.Need-group-table-requires
-group-table-requires c κs = ?
+group-table-requires c κs = (T-true _ .1 (formed-is (c .before)), c .sizes .ensures)
 
--- src/lib.rt:137:5
+list-counts-requires : tie.Need-list-counts-requires
+list-counts-requires c κs =
+    let p = c .before .before in
+    (c .before .sizes .ensures, record { formed = T-true _ .1 (formed-is p); is = c .group-table .ensures }, p .if2 .left)
+
+returns-3 : tie.Need-returns-3
+returns-3 c =
+    let n = c .before .list-counts in
+    let p = c .before .before .before .before in
+    let q = p .before .before .before in
+    let a = q .before .args in
+    let x = room-is _ _ (q .smaller .ensures)
+    (refused-22 (a .m) (a .bound) (q .smaller .result) (now (a .out)) (formed-is p) (p .if2 .left) (n .result) (n .ensures) (c .if3 .taken)) in
+    (x .report, x .left)
+
 put-list-requires : tie.Need-put-list-requires
-put-list-requires c κs = ?
+put-list-requires c κs =
+    let n = c .before .before .list-counts in
+    let p = c .before .before .before .before .before in
+    let q = p .before .before .before in
+    let a = q .before .args in
+    let l : n .result .words ≤ length (now (a .out)) = omega (arith, q .smaller .ensures, c .before .if3 .left) in (
+      record { formed = T-true _ .1 (formed-is p); is = c .before .before .before .group-table .ensures },
+      c .before .before .before .before .sizes .ensures,
+      p .if2 .left,
+      list-room (a .m) (a .bound) (q .smaller .result) (now (a .out)) (formed-is p) (p .if2 .left) (n .result) (n .ensures) l,
+    )
 
--- src/lib.rt:120:1
 same-length : tie.Need-same-length
 same-length c = search needs
 
--- src/lib.rt:120:1
 returns-4 : tie.Need-returns-4
-returns-4 c = ?
+returns-4 c =
+    let s = c .before .before .before in
+    let n = s .before .list-counts in
+    let p = s .before .before .before .before in
+    let q = p .before .before .before in
+    let a = q .before .args in
+    let x = room-is _ _ (q .smaller .ensures)
+    (accepted (a .m) (a .bound) (q .smaller .result) (now (a .out)) (formed-is p) (p .if2 .left) (n .result) (n .ensures) (s .if3 .left) _ _
+    (c .before .put-list .ensures)) in
+    (x .report, x .left)
 
 pub emit-within-spec : {M : Type 1} → statement M
 emit-within-spec =
@@ -62,10 +95,10 @@ emit-within-spec =
     well-formed-requires
     returns
     returns-2
-    list-counts-requires
-    returns-3
     sizes-requires
     group-table-requires
+    list-counts-requires
+    returns-3
     put-list-requires
     same-length
     returns-4)

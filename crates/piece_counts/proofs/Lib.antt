@@ -1,4 +1,0 @@
-pub mod SizedLaws
-pub mod GroupLaws
-pub mod PieceLaws
-pub mod EdgeLaws
