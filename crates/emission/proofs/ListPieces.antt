@@ -25,7 +25,8 @@ use Rattle.parts.specs.Numbering.{variableNumber, mostVariables}
 use Rattle.parts.specs.Pieces.{Known, groupPiece, locationPiece, frontPiece, edgePiece, edgeClauses, stepClauses}
 use Rattle.parts.proofs.NumberingLaws.{block-at, variable-number, block-most}
 use Rattle.parts.proofs.PartFits.{locations-in}
-use Rattle.parts.proofs.KnownLaws.{wf, known-vars, known-state, known-top, known-locations, location-size, atom-in, update-in, invariant-fits, edge-fits-of, edge-piece-of, state-piece-of, step-piece-of}
+use Rattle.parts.proofs.KnownLaws.{wf, known-vars, known-state, known-top, known-locations, location-size}
+use Rattle.parts.proofs.KnownLaws.{atom-in, update-in, invariant-fits, edge-fits-of, edge-piece-of, state-piece-of, step-piece-of}
 use Rattle.emission.specs.Writable.{Lent, AtomFits, InvariantsFit, EdgeFits}
 
 -- the target's number is one more than its variable
@@ -107,12 +108,18 @@ module _ {m : Model} {b : GroupTable} (k : Known m b) where
   pub step-is : (t o next : ℕ) → o ≡ blockAt oneHotWidth m t → next ≡ blockAt oneHotWidth m (t + 1)
       → stepClauses m t ≡ frontPiece b o ++ clausesOf (edgesItems oneHotWidth m o) ++ statePieces next
   step-is t o next e f =
-      step-piece-of k t ∙ ap₂ (λ (p n : ℕ). frontPiece b p ++ clausesOf (edgesItems oneHotWidth m p) ++ clausesOf (stateItems oneHotWidth m n)) (sym e) (sym f) ∙
+      step-piece-of k t ∙
+      ap₂ (λ (p n : ℕ). frontPiece b p ++ clausesOf (edgesItems oneHotWidth m p) ++ clausesOf (stateItems oneHotWidth m n)) (sym e) (sym f) ∙
       ap (λ (l : List Clause). frontPiece b o ++ clausesOf (edgesItems oneHotWidth m o) ++ l) (sym (state-piece-of k next))
 
   -- the table's own arrays
   pub lent : Lent b (b .first) (b .size)
-  lent = record { first-is = refl; size-is = refl; first-long = nine (λ (x : GroupTable). x .first) (long-first m); size-long = nine (λ (x : GroupTable). x .size) (long-size m) }
+  lent = record {
+    first-is = refl;
+    size-is = refl;
+    first-long = nine (λ (x : GroupTable). x .first) (long-first m);
+    size-long = nine (λ (x : GroupTable). x .size) (long-size m);
+  }
     where
       nine : (f : GroupTable → List ℕ) → length (f (groupTable m)) ≡ 9 → length (f b) ≡ 9
       nine f h = subst (λ (x : GroupTable). length (f x) ≡ 9) (sym (k .is)) h

@@ -49,7 +49,16 @@ fn put_update(
         Update::Sum { source, offset } => {
             let w = 1 + source as usize;
             let before = o + first[w] as usize;
-            put_shifted(x, before, after, size[w] as usize, offset, greatest, out, at)
+            put_shifted(
+                x,
+                before,
+                after,
+                size[w] as usize,
+                offset,
+                greatest,
+                out,
+                at,
+            )
         }
     }
 }

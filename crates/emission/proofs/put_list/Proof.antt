@@ -1,23 +1,20 @@
+-- put_list: the start, a step a turn, each in the tail that begins where the one before ended, and the end.
 use native.Mathlib.Omega.{arith}
 use borrow.Author.Needs.{needs}
 use mathlib.Core.Path.{_≡_}
 use mathlib.Core.List.{_++_}
 use denote.Ref.{now}
-use Prim.Native.Nat.{_+_, _-_, _≤_}
+use Prim.Native.Nat.{_-_, _≤_}
 use Rattle.model.specs.Indexed.{each}
 use Rattle.list.specs.Items.{startItems}
 use Rattle.list.specs.Clauses.{oneHotWidth, clausesOf}
 use Rattle.parts.specs.Pieces.{stepClauses}
 use Rattle.emission.specs.Written.{WroteClauses}
 use Rattle.emission.proofs.ListPieces.{lent, clauses-are}
-use Rattle.emission.proofs.ClauseLaws.{wrote-then, wrote-tail, wrote-each-tail, wrote-each-none, room-first, room-then, room-each, room-tail, wrote-as, room-as}
+use Rattle.emission.proofs.ClauseLaws.{wrote-then, wrote-tail, wrote-each-tail, wrote-each-none, room-first}
+use Rattle.emission.proofs.ClauseLaws.{room-then, room-each, room-tail, wrote-as, room-as}
 use Rattle.emission.proofs.put_list.Statement.{statement}
 use Rattle.emission.proofs.put_list.Tie as tie
-use Rattle.emission.proofs.put_list.Reads as reads
-use Rattle.emission.proofs.put_list.Lts as lts
-use Rattle.emission.proofs.put_end.Reads as put-end-reads
-use Rattle.emission.proofs.put_start.Reads as put-start-reads
-use Rattle.emission.proofs.put_step.Reads as put-step-reads
 
 abbrev Inv-loop : tie.InvT-loop
 Inv-loop m z b bound out₀ first size at₀ t₀ out at t = (t ≤ bound) × WroteClauses (each t (stepClauses m)) out₀ out at₀ at
@@ -25,60 +22,56 @@ Inv-loop m z b bound out₀ first size at₀ t₀ out at t = (t ≤ bound) × Wr
 abbrev μ-loop : tie.MeasureT-loop
 μ-loop m z b bound out₀ first size at₀ t₀ out at t = bound - t
 
--- src/lib.rt:108:9
 slice-aggregate-first : tie.Need-slice-aggregate-first Inv-loop μ-loop
 slice-aggregate-first c = search needs
 
--- src/lib.rt:109:9
 slice-aggregate-size : tie.Need-slice-aggregate-size Inv-loop μ-loop
 slice-aggregate-size c = search needs
 
--- src/lib.rt:110:9
 put-start-requires : tie.Need-put-start-requires Inv-loop μ-loop
 put-start-requires c κs =
-    let p = c .before .before .before .before .before .pre in
-    (p .0, p .1, lent (p .0), room-first _ (room-first _ (room-as (clauses-are (c .before .before .before .before .before .args .m) (c .before .before .before .before .before .args .bound)) (p .3))))
+    let start = c .before .before .before .before .before in
+    let p = start .pre in
+    (p .0, p .1, lent (p .0), room-first _ (room-first _ (room-as (clauses-are (start .args .m) (start .args .bound)) (p .3))))
 
--- src/lib.rt:111:5
 loop-holds : tie.Need-loop-holds Inv-loop μ-loop
 loop-holds c = (omega arith, wrote-each-none _ _ _ (omega (arith, c .before .put-start .ensures .words .fits, c .before .put-start .ensures .words .long)))
 
--- src/lib.rt:112:51
 mul-put-step : tie.Need-mul-put-step Inv-loop μ-loop
 mul-put-step c = search needs
 
--- src/lib.rt:112:51
 sub-put-step : tie.Need-sub-put-step Inv-loop μ-loop
 sub-put-step c = search needs
 
--- src/lib.rt:112:51
 part-put-step-start : tie.Need-part-put-step-start Inv-loop μ-loop
 part-put-step-start c = search needs
 
--- src/lib.rt:112:51
 part-put-step-end : tie.Need-part-put-step-end Inv-loop μ-loop
 part-put-step-end c = search needs
 
--- src/lib.rt:112:13
 put-step-requires : tie.Need-put-step-requires Inv-loop μ-loop
 put-step-requires c κs =
-    let p = c .before .before .before .before .before .before .before .before .before .before .pre in
-    (p .0, p .1, lent (p .0), omega arith, room-tail (room-each _ _ _ (c .before .before .loop .inv .1) (c .before .loop-test .taken)
-    (room-then (c .before .before .before .before .put-start .ensures) (room-first _ (room-as (clauses-are (c .before .before .before .before .before .before .before .before .before .before .args .m) (c .before .before .before .before .before .before .before .before .before .before .args .bound)) (p .3))))))
+    let turn = c .before .before in
+    let at-put-start = turn .before .before in
+    let start = at-put-start .before .before .before .before .before .before in
+    let p = start .pre in (
+      p .0,
+      p .1,
+      lent (p .0),
+      omega arith,
+      room-tail (room-each _ _ _ (turn .loop .inv .1) (c .before .loop-test .taken)
+          (room-then (at-put-start .put-start .ensures) (room-first _ (room-as (clauses-are (start .args .m) (start .args .bound)) (p .3))))),
+    )
 
--- src/lib.rt:113:9
 add-at : tie.Need-add-at Inv-loop μ-loop
 add-at c = search needs
 
--- src/lib.rt:111:9
 add-t : tie.Need-add-t Inv-loop μ-loop
 add-t c = search needs
 
--- src/lib.rt:111:5
 loop-less : tie.Need-loop-less Inv-loop μ-loop
 loop-less c = search needs
 
--- src/lib.rt:111:5
 loop-again : tie.Need-loop-again Inv-loop μ-loop
 loop-again c = (omega arith, wrote-each-tail _ _ (c .before .before .before .before .loop .inv .1) (c .before .put-step .ensures))
 
@@ -92,40 +85,35 @@ steps-done c =
     let done : c .before .loop .t ≡ a .bound = omega arith in
     wrote-then (c .before .before .before .put-start .ensures) (rw done at (c .before .loop .inv .1))
 
--- src/lib.rt:115:34
 mul-put-end : tie.Need-mul-put-end Inv-loop μ-loop
 mul-put-end c = search needs
 
--- src/lib.rt:115:34
 sub-put-end : tie.Need-sub-put-end Inv-loop μ-loop
 sub-put-end c = search needs
 
--- src/lib.rt:115:34
 part-put-end-start : tie.Need-part-put-end-start Inv-loop μ-loop
 part-put-end-start c = search needs
 
--- src/lib.rt:115:34
 part-put-end-end : tie.Need-part-put-end-end Inv-loop μ-loop
 part-put-end-end c = search needs
 
--- src/lib.rt:115:9
 put-end-requires : tie.Need-put-end-requires Inv-loop μ-loop
 put-end-requires c κs =
-    let p = c .before .before .before .before .before .before .before .before .before .before .pre in
-    (p .0 .formed, p .1, omega arith, room-tail (room-then (steps-done (c .before)) (room-as (clauses-are (c .before .before .before .before .before .before .before .before .before .before .args .m) (c .before .before .before .before .before .before .before .before .before .before .args .bound)) (p .3))))
+    let start = c .before .before .before .before .before .before .before .before .before .before in
+    let p = start .pre in
+    (p .0 .formed, p .1, omega arith, room-tail (room-then (steps-done (c .before)) (room-as (clauses-are (start .args .m) (start .args .bound)) (p .3))))
 
--- src/lib.rt:116:5
 add-result : tie.Need-add-result Inv-loop μ-loop
 add-result c = search needs
 
--- src/lib.rt:102:1
 same-length : tie.Need-same-length Inv-loop μ-loop
 same-length c = search needs
 
--- src/lib.rt:102:1
 returns : tie.Need-returns Inv-loop μ-loop
 returns c =
-    wrote-as (clauses-are (c .before .before .before .before .before .before .before .before .before .before .before .before .args .m) (c .before .before .before .before .before .before .before .before .before .before .before .before .args .bound)) (wrote-tail (steps-done (c .before .before .before)) (c .before .put-end .ensures))
+    let at-before = c .before .before in
+    let start = at-before .before .before .before .before .before .before .before .before .before .before in
+    wrote-as (clauses-are (start .args .m) (start .args .bound)) (wrote-tail (steps-done (c .before .before .before)) (c .before .put-end .ensures))
 
 pub put-list-spec : {M : Type 1} → statement M
 put-list-spec =

@@ -1,3 +1,4 @@
+-- put_start: the state clauses of state 0, then the initial values.
 use native.Mathlib.Omega.{arith}
 use Prim.Native.Nat.{_+_, _≤_}
 use Rattle.model.specs.Automaton.{stateSize}
@@ -8,38 +9,42 @@ use Rattle.emission.proofs.ClauseLaws.{wrote-then, room-first, room-the
 use borrow.Author.Needs.{needs}
 use Rattle.emission.proofs.put_start.Statement.{statement}
 use Rattle.emission.proofs.put_start.Tie as tie
-use Rattle.emission.proofs.put_start.Reads as reads
-use Rattle.emission.proofs.put_start.Lts as lts
-use Rattle.emission.proofs.start.put_initial.Reads as put-initial-reads
-use Rattle.emission.proofs.state.put_state.Reads as put-state-reads
-use Rattle.parts.proofs.numbering.block_start.Reads as block-start-reads
 
--- src/lib.rt:64:9
 block-start-requires : tie.Need-block-start-requires
 block-start-requires c κs = search needs
 
--- src/lib.rt:66:9
 put-state-requires : tie.Need-put-state-requires
 put-state-requires c κs =
-    let p = c .before .before .before .before .before .pre in
-    let k = c .before .before .before .before .before .pre .0 in
-    let o = c .before .before .block-start .result in
-    let h : c .before .before .block-start .result + stateSize (c .before .before .before .before .before .args .m) ≤ mostVariables = omega (arith, c .before .before .block-start .ensures, block-below (c .before .before .before .before .before .pre .0) 0 (omega arith)) in
-    (p .2, block-in k o mostVariables h, invariants-fit k o h, room-first _ (room-as (start-is k o (c .before .before .block-start .ensures)) (p .3)))
+    let at-block-start = c .before .before in
+    let start = at-block-start .before .before .before in
+    let p = start .pre in
+    let k = start .pre .0 in
+    let o = at-block-start .block-start .result in
+    let h : at-block-start .block-start .result + stateSize (start .args .m) ≤ mostVariables = omega (
+      arith,
+      at-block-start .block-start .ensures,
+      block-below (start .pre .0) 0 (omega arith),
+    ) in
+    (p .2, block-in k o mostVariables h, invariants-fit k o h, room-first _ (room-as (start-is k o (at-block-start .block-start .ensures)) (p .3)))
 
--- src/lib.rt:67:5
 put-initial-requires : tie.Need-put-initial-requires
 put-initial-requires c κs =
-    let p = c .before .before .before .before .before .before .before .before .pre in
-    (p .0, p .2, room-then (c .before .before .put-state .ensures) (room-as (start-is (p .0) _ (c .before .before .before .before .before .block-start .ensures)) (p .3)))
+    let at-put-state = c .before .before in
+    let at-block-start = at-put-state .before .before .before in
+    let start = at-block-start .before .before .before in
+    let p = start .pre in
+    (p .0, p .2, room-then (at-put-state .put-state .ensures) (room-as (start-is (p .0) _ (at-block-start .block-start .ensures)) (p .3)))
 
--- src/lib.rt:53:1
 same-length : tie.Need-same-length
 same-length c = search needs
 
--- src/lib.rt:53:1
 returns : tie.Need-returns
-returns c = wrote-as (start-is (c .before .before .before .before .before .before .before .before .before .before .pre .0) _ (c .before .before .before .before .before .before .before .block-start .ensures)) (wrote-then (c .before .before .before .before .put-state .ensures) (c .before .put-initial .ensures))
+returns c =
+    let at-put-state = c .before .before .before .before in
+    let at-block-start = at-put-state .before .before .before in
+    let start = at-block-start .before .before .before in
+    wrote-as (start-is (start .pre .0) _ (at-block-start .block-start .ensures)) (wrote-then (at-put-state .put-state .ensures)
+    (c .before .put-initial .ensures))
 
 pub put-start-spec : {M : Type 1} → statement M
 put-start-spec =

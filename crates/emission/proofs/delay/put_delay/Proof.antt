@@ -1,3 +1,4 @@
+-- put_delay: a delay on each group, a group a turn.
 use mathlib.Core.Path.{_≡_}
 use Prim.Native.Nat.{_-_, _≤_}
 use Rattle.emission.specs.Written.{WroteClauses}
@@ -8,9 +9,6 @@ use Rattle.parts.specs.Pieces.{delayPiece}
 use Rattle.model.specs.Indexed.{each}
 use Rattle.emission.proofs.delay.put_delay.Statement.{statement}
 use Rattle.emission.proofs.delay.put_delay.Tie as tie
-use Rattle.emission.proofs.delay.put_delay.Reads as reads
-use Rattle.emission.proofs.delay.put_delay.Lts as lts
-use Rattle.emission.proofs.delay.put_delay_group.Reads as put-delay-group-reads
 
 abbrev Inv-loop : tie.InvT-loop
 Inv-loop b first size o d out₀ at x end₀ g₀ g-end out end g = (g ≤ g-end) × WroteClauses (each g (delayPiece b o d)) out₀ out end₀ end
@@ -18,42 +16,41 @@ Inv-loop b first size o d out₀ at x end₀ g₀ g-end out end g = (g ≤ g-end
 abbrev μ-loop : tie.MeasureT-loop
 μ-loop b first size o d out₀ at x end₀ g₀ g-end out end g = g-end - g
 
--- src/delay.rt:62:13
 add-x : tie.Need-add-x Inv-loop μ-loop
 add-x c = omega (arith, c .before .before .before .pre .2 .choice-in)
 
--- src/delay.rt:62:13
 add-x-2 : tie.Need-add-x-2 Inv-loop μ-loop
 add-x-2 c = omega (arith, c .before .before .before .pre .2 .choice-in, c .before .before .before .pre .2 .delay-is-choice)
 
--- src/delay.rt:64:5
 loop-holds : tie.Need-loop-holds Inv-loop μ-loop
 loop-holds c = (omega arith, wrote-each-none _ _ _ (omega (arith, c .before .before .before .pre .5 .words .room)))
 
--- src/delay.rt:65:9
 put-delay-group-requires : tie.Need-put-delay-group-requires Inv-loop μ-loop
 put-delay-group-requires c κs =
-    let p = c .before .before .before .before .before .before .pre in
-    (p .0, omega (arith, p .2 .choice-in, p .2 .delay-is-choice), omega arith, omega (arith, p .1 .groups-le), omega arith,
-    p .2 .delay-fits (c .before .before .before .before .before .before .args .d) (c .before .before .loop .g) (c .before .loop-test .taken), room-each _ _ _ (c .before .before .loop .inv .1) (c .before .loop-test .taken) (p .5))
+    let turn = c .before .before in
+    let start = turn .before .before .before .before in
+    let p = start .pre in (
+      p .0,
+      omega (arith, p .2 .choice-in, p .2 .delay-is-choice),
+      omega arith,
+      omega (arith, p .1 .groups-le),
+      omega arith,
+      p .2 .delay-fits (start .args .d) (turn .loop .g) (c .before .loop-test .taken),
+      room-each _ _ _ (turn .loop .inv .1) (c .before .loop-test .taken) (p .5),
+    )
 
--- src/delay.rt:64:9
 add-g : tie.Need-add-g Inv-loop μ-loop
 add-g c = search needs
 
--- src/delay.rt:64:5
 loop-less : tie.Need-loop-less Inv-loop μ-loop
 loop-less c = search needs
 
--- src/delay.rt:64:5
 loop-again : tie.Need-loop-again Inv-loop μ-loop
 loop-again c = (omega arith, wrote-each _ _ (c .before .before .before .before .loop .inv .1) (c .before .put-delay-group .ensures))
 
--- src/delay.rt:50:1
 same-length : tie.Need-same-length Inv-loop μ-loop
 same-length c = search needs
 
--- src/delay.rt:50:1
 returns : tie.Need-returns Inv-loop μ-loop
 returns c =
     let done : c .before .loop .g ≡ c .before .before .before .before .before .args .b .groups = omega arith in

@@ -1,3 +1,4 @@
+-- put_delays: each delay, a delay a turn.
 use native.Mathlib.Omega.{arith}
 use borrow.Author.Needs.{needs}
 use Rattle.model.specs.Indexed.{each}
@@ -8,9 +9,6 @@ use Rattle.emission.specs.Written.{WroteClauses}
 use Rattle.emission.proofs.ClauseLaws.{wrote-each, wrote-each-none, room-each}
 use Rattle.emission.proofs.delay.put_delays.Statement.{statement}
 use Rattle.emission.proofs.delay.put_delays.Tie as tie
-use Rattle.emission.proofs.delay.put_delays.Reads as reads
-use Rattle.emission.proofs.delay.put_delays.Lts as lts
-use Rattle.emission.proofs.delay.put_delay.Reads as put-delay-reads
 
 abbrev Inv-loop : tie.InvT-loop
 Inv-loop b first size o out₀ at end₀ d₀ d-end out end d = (d ≤ d-end) × WroteClauses (each d (delayPieces b o)) out₀ out end₀ end
@@ -18,41 +16,32 @@ Inv-loop b first size o out₀ at end₀ d₀ d-end out end d = (d ≤ d-end) ×
 abbrev μ-loop : tie.MeasureT-loop
 μ-loop b first size o out₀ at end₀ d₀ d-end out end d = d-end - d
 
--- src/delay.rt:83:17
 cast-d-end : tie.Need-cast-d-end Inv-loop μ-loop
 cast-d-end c = search needs
 
--- src/delay.rt:83:17
 add-d-end : tie.Need-add-d-end Inv-loop μ-loop
 add-d-end c = search needs
 
--- src/delay.rt:83:5
 loop-holds : tie.Need-loop-holds Inv-loop μ-loop
 loop-holds c = (omega arith, wrote-each-none _ _ _ (omega (arith, c .before .before .before .pre .4 .words .room)))
 
--- src/delay.rt:84:9
 put-delay-requires : tie.Need-put-delay-requires Inv-loop μ-loop
 put-delay-requires c κs =
     let p = c .before .before .before .before .before .before .pre in
     (p .0, p .1, p .2, omega arith, omega arith, room-each _ _ _ (c .before .before .loop .inv .1) (c .before .loop-test .taken) (p .4))
 
--- src/delay.rt:83:9
 add-d : tie.Need-add-d Inv-loop μ-loop
 add-d c = search needs
 
--- src/delay.rt:83:5
 loop-less : tie.Need-loop-less Inv-loop μ-loop
 loop-less c = search needs
 
--- src/delay.rt:83:5
 loop-again : tie.Need-loop-again Inv-loop μ-loop
 loop-again c = (omega arith, wrote-each _ _ (c .before .before .before .before .loop .inv .1) (c .before .put-delay .ensures))
 
--- src/delay.rt:71:1
 same-length : tie.Need-same-length Inv-loop μ-loop
 same-length c = search needs
 
--- src/delay.rt:71:1
 returns : tie.Need-returns Inv-loop μ-loop
 returns c =
     let done : c .before .loop .d ≡ c .before .before .before .before .before .args .b .top + 1 = omega arith in

@@ -1,3 +1,4 @@
+-- put_update: the part of an update, case by case: a row of Keep, a constant's clause, a row of Shift.
 use Rattle.list.specs.Clauses.{Clause}
 use mathlib.Core.List.{List}
 use native.Mathlib.Omega.{arith}
@@ -18,164 +19,163 @@ use Rattle.emission.proofs.ClauseLaws.{wrote-as, room-as}
 use borrow.Author.Needs.{needs}
 use Rattle.emission.proofs.edge.put_update.Statement.{statement}
 use Rattle.emission.proofs.edge.put_update.Tie as tie
-use Rattle.emission.proofs.edge.put_update.Reads as reads
-use Rattle.emission.proofs.edge.put_update.Lts as lts
-use Rattle.emission.proofs.rules.put_constant.Reads as put-constant-reads
-use Rattle.emission.proofs.rules.put_kept.Reads as put-kept-reads
-use Rattle.emission.proofs.rules.put_shifted.Reads as put-shifted-reads
 
--- src/edge.rt:43:13
 add-g : tie.Need-add-g
 add-g c = search needs
 
--- src/edge.rt:44:17
 mul-place : tie.Need-mul-place
 mul-place c = search needs
 
--- src/edge.rt:44:17
 shared-slice-read-place : tie.Need-shared-slice-read-place
 shared-slice-read-place c = search needs
 
--- src/edge.rt:44:17
 cast-place : tie.Need-cast-place
 cast-place c = omega (arith, c .shared-slice-known3 .given (1 + c .before .before .before .args .i))
 
--- src/edge.rt:45:17
 add-after : tie.Need-add-after
-add-after c = omega (arith, update-after (c .before .before .before .before .args .b) (c .before .before .before .before .args .o) (c .before .before .before .before .args .i) (c .before .before .before .before .args .update) (c .before .before .before .before .pre .4 .fits))
+add-after c =
+    let start = c .before .before .before .before in
+    omega (arith, update-after (start .args .b) (start .args .o) (start .args .i) (start .args .update) (start .pre .4 .fits))
 
--- src/edge.rt:45:17
 add-after-2 : tie.Need-add-after-2
-add-after-2 c = omega (arith, update-after (c .before .before .before .before .before .args .b) (c .before .before .before .before .before .args .o) (c .before .before .before .before .before .args .i) (c .before .before .before .before .before .args .update) (c .before .before .before .before .before .pre .4 .fits))
+add-after-2 c =
+    let start = c .before .before .before .before .before in
+    omega (arith, update-after (start .args .b) (start .args .o) (start .args .i) (start .args .update) (start .pre .4 .fits))
 
--- src/edge.rt:45:17
 add-after-3 : tie.Need-add-after-3
 add-after-3 c =
-    let a = c .before .before .before .before .before .args in
-    omega (arith, first-at (c .before .before .before .before .before .pre .0) (1 + a .i), update-after (a .b) (a .o) (a .i) (a .update) (c .before .before .before .before .before .pre .4 .fits))
+    let start = c .before .before .before .before .before in
+    let a = start .args in
+    omega (arith, first-at (start .pre .0) (1 + a .i), update-after (a .b) (a .o) (a .i) (a .update) (start .pre .4 .fits))
 
--- src/edge.rt:47:37
 enum-told : tie.Need-enum-told
 enum-told c = search needs
 
--- src/edge.rt:47:37
 add-put-kept : tie.Need-add-put-kept
-add-put-kept c = omega (arith, fits-as (keep-is (c .before .before .before .before .before .before .before .pre .0) (c .before .before .before .before .before .before .before .args .o) (c .before .before .before .before .before .before .before .args .i) (c .enum-told .given .1)) (c .before .before .before .before .before .before .before .pre .4 .fits) .before-in)
+add-put-kept c =
+    let start = c .before .before .before .before .before .before .before in
+    omega (arith, fits-as (keep-is (start .pre .0) (start .args .o) (start .args .i) (c .enum-told .given .1)) (start .pre .4 .fits) .before-in)
 
--- src/edge.rt:47:55
 mul-put-kept : tie.Need-mul-put-kept
 mul-put-kept c = search needs
 
--- src/edge.rt:47:55
 shared-slice-read-put-kept : tie.Need-shared-slice-read-put-kept
 shared-slice-read-put-kept c = search needs
 
--- src/edge.rt:47:55
 cast-put-kept : tie.Need-cast-put-kept
 cast-put-kept c = omega (arith, c .shared-slice-known4 .given (1 + c .before .before .before .before .before .before .before .before .args .i))
 
--- src/edge.rt:47:25
 put-kept-requires : tie.Need-put-kept-requires
 put-kept-requires c κs =
-    let q = keep-is (c .before .before .before .before .before .before .before .before .before .pre .0) (c .before .before .before .before .before .before .before .before .before .args .o) (c .before .before .before .before .before .before .before .before .before .args .i) (c .before .before .enum-told .given .1) in
-    let f = fits-as q (c .before .before .before .before .before .before .before .before .before .pre .4 .fits) in
-    (omega arith, f .before-in, f .after-in, room-as (ap (partClauses (c .before .before .before .before .before .before .before .before .before .args .x)) q ∙ part-is _ _ _ _ _ _) (c .before .before .before .before .before .before .before .before .before .pre .5))
+    let at-enum-told = c .before .before in
+    let start = at-enum-told .before .before .before .before .before .before .before in
+    let q = keep-is (start .pre .0) (start .args .o) (start .args .i) (at-enum-told .enum-told .given .1) in
+    let f = fits-as q (start .pre .4 .fits) in
+    (omega arith, f .before-in, f .after-in, room-as (ap (partClauses (start .args .x)) q ∙ part-is _ _ _ _ _ _) (start .pre .5))
 
--- src/edge.rt:48:26
 enum-known-update : tie.Need-enum-known-update
 enum-known-update c = search needs
 
--- src/edge.rt:48:32
 put-constant-requires : tie.Need-put-constant-requires
 put-constant-requires c κs =
-    let q = constant-is (c .before .before .before .before .before .before .before .before .before .pre .0) (c .before .before .before .before .before .before .before .before .before .args .o) (c .before .before .before .before .before .before .before .before .before .args .i) _ (c .before .before .before .before .before .before .before .before .before .pre .3) (c .before .before .update .given .1) in
-    let f = fits-as q (c .before .before .before .before .before .before .before .before .before .pre .4 .fits) in
-    (omega arith, f .after-in, room-as (ap (partClauses (c .before .before .before .before .before .before .before .before .before .args .x)) q ∙ set-is _ _ _ _) (c .before .before .before .before .before .before .before .before .before .pre .5))
+    let at-update = c .before .before in
+    let start = at-update .before .before .before .before .before .before .before in
+    let q = constant-is (start .pre .0) (start .args .o) (start .args .i) _ (start .pre .3) (at-update .update .given .1) in
+    let f = fits-as q (start .pre .4 .fits) in
+    (omega arith, f .after-in, room-as (ap (partClauses (start .args .x)) q ∙ set-is _ _ _ _) (start .pre .5))
 
--- src/edge.rt:49:23
 enum-known-update-2 : tie.Need-enum-known-update-2
 enum-known-update-2 c = search needs
 
--- src/edge.rt:50:25
 cast-w : tie.Need-cast-w
 cast-w c = search needs
 
--- src/edge.rt:50:21
 add-w : tie.Need-add-w
 add-w c = search needs
 
--- src/edge.rt:51:30
 mul-before : tie.Need-mul-before
 mul-before c = search needs
 
--- src/edge.rt:51:30
 shared-slice-read-before : tie.Need-shared-slice-read-before
-shared-slice-read-before c = omega (arith, c .before .before .before .before .before .before .before .before .before .pre .0 .first-long, sum-in (c .before .before .before .before .before .before .before .before .before .pre .0) (c .before .before .before .before .before .before .before .before .before .args .o) (c .before .before .before .before .before .before .before .before .before .args .i) _ _ (c .before .before .update2 .given .1) (c .before .before .before .before .before .before .before .before .before .pre .4))
+shared-slice-read-before c =
+    let at-update2 = c .before .before in
+    let start = at-update2 .before .before .before .before .before .before .before in
+    omega (arith, start .pre .0 .first-long, sum-in (start .pre .0) (start .args .o) (start .args .i) _ _ (at-update2 .update2 .given .1) (start .pre .4))
 
--- src/edge.rt:51:30
 cast-before : tie.Need-cast-before
 cast-before c = omega (arith, c .shared-slice-known5 .given (1 + c .before .before .update2 .given .0 .0))
 
--- src/edge.rt:51:26
 add-before : tie.Need-add-before
-add-before c = omega (arith, fits-as (sum-is (c .before .before .before .before .before .before .before .before .before .pre .0) (c .before .before .before .before .before .before .before .before .before .args .o) (c .before .before .before .before .before .before .before .before .before .args .i) _ _ (c .before .before .before .before .before .before .before .before .before .pre .3) (c .before .before .update2 .given .1)) (c .before .before .before .before .before .before .before .before .before .pre .4 .fits) .before-in)
+add-before c =
+    let at-update2 = c .before .before in
+    let start = at-update2 .before .before .before .before .before .before .before in
+    omega (
+      arith,
+      fits-as (sum-is (start .pre .0) (start .args .o) (start .args .i) _ _ (start .pre .3) (at-update2 .update2 .given .1))
+          (start .pre .4 .fits) .before-in,
+    )
 
--- src/edge.rt:52:43
 mul-put-shifted : tie.Need-mul-put-shifted
 mul-put-shifted c = search needs
 
--- src/edge.rt:52:43
 shared-slice-read-put-shifted : tie.Need-shared-slice-read-put-shifted
-shared-slice-read-put-shifted c = omega (arith, c .before .before .before .before .before .before .before .before .before .before .pre .0 .size-long, sum-in (c .before .before .before .before .before .before .before .before .before .before .pre .0) (c .before .before .before .before .before .before .before .before .before .before .args .o) (c .before .before .before .before .before .before .before .before .before .before .args .i) _ _ (c .before .before .before .update2 .given .1) (c .before .before .before .before .before .before .before .before .before .before .pre .4))
+shared-slice-read-put-shifted c =
+    let at-update2 = c .before .before .before in
+    let start = at-update2 .before .before .before .before .before .before .before in
+    omega (arith, start .pre .0 .size-long, sum-in (start .pre .0) (start .args .o) (start .args .i) _ _ (at-update2 .update2 .given .1) (start .pre .4))
 
--- src/edge.rt:52:43
 cast-put-shifted : tie.Need-cast-put-shifted
 cast-put-shifted c = omega (arith, c .shared-slice-known6 .given (1 + c .before .before .before .update2 .given .0 .0))
 
--- src/edge.rt:52:13
 put-shifted-requires : tie.Need-put-shifted-requires
 put-shifted-requires c κs =
-    let a = c .before .before .before .before .before .before .before .before .before .before .before .args in
-    let u = c .before .before .before .before .update2 .given .0 in
+    let at-update2 = c .before .before .before .before in
+    let start = at-update2 .before .before .before .before .before .before .before in
+    let a = start .args in
+    let u = at-update2 .update2 .given .0 in
     let back : toZ w8 (ofZ w8 (u .1 .0)) ≡ u .1 .0 = search needs in
-    let q = sum-is (c .before .before .before .before .before .before .before .before .before .before .before .pre .0) (a .o) (a .i) (u .0) (u .1 .0) (c .before .before .before .before .before .before .before .before .before .before .before .pre .3) (c .before .before .before .before .update2 .given .1) in
-    let f = fits-as q (c .before .before .before .before .before .before .before .before .before .before .before .pre .4 .fits) in
+    let q = sum-is (start .pre .0) (a .o) (a .i) (u .0) (u .1 .0) (start .pre .3) (at-update2 .update2 .given .1) in
+    let f = fits-as q (start .pre .4 .fits) in
     let row : ℤ → List Clause = λ z. rowClauses (a .x) (a .o + getD (now (a .first)) (1 + u .0) 0) (nextAt (a .b) (a .o) + getD (now (a .first)) (1 + a .i) 0)
-    (getD (now (a .size)) (1 + u .0) 0) (Shift z (a .greatest)) in
-    (omega arith, f .size-le, f .before-in, omega (arith, f .after-in),
-    room-as (ap (partClauses (a .x)) q ∙ part-is _ _ _ _ _ _ ∙ ap row (sym back)) (c .before .before .before .before .before .before .before .before .before .before .before .pre .5))
+    (getD (now (a .size)) (1 + u .0) 0) (Shift z (a .greatest)) in (
+      omega arith,
+      f .size-le,
+      f .before-in,
+      omega (arith, f .after-in),
+      room-as (ap (partClauses (a .x)) q ∙ part-is _ _ _ _ _ _ ∙ ap row (sym back)) (start .pre .5),
+    )
 
--- src/edge.rt:28:1
 same-length : tie.Need-same-length
 same-length c = search needs
 
--- src/edge.rt:28:1
 returns : tie.Need-returns
 returns c =
-    let q = keep-is (c .before .before .before .before .before .before .before .before .before .before .before .pre .0) (c .before .before .before .before .before .before .before .before .before .before .before .args .o) (c .before .before .before .before .before .before .before .before .before .before .before .args .i) (c .before .before .before .before .enum-told .given .1) in
-    wrote-as (ap (partClauses (c .before .before .before .before .before .before .before .before .before .before .before .args .x)) q ∙ part-is _ _ _ _ _ _) (c .before .put-kept .ensures)
+    let at-enum-told = c .before .before .before .before in
+    let start = at-enum-told .before .before .before .before .before .before .before in
+    let q = keep-is (start .pre .0) (start .args .o) (start .args .i) (at-enum-told .enum-told .given .1) in
+    wrote-as (ap (partClauses (start .args .x)) q ∙ part-is _ _ _ _ _ _) (c .before .put-kept .ensures)
 
--- src/edge.rt:28:1
 same-length-2 : tie.Need-same-length-2
 same-length-2 c = search needs
 
--- src/edge.rt:28:1
 returns-2 : tie.Need-returns-2
 returns-2 c =
-    let q = constant-is (c .before .before .before .before .before .before .before .before .before .before .before .pre .0) (c .before .before .before .before .before .before .before .before .before .before .before .args .o) (c .before .before .before .before .before .before .before .before .before .before .before .args .i) _ (c .before .before .before .before .before .before .before .before .before .before .before .pre .3) (c .before .before .before .before .update .given .1) in
-    wrote-as (ap (partClauses (c .before .before .before .before .before .before .before .before .before .before .before .args .x)) q ∙ set-is _ _ _ _) (c .before .put-constant .ensures)
+    let at-update = c .before .before .before .before in
+    let start = at-update .before .before .before .before .before .before .before in
+    let q = constant-is (start .pre .0) (start .args .o) (start .args .i) _ (start .pre .3) (at-update .update .given .1) in
+    wrote-as (ap (partClauses (start .args .x)) q ∙ set-is _ _ _ _) (c .before .put-constant .ensures)
 
--- src/edge.rt:28:1
 same-length-3 : tie.Need-same-length-3
 same-length-3 c = search needs
 
--- src/edge.rt:28:1
 returns-3 : tie.Need-returns-3
 returns-3 c =
-    let a = c .before .before .before .before .before .before .before .before .before .before .before .before .before .args in
     let u = c .before .before .before .before .before .before .update2 .given .0 in
     let back : toZ w8 (ofZ w8 (u .1 .0)) ≡ u .1 .0 = search needs in
-    let q = sum-is (c .before .before .before .before .before .before .before .before .before .before .before .before .before .pre .0) (a .o) (a .i) (u .0) (u .1 .0) (c .before .before .before .before .before .before .before .before .before .before .before .before .before .pre .3) (c .before .before .before .before .before .before .update2 .given .1) in
+    let at-update2 = c .before .before .before .before .before .before in
+    let start = at-update2 .before .before .before .before .before .before .before in
+    let a = start .args in
+    let q = sum-is (start .pre .0) (a .o) (a .i) (u .0) (u .1 .0) (start .pre .3) (at-update2 .update2 .given .1) in
     let row : ℤ → List Clause = λ z. rowClauses (a .x) (a .o + getD (now (a .first)) (1 + u .0) 0) (nextAt (a .b) (a .o) + getD (now (a .first)) (1 + a .i) 0)
     (getD (now (a .size)) (1 + u .0) 0) (Shift z (a .greatest)) in
     wrote-as (ap (partClauses (a .x)) q ∙ part-is _ _ _ _ _ _ ∙ ap row (sym back)) (c .before .put-shifted .ensures)

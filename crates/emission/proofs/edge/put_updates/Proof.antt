@@ -1,3 +1,4 @@
+-- put_updates: each counter's update, a counter a turn.
 use Prim.Native.Nat.{_-_, _≤_}
 use Rattle.emission.specs.Written.{WroteClauses}
 use Rattle.emission.proofs.ClauseLaws.{wrote-each, wrote-each-none, room-each}
@@ -11,59 +12,54 @@ use Rattle.model.specs.Record.{blankUpdate}
 use Rattle.model.specs.Indexed.{each}
 use Rattle.emission.proofs.edge.put_updates.Statement.{statement}
 use Rattle.emission.proofs.edge.put_updates.Tie as tie
-use Rattle.emission.proofs.edge.put_updates.Reads as reads
-use Rattle.emission.proofs.edge.put_updates.Lts as lts
-use Rattle.emission.proofs.edge.put_update.Reads as put-update-reads
 
 abbrev Inv-loop : tie.InvT-loop
-Inv-loop b first size x o out₀ at updates counters end₀ i₀ i-end out end i = (i ≤ i-end) × WroteClauses (each i (λ h. partClauses x (updatePart b o h (getD updates h blankUpdate .update)))) out₀ out end₀ end
+Inv-loop b first size x o out₀ at updates counters end₀ i₀ i-end out end i = (i ≤ i-end) × WroteClauses (each i (λ h. partClauses x (updatePart b o h
+    (getD updates h blankUpdate .update)))) out₀ out end₀ end
 
 abbrev μ-loop : tie.MeasureT-loop
 μ-loop b first size x o out₀ at updates counters end₀ i₀ i-end out end i = i-end - i
 
--- src/edge.rt:74:5
 loop-holds : tie.Need-loop-holds Inv-loop μ-loop
 loop-holds c = (omega arith, wrote-each-none _ _ _ (omega (arith, c .before .before .before .before .pre .4 .words .room)))
 
--- src/edge.rt:75:17
 mul-s : tie.Need-mul-s Inv-loop μ-loop
 mul-s c = search needs
 
--- src/edge.rt:75:17
 array-copy-out-s : tie.Need-array-copy-out-s Inv-loop μ-loop
 array-copy-out-s c = omega (arith, c .before .before .before .before .before .before .pre .2)
 
--- src/edge.rt:77:17
 mul-c : tie.Need-mul-c Inv-loop μ-loop
 mul-c c = search needs
 
--- src/edge.rt:77:17
 array-copy-out-c : tie.Need-array-copy-out-c Inv-loop μ-loop
 array-copy-out-c c = omega (arith, c .before .before .before .before .before .before .before .pre .2)
 
--- src/edge.rt:78:9
 put-update-requires : tie.Need-put-update-requires Inv-loop μ-loop
 put-update-requires c κs =
-    (c .before .before .before .before .before .before .before .before .before .pre .0, omega arith, omega (arith, c .before .before .before .before .before .before .before .before .before .pre .2), refl, c .before .before .before .before .before .before .before .before .before .pre .3 (c .before .before .before .before .loop .i) (c .before .before .before .loop-test .taken),
-    room-each _ _ _ (c .before .before .before .before .loop .inv .1) (c .before .before .before .loop-test .taken) (c .before .before .before .before .before .before .before .before .before .pre .4))
+    let at-loop-test = c .before .before .before in
+    let turn = at-loop-test .before in
+    let start = turn .before .before .before .before .before in (
+      start .pre .0,
+      omega arith,
+      omega (arith, start .pre .2),
+      refl,
+      start .pre .3 (turn .loop .i) (at-loop-test .loop-test .taken),
+      room-each _ _ _ (turn .loop .inv .1) (at-loop-test .loop-test .taken) (start .pre .4),
+    )
 
--- src/edge.rt:74:9
 add-i : tie.Need-add-i Inv-loop μ-loop
 add-i c = search needs
 
--- src/edge.rt:74:5
 loop-less : tie.Need-loop-less Inv-loop μ-loop
 loop-less c = search needs
 
--- src/edge.rt:74:5
 loop-again : tie.Need-loop-again Inv-loop μ-loop
 loop-again c = (omega arith, wrote-each _ _ (c .before .before .before .before .before .before .loop .inv .1) (c .before .put-update .ensures))
 
--- src/edge.rt:58:1
 same-length : tie.Need-same-length Inv-loop μ-loop
 same-length c = search needs
 
--- src/edge.rt:58:1
 returns : tie.Need-returns Inv-loop μ-loop
 returns c =
     let done : c .before .loop .i ≡ c .before .before .before .before .before .before .args .b .vars = omega arith in

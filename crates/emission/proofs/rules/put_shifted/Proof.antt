@@ -1,3 +1,4 @@
+-- put_shifted: a row of the rule Shift, a value a turn. The offset passes through 8 bits and comes back.
 use Rattle.list.specs.Clauses.{Clause}
 use mathlib.Core.List.{List}
 use native.Mathlib.Omega.{arith}
@@ -13,50 +14,44 @@ use Rattle.emission.specs.Written.{WroteClauses}
 use Rattle.emission.proofs.ClauseLaws.{wrote-each, wrote-each-none, room-each, wrote-as, room-as}
 use Rattle.emission.proofs.rules.put_shifted.Statement.{statement}
 use Rattle.emission.proofs.rules.put_shifted.Tie as tie
-use Rattle.emission.proofs.rules.put_shifted.Reads as reads
-use Rattle.emission.proofs.rules.put_shifted.Lts as lts
-use Rattle.emission.proofs.rules.put_shifted_value.Reads as put-shifted-value-reads
 
 abbrev Inv-loop : tie.InvT-loop
-Inv-loop x before after n offset greatest out₀ at end₀ v₀ out end v = (v ≤ n) × WroteClauses (rowClauses x before after v (Shift (toZ w8 offset) greatest)) out₀ out end₀ end
+Inv-loop x before after n offset greatest out₀ at end₀ v₀ out end v = (v ≤ n) × WroteClauses (rowClauses x before after v (Shift
+    (toZ w8 offset) greatest)) out₀ out end₀ end
 
 abbrev μ-loop : tie.MeasureT-loop
 μ-loop x before after n offset greatest out₀ at end₀ v₀ out end v = n - v
 
--- src/rules.rt:136:5
 loop-holds : tie.Need-loop-holds Inv-loop μ-loop
 loop-holds c = (omega arith, wrote-each-none _ _ _ (omega (arith, c .pre .4 .words .room)))
 
--- src/rules.rt:137:36
 add-put-shifted-value : tie.Need-add-put-shifted-value Inv-loop μ-loop
 add-put-shifted-value c = search needs
 
--- src/rules.rt:137:9
 put-shifted-value-requires : tie.Need-put-shifted-value-requires Inv-loop μ-loop
 put-shifted-value-requires c κs =
     let a = c .before .before .before .args in
     let back : toZ w8 (ofZ w8 (c .before .before .before .args .offset)) ≡ c .before .before .before .args .offset = search needs in
-    let row : ℤ → List Clause = λ z. rowClauses (a .x) (a .before) (a .after) (a .n) (Shift z (a .greatest)) in
-    (omega arith, omega arith, omega arith, omega arith,
-    room-each _ _ _ (c .before .before .loop .inv .1) (c .before .loop-test .taken) (room-as (ap row (sym back)) (c .before .before .before .pre .4)))
+    let row : ℤ → List Clause = λ z. rowClauses (a .x) (a .before) (a .after) (a .n) (Shift z (a .greatest)) in (
+      omega arith,
+      omega arith,
+      omega arith,
+      omega arith,
+      room-each _ _ _ (c .before .before .loop .inv .1) (c .before .loop-test .taken) (room-as (ap row (sym back)) (c .before .before .before .pre .4)),
+    )
 
--- src/rules.rt:136:9
 add-v : tie.Need-add-v Inv-loop μ-loop
 add-v c = search needs
 
--- src/rules.rt:136:5
 loop-less : tie.Need-loop-less Inv-loop μ-loop
 loop-less c = search needs
 
--- src/rules.rt:136:5
 loop-again : tie.Need-loop-again Inv-loop μ-loop
 loop-again c = (omega arith, wrote-each _ _ (c .before .before .before .before .loop .inv .1) (c .before .put-shifted-value .ensures))
 
--- src/rules.rt:122:1
 same-length : tie.Need-same-length Inv-loop μ-loop
 same-length c = search needs
 
--- src/rules.rt:122:1
 returns : tie.Need-returns Inv-loop μ-loop
 returns c =
     let a = c .before .before .args in

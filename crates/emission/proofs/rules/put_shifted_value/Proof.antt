@@ -1,3 +1,4 @@
+-- put_shifted_value: the rule Shift for one value, by what the model's code answered.
 use native.Mathlib.Omega.{arith}
 use mir.Syntax.{w8}
 use mir.Val.{toZ, ofZ}
@@ -9,79 +10,78 @@ use Rattle.emission.proofs.ClauseLaws.{wrote-as, room-as}
 use borrow.Author.Needs.{needs}
 use Rattle.emission.proofs.rules.put_shifted_value.Statement.{statement}
 use Rattle.emission.proofs.rules.put_shifted_value.Tie as tie
-use Rattle.emission.proofs.rules.put_shifted_value.Reads as reads
-use Rattle.emission.proofs.rules.put_shifted_value.Lts as lts
-use Rattle.emission.proofs.words.put_exclusion.Reads as put-exclusion-reads
-use Rattle.emission.proofs.words.put_joint_implication.Reads as put-joint-implication-reads
-use Rattle.new_values.proofs.shift.Reads as shift-reads
 
--- src/rules.rt:114:21
 cast-shift : tie.Need-cast-shift
 cast-shift c = search needs
 
--- src/rules.rt:114:9
 shift-requires : tie.Need-shift-requires
 shift-requires c κs = search needs
 
--- src/rules.rt:116:53
 enum-told : tie.Need-enum-told
 enum-told c = search needs
 
--- src/rules.rt:116:33
 put-exclusion-requires : tie.Need-put-exclusion-requires
 put-exclusion-requires c κs =
-    let a = c .before .before .before .before .args in
+    let at-shift = c .before .before .before in
+    let start = at-shift .before in
+    let a = start .args in
     let back : toZ w8 (ofZ w8 (a .offset)) ≡ a .offset = search needs in
-    let new = c .before .before .before .shift .ensures ∙ ap (λ (z : ℤ). newValue (shifted z (a .greatest) (a .v))) back in
-    (omega arith, omega arith,
-    room-as (shifted-out (a .x) (a .y) (a .after) (a .v) (a .offset) (a .greatest) new (c .before .enum-told .given .1)) (c .before .before .before .before .pre .4))
+    let new = at-shift .shift .ensures ∙ ap (λ (z : ℤ). newValue (shifted z (a .greatest) (a .v))) back in (
+      omega arith,
+      omega arith,
+      room-as (shifted-out (a .x) (a .y) (a .after) (a .v) (a .offset) (a .greatest) new (c .before .enum-told .given .1)) (start .pre .4),
+    )
 
--- src/rules.rt:117:25
 enum-known-new : tie.Need-enum-known-new
 enum-known-new c = search needs
 
--- src/rules.rt:117:67
 cast-put-joint-implication : tie.Need-cast-put-joint-implication
 cast-put-joint-implication c = search needs
 
--- src/rules.rt:117:59
 add-put-joint-implication : tie.Need-add-put-joint-implication
 add-put-joint-implication c = search needs
 
--- src/rules.rt:117:31
 put-joint-implication-requires : tie.Need-put-joint-implication-requires
 put-joint-implication-requires c κs =
-    let a = c .before .before .before .before .before .args in
+    let at-new = c .before .before in
+    let at-shift = at-new .before .before in
+    let start = at-shift .before in
+    let a = start .args in
     let back : toZ w8 (ofZ w8 (a .offset)) ≡ a .offset = search needs in
-    let new = c .before .before .before .before .shift .ensures ∙ ap (λ (z : ℤ). newValue (shifted z (a .greatest) (a .v))) back in
-    let u = c .before .before .new .given .0 .0 in
-    (omega arith, omega arith, omega (arith, shifted-le (a .x) (a .y) (a .after) (a .v) (a .offset) (a .greatest) new u (c .before .before .new .given .1)),
-    room-as (shifted-to (a .x) (a .y) (a .after) (a .v) (a .offset) (a .greatest) new u (c .before .before .new .given .1)) (c .before .before .before .before .before .pre .4))
+    let new = at-shift .shift .ensures ∙ ap (λ (z : ℤ). newValue (shifted z (a .greatest) (a .v))) back in
+    let u = at-new .new .given .0 .0 in (
+      omega arith,
+      omega arith,
+      omega (arith, shifted-le (a .x) (a .y) (a .after) (a .v) (a .offset) (a .greatest) new u (at-new .new .given .1)),
+      room-as (shifted-to (a .x) (a .y) (a .after) (a .v) (a .offset) (a .greatest) new u (at-new .new .given .1)) (start .pre .4),
+    )
 
--- src/rules.rt:101:1
 same-length : tie.Need-same-length
 same-length c = search needs
 
--- src/rules.rt:101:1
 returns : tie.Need-returns
 returns c =
-    let a = c .before .before .before .before .before .before .args in
+    let at-enum-told = c .before .before .before in
+    let at-shift = at-enum-told .before .before in
+    let start = at-shift .before in
+    let a = start .args in
     let back : toZ w8 (ofZ w8 (a .offset)) ≡ a .offset = search needs in
-    let new = c .before .before .before .before .before .shift .ensures ∙ ap (λ (z : ℤ). newValue (shifted z (a .greatest) (a .v))) back in
-    wrote-as (shifted-out (a .x) (a .y) (a .after) (a .v) (a .offset) (a .greatest) new (c .before .before .before .enum-told .given .1)) (c .before .put-exclusion .ensures)
+    let new = at-shift .shift .ensures ∙ ap (λ (z : ℤ). newValue (shifted z (a .greatest) (a .v))) back in
+    wrote-as (shifted-out (a .x) (a .y) (a .after) (a .v) (a .offset) (a .greatest) new (at-enum-told .enum-told .given .1)) (c .before .put-exclusion .ensures)
 
--- src/rules.rt:101:1
 same-length-2 : tie.Need-same-length-2
 same-length-2 c = search needs
 
--- src/rules.rt:101:1
 returns-2 : tie.Need-returns-2
 returns-2 c =
-    let a = c .before .before .before .before .before .before .before .args in
+    let at-new = c .before .before .before .before in
+    let at-shift = at-new .before .before in
+    let start = at-shift .before in
+    let a = start .args in
     let back : toZ w8 (ofZ w8 (a .offset)) ≡ a .offset = search needs in
-    let new = c .before .before .before .before .before .before .shift .ensures ∙ ap (λ (z : ℤ). newValue (shifted z (a .greatest) (a .v))) back in
-    let u = c .before .before .before .before .new .given .0 .0 in
-    wrote-as (shifted-to (a .x) (a .y) (a .after) (a .v) (a .offset) (a .greatest) new u (c .before .before .before .before .new .given .1)) (c .before .put-joint-implication .ensures)
+    let new = at-shift .shift .ensures ∙ ap (λ (z : ℤ). newValue (shifted z (a .greatest) (a .v))) back in
+    let u = at-new .new .given .0 .0 in
+    wrote-as (shifted-to (a .x) (a .y) (a .after) (a .v) (a .offset) (a .greatest) new u (at-new .new .given .1)) (c .before .put-joint-implication .ensures)
 
 pub put-shifted-value-spec : {M : Type 1} → statement M
 put-shifted-value-spec =

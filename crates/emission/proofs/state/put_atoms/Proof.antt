@@ -1,3 +1,4 @@
+-- put_atoms: the pieces of four slots, a slot a turn.
 use mathlib.Core.Path.{_≡_}
 use Prim.Native.Nat.{_-_, _≤_}
 use Rattle.emission.specs.Written.{WroteClauses}
@@ -8,9 +9,6 @@ use Rattle.parts.specs.Pieces.{atomPiece}
 use Rattle.model.specs.Indexed.{each}
 use Rattle.emission.proofs.state.put_atoms.Statement.{statement}
 use Rattle.emission.proofs.state.put_atoms.Tie as tie
-use Rattle.emission.proofs.state.put_atoms.Reads as reads
-use Rattle.emission.proofs.state.put_atoms.Lts as lts
-use Rattle.emission.proofs.state.put_atom.Reads as put-atom-reads
 
 abbrev Inv-loop : tie.InvT-loop
 Inv-loop b first size o x out₀ at atoms end₀ k₀ out end k = (k ≤ 4) × WroteClauses (each k (atomPiece b o x atoms)) out₀ out end₀ end
@@ -18,40 +16,39 @@ Inv-loop b first size o x out₀ at atoms end₀ k₀ out end k = (k ≤ 4) × W
 abbrev μ-loop : tie.MeasureT-loop
 μ-loop b first size o x out₀ at atoms end₀ k₀ out end k = 4 - k
 
--- src/state.rt:93:5
 loop-holds : tie.Need-loop-holds Inv-loop μ-loop
 loop-holds c = (omega arith, wrote-each-none _ _ _ (omega (arith, c .before .before .pre .3 .words .room)))
 
--- src/state.rt:94:17
 mul-s : tie.Need-mul-s Inv-loop μ-loop
 mul-s c = search needs
 
--- src/state.rt:94:17
 array-copy-out-s : tie.Need-array-copy-out-s Inv-loop μ-loop
 array-copy-out-s c = search needs
 
--- src/state.rt:96:9
 put-atom-requires : tie.Need-put-atom-requires Inv-loop μ-loop
 put-atom-requires c κs =
-    (c .before .before .before .before .before .before .pre .0, omega arith, c .before .before .before .before .before .before .pre .2 (c .before .before .before .loop .k) (c .before .before .loop-test .taken), room-each _ _ _ (c .before .before .before .loop .inv .1) (c .before .before .loop-test .taken) (c .before .before .before .before .before .before .pre .3))
+    let at-loop-test = c .before .before in
+    let turn = at-loop-test .before in
+    let start = turn .before .before .before in (
+      start .pre .0,
+      omega arith,
+      start .pre .2 (turn .loop .k) (at-loop-test .loop-test .taken),
+      room-each _ _ _ (turn .loop .inv .1)
+          (at-loop-test .loop-test .taken) (start .pre .3),
+    )
 
--- src/state.rt:93:9
 add-k : tie.Need-add-k Inv-loop μ-loop
 add-k c = search needs
 
--- src/state.rt:93:5
 loop-less : tie.Need-loop-less Inv-loop μ-loop
 loop-less c = search needs
 
--- src/state.rt:93:5
 loop-again : tie.Need-loop-again Inv-loop μ-loop
 loop-again c = (omega arith, wrote-each _ _ (c .before .before .before .before .before .loop .inv .1) (c .before .put-atom .ensures))
 
--- src/state.rt:79:1
 same-length : tie.Need-same-length Inv-loop μ-loop
 same-length c = search needs
 
--- src/state.rt:79:1
 returns : tie.Need-returns Inv-loop μ-loop
 returns c =
     let done : c .before .loop .k ≡ 4 = omega arith in

@@ -26,7 +26,15 @@ loop-holds c = (omega arith, wrote-each-none _ _ _ (omega arith))
 
 put-pairs-of-requires : tie.Need-put-pairs-of-requires Inv-loop μ-loop
 unfolding groupClauses pairs
-put-pairs-of-requires c κs = (omega arith, omega arith, room-each _ _ _ (c .before .before .loop .inv .1) (c .before .loop-test .taken) (room-then (c .before .before .before .before .put-members .ensures) (c .before .before .before .before .before .before .pre .1)))
+put-pairs-of-requires c κs =
+    let turn = c .before .before in
+    let at-put-members = turn .before .before in
+    let start = at-put-members .before .before in (
+      omega arith,
+      omega arith,
+      room-each _ _ _ (turn .loop .inv .1) (c .before .loop-test .taken) (room-then (at-put-members .put-members .ensures)
+          (start .pre .1)),
+    )
 
 add-i : tie.Need-add-i Inv-loop μ-loop
 add-i c = search needs

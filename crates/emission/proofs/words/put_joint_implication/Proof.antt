@@ -62,7 +62,11 @@ same-length : tie.Need-same-length
 same-length c = search needs
 
 returns : tie.Need-returns
-returns c = clause-3 _ _ _ _ _ _ _ _ (c .before .before .negative .ensures) (c .before .negative2 .ensures) (c .positive .ensures) (search needs) (search needs) (search needs) (c .before .before .before .pre .3)
+returns c =
+    let at-negative = c .before .before in
+    let start = at-negative .before in
+    clause-3 _ _ _ _ _ _ _ _ (at-negative .negative .ensures) (c .before .negative2 .ensures) (c .positive .ensures) (search needs) (search needs)
+    (search needs) (start .pre .3)
 
 pub put-joint-implication-spec : {M : Type 1} → statement M
 put-joint-implication-spec =

@@ -50,10 +50,12 @@ loop-less c = search needs
 loop-again : tie.Need-loop-again Inv-loop μ-loop
 loop-again c =
     let start = c .before .before .before in
-    let turn = c .before .before .loop in
-    (search needs, search needs,
-    rw (members-more (start .args .b) (turn .v))
-    (wrote-then (turn .inv .2) (wrote-word _ _ _ (c .positive .ensures) (search needs) (omega (arith, room start)))))
+    let turn = c .before .before .loop in (
+      search needs,
+      search needs,
+      rw (members-more (start .args .b) (turn .v))
+          (wrote-then (turn .inv .2) (wrote-word _ _ _ (c .positive .ensures) (search needs) (omega (arith, room start)))),
+    )
 
 mul-out : tie.Need-mul-out Inv-loop μ-loop
 mul-out c = search needs

@@ -38,7 +38,10 @@ add-put-exclusion-4 : tie.Need-add-put-exclusion-4 Inv-loop μ-loop
 add-put-exclusion-4 c = search needs
 
 put-exclusion-requires : tie.Need-put-exclusion-requires Inv-loop μ-loop
-put-exclusion-requires c κs = (omega arith, omega arith, room-each _ _ _ (c .before .before .loop .inv .1) (c .before .loop-test .taken) (c .before .before .before .pre .2))
+put-exclusion-requires c κs =
+    let turn = c .before .before in
+    let start = turn .before in
+    (omega arith, omega arith, room-each _ _ _ (turn .loop .inv .1) (c .before .loop-test .taken) (start .pre .2))
 
 add-j : tie.Need-add-j Inv-loop μ-loop
 add-j c = search needs
