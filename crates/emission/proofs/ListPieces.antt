@@ -1,38 +1,33 @@
--- The pieces of the list for a bound.
-use mathlib.Core.Path.{_≡_, sym, ap, _∙_}
+-- The start, the steps and the end of a list by the table of a well-formed model, and that all of them can be written.
+use mathlib.Core.Path.{_≡_, refl, sym, ap, ap₂, subst, _∙_}
 use mathlib.Core.List.{List, [], _∷_, _++_}
 use Prim.Native.Nat.{ℕ, _+_, _-_, _≤_, _<_}
+use native.Mathlib.Nat.{suc-mul}
 use native.Mathlib.Omega.{arith}
 use lib.Dec.{T}
+use lib.ListN.{length}
 use Rattle.model.specs.declared.Model.{Model}
 use Rattle.model.specs.declared.Sizes.{Sizes}
-use Rattle.model.specs.Automaton.{loc}
+use Rattle.model.specs.Indexed.{each}
+use Rattle.model.specs.Record.{atomAt, invariantAt, updateAt, edgeAt}
+use Rattle.model.specs.Automaton.{groupSize, stateSize, choices}
 use Rattle.model.specs.Bounds.{KnownSizes}
 use Rattle.model.specs.Form.{wellFormed}
-use Rattle.model.proofs.FormLaws.{formed, state-of-sizes}
-use Rattle.list.specs.Items.{blockAt, stateItems, stepItems, choiceItems, delaysItems, edgesItems, endItems}
-use Rattle.list.specs.Clauses.{Clause, bare, one, oneHotWidth, clausesOf}
-use Rattle.list.proofs.Pieces.{step-piece, end-piece}
-use Rattle.numbering.specs.declared.Blocks.{Blocks}
-use Rattle.numbering.specs.StepBlocks.{BlocksOf}
-use Rattle.numbering.specs.Numbering.{variableNumber}
-use Rattle.numbering.proofs.NumberingLaws.{variable-number, group-within, block-most}
-
--- step t + 1
-abbrev pub stepPiece : Model → ℕ → List Clause
-stepPiece m t = clausesOf (stepItems oneHotWidth m (blockAt oneHotWidth m t))
-
--- the parts of a step from the block at o to the one at next
-abbrev pub stepClauses : Model → ℕ → ℕ → List Clause
-stepClauses m o next =
-    clausesOf (choiceItems oneHotWidth m o) ++ clausesOf (delaysItems oneHotWidth m o) ++ clausesOf (edgesItems oneHotWidth m o) ++ clausesOf
-    (stateItems oneHotWidth m next)
-
-pub step-is : (m : Model) (t : ℕ) (b : Blocks) → b .state ≡ blockAt oneHotWidth m t → BlocksOf m b → stepPiece m t ≡ stepClauses m (b .state) (b .next)
-step-is m t b e h =
-    ap (λ (o : ℕ). clausesOf (stepItems oneHotWidth m o)) (sym e) ∙
-    step-piece m (b .state) ∙
-    ap (λ (n : ℕ). stepClauses m (b .state) n) (sym (h .next-is))
+use Rattle.model.proofs.IndexedLaws.{length-list}
+use Rattle.model.proofs.FormLaws.{formed, state-of-sizes, stateSize-le, choices-is}
+use Rattle.list.specs.Items.{offset, blockAt, startItems, initialItems, stateItems, endItems, edgesItems, edgeOf}
+use Rattle.list.specs.Clauses.{Clause, bare, one, oneHotWidth, clausesOf, clauses}
+use Rattle.list.proofs.ListLaws.{each-cong}
+use Rattle.list.proofs.Pieces.{start-piece, end-piece, edges-piece, clauses-pieces}
+use Rattle.parts.specs.declared.GroupTable.{GroupTable}
+use Rattle.parts.specs.StateBlock.{componentAt, groupTable, sizeAt}
+use Rattle.parts.specs.Numbering.{variableNumber, mostVariables}
+use Rattle.parts.specs.Pieces.{Known, groupPiece, locationPiece, frontPiece, edgePiece, edgeClauses, stepClauses}
+use Rattle.parts.proofs.NumberingLaws.{block-at, variable-number, block-most}
+use Rattle.parts.proofs.PartFits.{locations-in}
+use Rattle.parts.proofs.KnownLaws.{wf, known-vars, known-state, known-top, known-locations, location-size}
+use Rattle.parts.proofs.KnownLaws.{atom-in, update-in, invariant-fits, edge-fits-of, edge-piece-of, state-piece-of, step-piece-of}
+use Rattle.emission.specs.Writable.{Lent, AtomFits, InvariantsFit, EdgeFits}
 
 -- the target's number is one more than its variable
 pub end-is : (m : Model) (k n : ℕ) → n ≡ variableNumber m k (m .target) → clausesOf (endItems oneHotWidth m k) ≡ one (bare (n - 1) ∷ [])
@@ -42,11 +37,94 @@ end-is m k n e =
 
 module _ (m : Model) (ok : T (wellFormed m)) where
   pub target-place : (z : Sizes) → KnownSizes m z → m .target < z .state + z .choices
-  target-place z known = omega (arith, formed m ok .target-ok, group-within m loc tt, state-of-sizes m z known)
+  target-place z known = omega (arith, formed m ok .target-ok, locations-in m (formed m ok), state-of-sizes m z known)
 
-  pub target-number : (k n : ℕ) → k ≤ 64 → n ≡ variableNumber m k (m .target) → (1 ≤ n) × (n ≤ 90000)
+  pub target-number : (k n : ℕ) → k ≤ 64 → n ≡ variableNumber m k (m .target) → (1 ≤ n) × (n ≤ mostVariables)
   target-number k n h e =
       let f = formed m ok in (
         omega (arith, e, variable-number m k (m .target)),
         omega (arith, e, variable-number m k (m .target), block-most m f k h, f .target-ok, f .locations-le),
       )
+
+long-first : (m : Model) → length (groupTable m .first) ≡ 9
+unfolding groupTable
+long-first m = length-list {A = ℕ} (λ g. offset oneHotWidth m (componentAt m g)) 9
+
+long-size : (m : Model) → length (groupTable m .size) ≡ 9
+unfolding groupTable
+long-size m = length-list {A = ℕ} (λ g. groupSize m (componentAt m g)) 9
+
+module _ {m : Model} {b : GroupTable} (k : Known m b) where
+  -- a state block of a list for a bound of at most 64
+  pub block-below : (t : ℕ) → t ≤ 64 → blockAt oneHotWidth m t + stateSize m ≤ mostVariables
+  block-below t h = omega (arith, block-most m (wf k) t h, stateSize-le m (wf k))
+
+  pub next-block : (t : ℕ) → blockAt oneHotWidth m (t + 1) ≡ blockAt oneHotWidth m t + stateSize m + choices m
+  next-block t = omega (arith, block-at m (t + 1), block-at m t, suc-mul t (stateSize m + choices m))
+
+  pub step-below : (t : ℕ) → t < 64 → blockAt oneHotWidth m t + stateSize m + choices m + stateSize m ≤ mostVariables
+  step-below t h = omega (arith, block-below (t + 1) (omega arith), next-block t)
+
+  pub invariants-fit : (o : ℕ) → o + stateSize m ≤ mostVariables → InvariantsFit b (m .invariants) o
+  invariants-fit o h = record {
+    locations-in = omega (arith, location-size k, known-locations k);
+    locations-le = omega (arith, location-size k, wf k .locations-le);
+    atoms = λ l p j q. let d : l < m .locations = omega (arith, location-size k) in record {
+      named = atom-in k (atomAt (invariantAt m l) j) (wf k .invariant-ok l d j q);
+      fits = invariant-fits k o mostVariables l h d j q;
+    };
+  }
+
+  pub edge-writable : (o : ℕ) → o + stateSize m + choices m + stateSize m ≤ mostVariables → (e : ℕ) → e < m .used → EdgeFits b o (edgeAt m e)
+  edge-writable o h e l =
+      let w = wf k .edge-ok e l in record {
+        guards = λ j p. atom-in k (atomAt (edgeAt m e .guard) j) (w .guard-ok j p);
+        sources = λ i p. update-in k (updateAt (edgeAt m e) i) (w .sets-ok i (omega (arith, known-vars k)));
+        parts = edge-fits-of k o mostVariables h e l;
+      }
+
+  -- the edges, whose first choice has the variable `start`
+  pub edges-are : (o start : ℕ) → start ≡ o + b .state + b .top + 1
+      → clausesOf (edgesItems oneHotWidth m o) ≡ each (m .used) (λ e. each (b .groups + 5) (edgePiece (start + e) b (edgeAt m e) o))
+  unfolding edgeClauses
+  edges-are o start z =
+      edges-piece m o ∙ each-cong (m .used) (λ e. clausesOf (edgeOf oneHotWidth m o e)) (λ e. each (b .groups + 5) (edgePiece (start + e) b (edgeAt m e) o))
+      (λ e l. sym (edge-piece-of k o (start + e) e l (omega (arith, z, known-state k, known-top k))))
+
+  pub choice-below : (o start e : ℕ) → start ≡ o + b .state + b .top + 1 → o + stateSize m + choices m + stateSize m ≤ mostVariables → e < m .used
+      → start + e < mostVariables
+  choice-below o start e z h l = omega (arith, z, known-state k, known-top k, choices-is m)
+
+  -- ---- the start, a step, the whole list
+  abbrev pub statePieces : ℕ → List Clause
+  statePieces o = each (b .groups) (groupPiece b o) ++ each (sizeAt b 0) (locationPiece m b o)
+
+  pub start-is : (o : ℕ) → o ≡ blockAt oneHotWidth m 0 → clausesOf (startItems oneHotWidth m) ≡ statePieces o ++ clausesOf (initialItems oneHotWidth m)
+  start-is o e =
+      let z : 0 ≡ o = omega (arith, e) in
+      start-piece m ∙ ap (λ (l : List Clause). l ++ clausesOf (initialItems oneHotWidth m))
+      (ap (λ (n : ℕ). clausesOf (stateItems oneHotWidth m n)) z ∙ sym (state-piece-of k o))
+
+  pub step-is : (t o next : ℕ) → o ≡ blockAt oneHotWidth m t → next ≡ blockAt oneHotWidth m (t + 1)
+      → stepClauses m t ≡ frontPiece b o ++ clausesOf (edgesItems oneHotWidth m o) ++ statePieces next
+  step-is t o next e f =
+      step-piece-of k t ∙
+      ap₂ (λ (p n : ℕ). frontPiece b p ++ clausesOf (edgesItems oneHotWidth m p) ++ clausesOf (stateItems oneHotWidth m n)) (sym e) (sym f) ∙
+      ap (λ (l : List Clause). frontPiece b o ++ clausesOf (edgesItems oneHotWidth m o) ++ l) (sym (state-piece-of k next))
+
+  -- the table's own arrays
+  pub lent : Lent b (b .first) (b .size)
+  lent = record {
+    first-is = refl;
+    size-is = refl;
+    first-long = nine (λ (x : GroupTable). x .first) (long-first m);
+    size-long = nine (λ (x : GroupTable). x .size) (long-size m);
+  }
+    where
+      nine : (f : GroupTable → List ℕ) → length (f (groupTable m)) ≡ 9 → length (f b) ≡ 9
+      nine f h = subst (λ (x : GroupTable). length (f x) ≡ 9) (sym (k .is)) h
+
+pub clauses-are : (m : Model) (n : ℕ)
+    → clauses m n ≡ clausesOf (startItems oneHotWidth m) ++ each n (stepClauses m) ++ clausesOf (endItems oneHotWidth m n)
+unfolding stepClauses
+clauses-are m n = clauses-pieces m n

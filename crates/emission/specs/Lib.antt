@@ -1,1 +1,5 @@
 pub mod EmitCall
+pub mod Written
+pub mod Pairs
+pub mod Writable
+pub mod Initial

@@ -1,28 +1,38 @@
 // The clause list, written piece after piece, each in the part of the lent buffer that begins where the piece before ended.
+use crate::delay::put_choice;
+use crate::delay::put_delays;
+use crate::edge::put_edges;
+use crate::start::put_initial;
+use crate::state::put_state;
+use crate::words::put_unit;
 use counts::list_counts;
-use delay_pieces::put_choice;
-use delay_pieces::put_delays;
-use edge_pieces::put_edges;
 use form::well_formed;
 use model::Model;
 use model::Sizes;
-use numbering::layout_of;
-use numbering::step_blocks;
-use numbering::variable_number;
+use parts::GroupTable;
 use parts::group_table;
-use start_pieces::put_initial;
-use state_pieces::put_state;
-use words::put_unit;
+use parts::numbering::block_start;
+use parts::numbering::variable_number;
+use parts::smaller;
 ghost use mathlib.Core.Path.{_≡_};
 ghost use Prim.Native.Nat.{ℕ, _+_, _<_, _≤_, min};
 ghost use lib.Dec.{T};
 ghost use lib.ListN.{length};
 ghost use Rattle.model.specs.Bounds.{KnownSizes};
 ghost use Rattle.model.specs.Form.{wellFormed};
-ghost use Rattle.list.specs.Items.{blockAt, startItems, stepItems, endItems};
+ghost use Rattle.list.specs.Items.{startItems, endItems};
 ghost use Rattle.list.specs.Clauses.{oneHotWidth, clausesOf, clauses};
-ghost use Rattle.words.specs.Written.{Room, Wrote};
+ghost use Rattle.parts.specs.Pieces.{Known, stepClauses};
+ghost use Rattle.emission.specs.Written.{RoomFor, WroteClauses};
+ghost use Rattle.emission.specs.Writable.{Lent};
 ghost use Rattle.emission.specs.EmitCall.{emitReport, emitLeft, emitTold};
+
+mod delay;
+mod edge;
+mod rules;
+mod start;
+mod state;
+mod words;
 
 // What became of an emission.
 pub enum Emission {
@@ -40,58 +50,70 @@ pub enum Emission {
 }
 
 // Start: state clauses of state 0, then the initial values.
-fn put_start(m: Model, z: Sizes, out: &mut [i32]) -> usize
-    requires { ⌜ T (wellFormed m) × KnownSizes m z × Room (clausesOf (startItems oneHotWidth m)) (now out) 0 ⌝ }
-    ensures { λ r. ⌜ Wrote (clausesOf (startItems oneHotWidth m)) (now (out .entry)) (now (out .exit)) 0 r ⌝ }
+fn put_start(
+    m: Model,
+    z: Sizes,
+    b: GroupTable,
+    first: &[u16],
+    size: &[u16],
+    out: &mut [i32],
+) -> usize
+    requires { ⌜ Known m b × KnownSizes m z × Lent b (now first) (now size) × RoomFor (clausesOf (startItems oneHotWidth m)) (now out) 0 ⌝ }
+    ensures { λ r. ⌜ WroteClauses (clausesOf (startItems oneHotWidth m)) (now (out .entry)) (now (out .exit)) 0 r ⌝ }
 {
-    let w = layout_of(m, z);
+    let o = block_start(m, z, 0);
     let invariants = m.invariants;
-    let mid = put_state(w, invariants, 0, out, 0);
-    put_initial(m, z, out, mid)
+    let mid = put_state(b, first, size, invariants, o, out, 0);
+    put_initial(m, b, first, size, out, mid)
 }
 
 // Step t + 1, from state `t`: the choice, each delay, each edge, then state clauses of the state after.
-fn put_step(m: Model, z: Sizes, t: usize, out: &mut [i32]) -> usize
-    requires { ⌜ T (wellFormed m) × KnownSizes m z × (t < 64) × Room (clausesOf (stepItems oneHotWidth m (blockAt oneHotWidth m t))) (now out) 0 ⌝ }
-    ensures { λ r. ⌜ Wrote (clausesOf (stepItems oneHotWidth m (blockAt oneHotWidth m t))) (now (out .entry)) (now (out .exit)) 0 r ⌝ }
+fn put_step(
+    m: Model,
+    z: Sizes,
+    b: GroupTable,
+    first: &[u16],
+    size: &[u16],
+    t: usize,
+    out: &mut [i32],
+) -> usize
+    requires { ⌜ Known m b × KnownSizes m z × Lent b (now first) (now size) × (t < 64) × RoomFor (stepClauses m t) (now out) 0 ⌝ }
+    ensures { λ r. ⌜ WroteClauses (stepClauses m t) (now (out .entry)) (now (out .exit)) 0 r ⌝ }
 {
-    let b = step_blocks(m, z, t);
-    let delays = put_choice(m, z, b, out, 0);
-    let edges = put_delays(m, z, b, out, delays);
-    let state = put_edges(m, z, b, out, edges);
-    let w = layout_of(m, z);
+    let o = block_start(m, z, t);
+    let next = block_start(m, z, t + 1);
+    let delays = put_choice(b, o, out, 0);
+    let edges = put_delays(b, first, size, o, out, delays);
+    let state = put_edges(m, b, first, size, o, out, edges);
     let invariants = m.invariants;
-    put_state(w, invariants, b.next, out, state)
+    put_state(b, first, size, invariants, next, out, state)
 }
 
 // End: the target location in state `k`.
 fn put_end(m: Model, z: Sizes, k: usize, out: &mut [i32]) -> usize
-    requires { ⌜ T (wellFormed m) × KnownSizes m z × (k ≤ 64) × Room (clausesOf (endItems oneHotWidth m k)) (now out) 0 ⌝ }
-    ensures { λ r. ⌜ Wrote (clausesOf (endItems oneHotWidth m k)) (now (out .entry)) (now (out .exit)) 0 r ⌝ }
+    requires { ⌜ T (wellFormed m) × KnownSizes m z × (k ≤ 64) × RoomFor (clausesOf (endItems oneHotWidth m k)) (now out) 0 ⌝ }
+    ensures { λ r. ⌜ WroteClauses (clausesOf (endItems oneHotWidth m k)) (now (out .entry)) (now (out .exit)) 0 r ⌝ }
 {
     let target = variable_number(m, z, k, m.target as usize);
     put_unit(target - 1, out, 0)
 }
 
 // The list for `bound`.
-fn put_list(m: Model, bound: usize, out: &mut [i32]) -> usize
-    requires { ⌜ T (wellFormed m) × (bound ≤ 64) × Room (clauses m bound) (now out) 0 ⌝ }
-    ensures { λ r. ⌜ Wrote (clauses m bound) (now (out .entry)) (now (out .exit)) 0 r ⌝ }
+fn put_list(m: Model, z: Sizes, b: GroupTable, bound: usize, out: &mut [i32]) -> usize
+    requires { ⌜ Known m b × KnownSizes m z × (bound ≤ 64) × RoomFor (clauses m bound) (now out) 0 ⌝ }
+    ensures { λ r. ⌜ WroteClauses (clauses m bound) (now (out .entry)) (now (out .exit)) 0 r ⌝ }
 {
-    let z = m.sizes();
-    let mut at = put_start(m, z, out);
+    let firsts = b.first;
+    let sizes = b.size;
+    let first: &[u16] = &firsts;
+    let size: &[u16] = &sizes;
+    let mut at = put_start(m, z, b, first, size, out);
     for t in 0..bound {
-        let n = put_step(m, z, t, &mut out[at..]);
+        let n = put_step(m, z, b, first, size, t, &mut out[at..]);
         at += n;
     }
     let n = put_end(m, z, bound, &mut out[at..]);
     at + n
-}
-
-fn smaller(a: usize, b: usize) -> usize
-    ensures { λ r. ⌜ r ≡ min a b ⌝ }
-{
-    if a < b { a } else { b }
 }
 
 // Writes the list into the buffer, at most `limit` words: 20, 21, 22.
@@ -112,7 +134,7 @@ pub fn emit_within(m: Model, bound: usize, limit: usize, out: &mut [i32]) -> Emi
     if room < words {
         return Emission::BufferTooShort { words };
     }
-    put_list(m, bound, out);
+    put_list(m, z, b, bound, out);
     Emission::Written {
         variables: n.variables,
         clauses: n.clauses,

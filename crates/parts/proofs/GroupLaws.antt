@@ -151,6 +151,10 @@ module _ (m : Model) where
     unfolding groupTable
     groups-are = omega (arith, ok .clocks-le)
 
+    vars-within : 1 + groupTable m .vars ≤ groupTable m .groups
+    unfolding groupTable
+    vars-within = omega arith
+
     vars-are : groupTable m .vars ≤ 4
     unfolding groupTable
     vars-are = ok .vars-le
@@ -169,6 +173,7 @@ module _ (m : Model) where
 
     pub bounded : Bounded (groupTable m)
     bounded = record {
+      vars-in = vars-within;
       groups-le = groups-are;
       vars-le = vars-are;
       first-le = λ g. ⊎-elim (λ l. omega (arith, first-is g l, beginning-le ok g)) (λ l. omega (arith, first-past g l)) (lt-or-le g 9);

@@ -7,27 +7,31 @@ use native.Mathlib.Nat.{mul-le-mul-right, suc-mul}
 use native.Mathlib.Omega.{arith}
 use lib.Dec.{ltb}
 use lib.ListN.{length, getD}
+use Rattle.model.specs.declared.Atom.{Atom}
+use Rattle.model.specs.declared.Atom.the-variants.{Blank, OnClock, OnCounter}
+use Rattle.model.specs.declared.Update.{Update}
+use Rattle.model.specs.declared.Update.the-variants.{Constant, Sum, Keep as KeepIt}
 use Rattle.model.specs.declared.Model.{Model}
 use Rattle.model.specs.Indexed.{each, sumBelow}
 use Rattle.model.specs.Record.{atomAt, invariantAt, edgeAt, counterAt}
 use Rattle.model.specs.Automaton.{ceiling, Component, loc, groupSize, initialValue, stateSize, choices, variables}
 use Rattle.model.proofs.IndexedLaws.{length-each}
-use Rattle.model.proofs.FormLaws.{WellFormed, formed, choices-is, variables-is}
-use Rattle.list.specs.Items.{blockAt, stateWidth, stateMember, groupItems, initialItems, invariantOf, invariantItems, excludeFailing, choiceItems, delayItems, delaysItems, edgeOf}
+use Rattle.model.proofs.FormLaws.{WellFormed, DeclaredAtom, DeclaredUpdate, formed, choices-is, variables-is}
+use Rattle.list.specs.Items.{blockAt, nextBlock, stateWidth, choiceWidth, stateItems, edgesItems, stateMember, groupItems, initialItems, invariantOf, invariantItems, excludeFailing, choiceItems, delayItems, delaysItems, edgeOf}
 use Rattle.list.specs.Clauses.{Clause, oneHotWidth, groupClauses, clausesOf}
 use Rattle.list.proofs.ListLaws.{each-cong}
 use Rattle.list.proofs.OneHot.{state-width-is}
-use Rattle.list.proofs.Pieces.{invariants-piece, atoms-piece, choice-piece, delays-piece}
+use Rattle.list.proofs.Pieces.{state-piece, step-piece, invariants-piece, atoms-piece, choice-piece, delays-piece}
 use Rattle.parts.specs.declared.Rule.the-variants.{Keep, Rise}
 use Rattle.parts.specs.Rules.{partClauses, Fits}
 use Rattle.parts.proofs.PartLengths.{keep-length, rise-length}
 use Rattle.parts.specs.declared.GroupTable.{GroupTable}
 use Rattle.parts.specs.StateBlock.{componentAt, groupTable, firstAt, sizeAt, Bounded}
-use Rattle.parts.specs.PartsOf.{atomPart, leadsPart, delayPart, edgePart}
+use Rattle.parts.specs.PartsOf.{atomPart, leadsPart, delayPart, edgePart, AtomIn, UpdateIn}
 use Rattle.parts.proofs.GroupLaws.{size-is, comp-counter, comp-clock, bounded, group-cases, block-is}
-use Rattle.parts.proofs.PartPieces.{groups-are, top-is, state-is, choices-are, groups-law, initial-law, atom-law, delay-law, edge-law}
+use Rattle.parts.proofs.PartPieces.{groups-are, vars-are, top-is, state-is, choices-are, groups-law, initial-law, atom-law, delay-law, edge-law}
 use Rattle.parts.proofs.PartFits.{group-fits, group-small, locations-in, atom-fits, delay-fits, edge-fits}
-use Rattle.parts.specs.Pieces.{Known, BlockIn, StepIn, groupPiece, initialPiece, atomPiece, locationPiece, delayPiece, delayPieces, frontPiece, edgePiece, edgeClauses}
+use Rattle.parts.specs.Pieces.{Known, BlockIn, StepIn, groupPiece, initialPiece, atomPiece, locationPiece, delayPiece, delayPieces, frontPiece, edgePiece, edgeClauses, stepClauses}
 
 -- ---- initial values by number
 module _ (m : Model) where
@@ -91,6 +95,9 @@ module _ {m : Model} {b : GroupTable} (k : Known m b) where
   pub known-top : b .top ≡ ceiling m
   known-top = ap (λ (x : GroupTable). x .top) (k .is) ∙ top-is m
 
+  pub known-vars : b .vars ≡ m .vars
+  known-vars = ap (λ (x : GroupTable). x .vars) (k .is) ∙ vars-are m
+
   pub at-most-nine : b .groups ≤ 9
   at-most-nine = omega (arith, known-groups, wf .vars-le, wf .clocks-le)
 
@@ -123,6 +130,14 @@ module _ {m : Model} {b : GroupTable} (k : Known m b) where
       subst (λ (x : GroupTable). each (x .groups) (initialPiece m x) ≡ clausesOf (initialItems oneHotWidth m)) (sym (k .is)) (initial-law m (wf .vars-le) (wf .clocks-le))
 
   -- ---- invariants
+  pub location-size : sizeAt b 0 ≡ m .locations
+  location-size = subst (λ (x : GroupTable). sizeAt x 0 ≡ m .locations) (sym (k .is)) (size-is m 0 (omega arith))
+
+  pub atom-in : (atom : Atom) → DeclaredAtom m atom → AtomIn b atom
+  atom-in Blank d = tt
+  atom-in (OnClock x relation constant) d = omega (arith, known-vars, wf .vars-le, wf .clocks-le)
+  atom-in (OnCounter x relation constant) d = omega (arith, wf .vars-le)
+
   pub location-piece-of : (o l : ℕ) → l < m .locations → locationPiece m b o l ≡ clausesOf (invariantOf oneHotWidth m o l)
   location-piece-of o l p =
       let z : o + l ≡ o + 0 + l = omega arith in
@@ -142,7 +157,18 @@ module _ {m : Model} {b : GroupTable} (k : Known m b) where
   pub known-locations : m .locations ≤ stateSize m
   known-locations = locations-in m wf
 
+  -- the state clauses
+  pub state-piece-of : (o : ℕ) → each (b .groups) (groupPiece b o) ++ each (sizeAt b 0) (locationPiece m b o) ≡ clausesOf (stateItems oneHotWidth m o)
+  state-piece-of o =
+      ap₂ (λ (l r : List Clause). l ++ r) (groups-piece-of o)
+      (ap (λ (n : ℕ). each n (locationPiece m b o)) location-size ∙ invariants-piece-of o) ∙ sym (state-piece m o)
+
   -- ---- a step
+  pub update-in : (u : Update) → DeclaredUpdate m u → UpdateIn u
+  update-in KeepIt d = tt
+  update-in (Constant n) d = tt
+  update-in (Sum w offset) d = omega (arith, wf .vars-le)
+
   pub front-piece-of : (o : ℕ) → frontPiece b o ≡ clausesOf (choiceItems oneHotWidth m o) ++ clausesOf (delaysItems oneHotWidth m o)
   front-piece-of o = ap₂ (λ (l r : List Clause). l ++ r) choice delays
     where
@@ -182,6 +208,17 @@ module _ {m : Model} {b : GroupTable} (k : Known m b) where
     delay-fits = λ d g l. subst (λ (x : GroupTable). Fits (delayPart x o d g) n) (sym (k .is)) (delay-fits m wf o n h d g (omega (arith, known-groups)));
     delay-clauses = delay-clauses-of o;
   }
+
+  -- step t + 1: choice and delays, the edges, the state after
+  pub step-piece-of : (t : ℕ) → stepClauses m t
+      ≡ frontPiece b (blockAt oneHotWidth m t) ++ clausesOf (edgesItems oneHotWidth m (blockAt oneHotWidth m t))
+      ++ clausesOf (stateItems oneHotWidth m (blockAt oneHotWidth m (t + 1)))
+  unfolding stepClauses
+  step-piece-of t =
+      let o = blockAt oneHotWidth m t in
+      let z : nextBlock oneHotWidth m o ≡ blockAt oneHotWidth m (t + 1) = omega (arith, suc-mul t (stateWidth oneHotWidth m + choiceWidth oneHotWidth m)) in
+      step-piece m o ∙ ap₂ (λ (l r : List Clause). l ++ clausesOf (edgesItems oneHotWidth m o) ++ r) (sym (front-piece-of o))
+      (ap (λ (n : ℕ). clausesOf (stateItems oneHotWidth m n)) z)
 
   pub edge-piece-of : (o x e : ℕ) → e < m .used → x ≡ o + stateSize m + (ceiling m + 1 + e)
       → each (b .groups + 5) (edgePiece x b (edgeAt m e) o) ≡ edgeClauses m o e

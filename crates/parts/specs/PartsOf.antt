@@ -1,6 +1,6 @@
 -- The parts of the list that atoms, delays and edges ask for, at the state block that begins at o and the one after it.
 use mathlib.Core.Bool.{cond}
-use Prim.Native.Nat.{ℕ, _+_, _-_}
+use Prim.Native.Nat.{ℕ, _+_, _-_, _<_}
 use lib.Dec.{eqb, ltb, leb}
 use lib.ListN.{getD}
 use Rattle.model.specs.declared.Relation.{Relation}
@@ -67,3 +67,15 @@ edgePart b e o j =
     cond (ltb j 6) (atomPart b o (atomAt (e .guard) (j - 2))) (
     cond (ltb (j - 6) (b .vars)) (updatePart b o (j - 6) (updateAt e (j - 6))) (
     resetPart b o (j - 6 - b .vars) (resetAt e (j - 6 - b .vars))))))
+
+-- The table has the group that an atom names.
+abbrev pub AtomIn : GroupTable → Atom → Type 0
+AtomIn b Blank = Unit {0}
+AtomIn b (OnClock x relation constant) = 1 + b .vars + x < 9
+AtomIn b (OnCounter x relation constant) = 1 + x < 9
+
+-- The table has the group that an update reads.
+abbrev pub UpdateIn : Update → Type 0
+UpdateIn KeepIt = Unit {0}
+UpdateIn (Constant n) = Unit {0}
+UpdateIn (Sum w offset) = 1 + w < 9

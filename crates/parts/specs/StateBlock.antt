@@ -37,6 +37,7 @@ sizeAt b g = getD (b .size) g 0
 
 -- The numbers of a state block stay small.
 pub record Bounded (b : GroupTable) : Type 0 where
+  pub vars-in : 1 + b .vars ≤ b .groups
   pub groups-le : b .groups ≤ 5 + b .vars
   pub vars-le : b .vars ≤ 4
   pub first-le : (g : ℕ) → firstAt b g ≤ 288

@@ -1,3 +1,4 @@
+-- emit: emit_within with the whole buffer as the limit.
 use Rattle.emission.specs.EmitCall.{emitReport, emitLeft}
 use denote.Ref.{now}
 use lib.ListN.{length}
@@ -17,8 +18,10 @@ same-length c = search needs
 returns : tie.Need-returns
 returns c =
     let a = c .before .before .before .args in
-    let same : min (length (now (c .before .before .before .args .out))) (length (now (c .before .before .before .args .out))) ≡ length (now (c .before .before .before .args .out)) = omega arith in
-    (c .before .emit-within .ensures .0 ∙ ap (emitReport (a .m) (a .bound)) same, c .before .emit-within .ensures .1 ∙ ap (λ (r : ℕ). emitLeft (a .m) (a .bound) r (now (a .out))) same)
+    let room = length (now (a .out)) in
+    let told = c .before .emit-within .ensures in
+    let same : min room room ≡ room = omega arith in
+    (told .0 ∙ ap (emitReport (a .m) (a .bound)) same, told .1 ∙ ap (λ (r : ℕ). emitLeft (a .m) (a .bound) r (now (a .out))) same)
 
 pub emit-spec : {M : Type 1} → statement M
 emit-spec = tie.close (tie.spec emit-within-requires same-length returns)

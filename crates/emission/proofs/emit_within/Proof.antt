@@ -66,7 +66,8 @@ put-list-requires c κs =
     let q = p .before .before .before in
     let a = q .before .args in
     let l : n .result .words ≤ length (now (a .out)) = omega (arith, q .smaller .ensures, c .before .if3 .left) in (
-      T-true _ .1 (formed-is p),
+      record { formed = T-true _ .1 (formed-is p); is = c .before .before .before .group-table .ensures },
+      c .before .before .before .before .sizes .ensures,
       p .if2 .left,
       list-room (a .m) (a .bound) (q .smaller .result) (now (a .out)) (formed-is p) (p .if2 .left) (n .result) (n .ensures) l,
     )

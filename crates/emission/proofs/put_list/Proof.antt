@@ -1,33 +1,41 @@
+-- put_list: the start, a step a turn, each in the tail that begins where the one before ended, and the end.
 use native.Mathlib.Omega.{arith}
 use borrow.Author.Needs.{needs}
-use Rattle.emission.proofs.ListPieces.{stepPiece}
-use Rattle.words.proofs.Kit.{wrote-then, wrote-tail, wrote-each-tail, wrote-each-none, room-first, room-then, room-each, room-tail, wrote-as, room-as}
-use Rattle.words.specs.Written.{Wrote}
-use Rattle.list.proofs.Pieces.{clauses-pieces}
-use Rattle.list.specs.Clauses.{oneHotWidth, clausesOf}
-use Rattle.list.specs.Items.{startItems}
-use Rattle.model.specs.Indexed.{each}
-use Prim.Native.Nat.{_+_, _-_, _≤_}
-use denote.Ref.{now}
-use mathlib.Core.List.{_++_}
 use mathlib.Core.Path.{_≡_}
+use mathlib.Core.List.{_++_}
+use denote.Ref.{now}
+use Prim.Native.Nat.{_-_, _≤_}
+use Rattle.model.specs.Indexed.{each}
+use Rattle.list.specs.Items.{startItems}
+use Rattle.list.specs.Clauses.{oneHotWidth, clausesOf}
+use Rattle.parts.specs.Pieces.{stepClauses}
+use Rattle.emission.specs.Written.{WroteClauses}
+use Rattle.emission.proofs.ListPieces.{lent, clauses-are}
+use Rattle.emission.proofs.ClauseLaws.{wrote-then, wrote-tail, wrote-each-tail, wrote-each-none, room-first}
+use Rattle.emission.proofs.ClauseLaws.{room-then, room-each, room-tail, wrote-as, room-as}
 use Rattle.emission.proofs.put_list.Statement.{statement}
 use Rattle.emission.proofs.put_list.Tie as tie
 
 abbrev Inv-loop : tie.InvT-loop
-Inv-loop m bound out₀ z at₀ t₀ out at t = (t ≤ bound) × Wrote (each t (stepPiece m)) out₀ out at₀ at
+Inv-loop m z b bound out₀ first size at₀ t₀ out at t = (t ≤ bound) × WroteClauses (each t (stepClauses m)) out₀ out at₀ at
 
 abbrev μ-loop : tie.MeasureT-loop
-μ-loop m bound out₀ z at₀ t₀ out at t = bound - t
+μ-loop m z b bound out₀ first size at₀ t₀ out at t = bound - t
 
-sizes-requires : tie.Need-sizes-requires Inv-loop μ-loop
-sizes-requires c κs = search needs
+slice-aggregate-first : tie.Need-slice-aggregate-first Inv-loop μ-loop
+slice-aggregate-first c = search needs
+
+slice-aggregate-size : tie.Need-slice-aggregate-size Inv-loop μ-loop
+slice-aggregate-size c = search needs
 
 put-start-requires : tie.Need-put-start-requires Inv-loop μ-loop
-put-start-requires c κs = (c .before .before .pre .0, c .before .sizes .ensures, room-first _ (room-first _ (room-as (clauses-pieces (c .before .before .args .m) (c .before .before .args .bound)) (c .before .before .pre .2))))
+put-start-requires c κs =
+    let start = c .before .before .before .before .before in
+    let p = start .pre in
+    (p .0, p .1, lent (p .0), room-first _ (room-first _ (room-as (clauses-are (start .args .m) (start .args .bound)) (p .3))))
 
 loop-holds : tie.Need-loop-holds Inv-loop μ-loop
-loop-holds c = (omega arith, wrote-each-none _ _ _ (omega arith))
+loop-holds c = (omega arith, wrote-each-none _ _ _ (omega (arith, c .before .put-start .ensures .words .fits, c .before .put-start .ensures .words .long)))
 
 mul-put-step : tie.Need-mul-put-step Inv-loop μ-loop
 mul-put-step c = search needs
@@ -42,7 +50,18 @@ part-put-step-end : tie.Need-part-put-step-end Inv-loop μ-loop
 part-put-step-end c = search needs
 
 put-step-requires : tie.Need-put-step-requires Inv-loop μ-loop
-put-step-requires c κs = (c .before .before .before .before .before .before .before .pre .0, c .before .before .before .before .before .before .sizes .ensures, omega arith, room-tail (room-each _ _ _ (c .before .before .loop .inv .1) (c .before .loop-test .taken) (room-then (c .before .before .before .before .put-start .ensures) (room-first _ (room-as (clauses-pieces (c .before .before .before .before .before .before .before .args .m) (c .before .before .before .before .before .before .before .args .bound)) (c .before .before .before .before .before .before .before .pre .2))))))
+put-step-requires c κs =
+    let turn = c .before .before in
+    let at-put-start = turn .before .before in
+    let start = at-put-start .before .before .before .before .before .before in
+    let p = start .pre in (
+      p .0,
+      p .1,
+      lent (p .0),
+      omega arith,
+      room-tail (room-each _ _ _ (turn .loop .inv .1) (c .before .loop-test .taken)
+          (room-then (at-put-start .put-start .ensures) (room-first _ (room-as (clauses-are (start .args .m) (start .args .bound)) (p .3))))),
+    )
 
 add-at : tie.Need-add-at Inv-loop μ-loop
 add-at c = search needs
@@ -58,9 +77,12 @@ loop-again c = (omega arith, wrote-each-tail _ _ (c .before .before .before .bef
 
 -- after the loop the start and all steps are written
 steps-done : (c : tie.After-loop Inv-loop μ-loop)
-    → Wrote (clausesOf (startItems oneHotWidth (c .before .before .before .before .before .before .args .m)) ++ each (c .before .before .before .before .before .before .args .bound) (stepPiece (c .before .before .before .before .before .before .args .m))) (now (c .before .before .before .before .before .before .args .out)) (c .before .loop .out) 0 (c .before .loop .at)
+    → let a = c .before .before .before .before .before .before .before .before .before .args in
+    WroteClauses (clausesOf (startItems oneHotWidth (a .m)) ++ each (a .bound) (stepClauses (a .m))) (now (a .out)) (c .before .loop .out) 0
+    (c .before .loop .at)
 steps-done c =
-    let done : c .before .loop .t ≡ c .before .before .before .before .before .before .args .bound = omega arith in
+    let a = c .before .before .before .before .before .before .before .before .before .args in
+    let done : c .before .loop .t ≡ a .bound = omega arith in
     wrote-then (c .before .before .before .put-start .ensures) (rw done at (c .before .loop .inv .1))
 
 mul-put-end : tie.Need-mul-put-end Inv-loop μ-loop
@@ -76,7 +98,10 @@ part-put-end-end : tie.Need-part-put-end-end Inv-loop μ-loop
 part-put-end-end c = search needs
 
 put-end-requires : tie.Need-put-end-requires Inv-loop μ-loop
-put-end-requires c κs = (c .before .before .before .before .before .before .before .pre .0, c .before .before .before .before .before .before .sizes .ensures, omega arith, room-tail (room-then (steps-done (c .before)) (room-as (clauses-pieces (c .before .before .before .before .before .before .before .args .m) (c .before .before .before .before .before .before .before .args .bound)) (c .before .before .before .before .before .before .before .pre .2))))
+put-end-requires c κs =
+    let start = c .before .before .before .before .before .before .before .before .before .before in
+    let p = start .pre in
+    (p .0 .formed, p .1, omega arith, room-tail (room-then (steps-done (c .before)) (room-as (clauses-are (start .args .m) (start .args .bound)) (p .3))))
 
 add-result : tie.Need-add-result Inv-loop μ-loop
 add-result c = search needs
@@ -85,7 +110,10 @@ same-length : tie.Need-same-length Inv-loop μ-loop
 same-length c = search needs
 
 returns : tie.Need-returns Inv-loop μ-loop
-returns c = wrote-as (clauses-pieces (c .before .before .before .before .before .before .before .before .before .args .m) (c .before .before .before .before .before .before .before .before .before .args .bound)) (wrote-tail (steps-done (c .before .before .before)) (c .before .put-end .ensures))
+returns c =
+    let at-before = c .before .before in
+    let start = at-before .before .before .before .before .before .before .before .before .before .before in
+    wrote-as (clauses-are (start .args .m) (start .args .bound)) (wrote-tail (steps-done (c .before .before .before)) (c .before .put-end .ensures))
 
 pub put-list-spec : {M : Type 1} → statement M
 put-list-spec =
@@ -93,7 +121,8 @@ put-list-spec =
     (tie.spec
     Inv-loop
     μ-loop
-    sizes-requires
+    slice-aggregate-first
+    slice-aggregate-size
     put-start-requires
     loop-holds
     mul-put-step

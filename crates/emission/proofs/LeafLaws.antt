@@ -1,0 +1,125 @@
+-- The part of an atom, an update, a reset or a delay, case by case, by the lent slices of the table.
+use mathlib.Core.Path.{_≡_, sym, ap, subst, _∙_}
+use mathlib.Core.Bool.{Bool, cond}
+use mathlib.Core.List.{List, [], _∷_}
+use Prim.Native.Nat.{ℕ, _+_, _-_, _≤_, _<_}
+use native.Mathlib.Omega.{arith}
+use borrow.Author.Tests.{lt-ltb, le-ltb}
+use lib.Dec.{leb}
+use lib.IntN.{ℤ}
+use lib.ListN.{getD}
+use Rattle.model.specs.declared.Relation.{Relation}
+use Rattle.model.specs.declared.Atom.{Atom}
+use Rattle.model.specs.declared.Atom.the-variants.{Blank, OnClock, OnCounter}
+use Rattle.model.specs.declared.Update.{Update}
+use Rattle.model.specs.declared.Update.the-variants.{Constant, Sum, Keep as KeepIt}
+use Rattle.model.specs.declared.ClockUpdate.{ClockUpdate}
+use Rattle.model.specs.declared.ClockUpdate.the-variants.{Unchanged, Reset}
+use Rattle.model.specs.declared.Edge.{Edge}
+use Rattle.model.specs.Record.{atomAt, updateAt, resetAt}
+use Rattle.model.proofs.IndexedLaws.{each-zero}
+use Rattle.list.specs.Clauses.{bare, negated, one}
+use Rattle.parts.specs.Numbering.{mostVariables}
+use Rattle.parts.specs.declared.Rule.the-variants.{Keep, Rise, Shift, Set, Forbid}
+use Rattle.parts.specs.declared.Part.{Part}
+use Rattle.parts.specs.declared.GroupTable.{GroupTable}
+use Rattle.parts.specs.Rules.{partClauses, Fits}
+use Rattle.parts.specs.StateBlock.{firstAt, Bounded}
+use Rattle.parts.specs.PartsOf.{AtomIn, UpdateIn, nextAt, atomPart, leadsPart, greatestAt, updatePart, resetPart, delayPart}
+use Rattle.parts.proofs.PartPieces.{part-is, set-is}
+use Rattle.parts.proofs.EdgeParts.{source-part, target-part, guard-part, counter-part, clock-part}
+use Rattle.emission.specs.Writable.{Lent, AtomFits, UpdateFits, EdgeFits}
+use Rattle.emission.proofs.TableLaws.{excludeBy, leadsBy, setBy, exclude-lent, leads-lent, set-lent}
+
+-- a part that fits, under another name
+pub fits-as : {p q : Part} → p ≡ q → Fits p mostVariables → Fits q mostVariables
+fits-as e f = subst (λ (p : Part). Fits p mostVariables) e f
+
+-- ---- atoms
+pub blank-is : (b : GroupTable) (x o : ℕ) {atom : Atom} → atom ≡ Blank → partClauses x (atomPart b o atom) ≡ []
+blank-is b x o e = ap (λ (t : Atom). partClauses x (atomPart b o t)) e ∙ part-is x 0 0 0 0 Forbid ∙ each-zero _
+
+module _ {b : GroupTable} {first size : List ℕ} (l : Lent b first size) (o : ℕ) where
+  module _ {atom : Atom} (c : ℕ) (relation : Relation) (constant : ℕ) where
+    pub clock-is : atom ≡ OnClock c relation constant → atomPart b o atom ≡ excludeBy first size o (1 + b .vars + c) relation constant
+    clock-is e = ap (atomPart b o) e ∙ exclude-lent l o (1 + b .vars + c) relation constant
+
+    pub clock-in : atom ≡ OnClock c relation constant → AtomFits b o atom → 1 + b .vars + c < 9
+    clock-in e f = subst (AtomIn b) e (f .named)
+
+    pub counter-is : atom ≡ OnCounter c relation constant → atomPart b o atom ≡ excludeBy first size o (1 + c) relation constant
+    counter-is e = ap (atomPart b o) e ∙ exclude-lent l o (1 + c) relation constant
+
+    pub counter-in : atom ≡ OnCounter c relation constant → AtomFits b o atom → 1 + c < 9
+    counter-in e f = subst (AtomIn b) e (f .named)
+
+  -- ---- updates
+  module _ {u : Update} (i : ℕ) where
+    pub keep-is : u ≡ KeepIt → updatePart b o i u ≡ leadsBy first size o (nextAt b o) (1 + i) (1 + i) Keep
+    keep-is e = ap (updatePart b o i) e ∙ leads-lent l o (1 + i) (1 + i) Keep
+
+    pub constant-is : (n : ℕ) {greatest : ℕ} → greatest ≡ greatestAt b i → u ≡ Constant n
+        → updatePart b o i u ≡ setBy first size (nextAt b o) (1 + i) (cond (leb n greatest) (Set n) Forbid)
+    constant-is n g e =
+        ap (updatePart b o i) e ∙ set-lent l o (1 + i) (cond (leb n (greatestAt b i)) (Set n) Forbid) ∙
+        ap (λ (t : ℕ). setBy first size (nextAt b o) (1 + i) (cond (leb n t) (Set n) Forbid)) (sym g)
+
+    pub sum-is : (w : ℕ) (z : ℤ) {greatest : ℕ} → greatest ≡ greatestAt b i → u ≡ Sum w z
+        → updatePart b o i u ≡ leadsBy first size o (nextAt b o) (1 + w) (1 + i) (Shift z greatest)
+    sum-is w z g e =
+        ap (updatePart b o i) e ∙ leads-lent l o (1 + w) (1 + i) (Shift z (greatestAt b i)) ∙
+        ap (λ (t : ℕ). leadsBy first size o (nextAt b o) (1 + w) (1 + i) (Shift z t)) (sym g)
+
+    pub sum-in : (w : ℕ) (z : ℤ) → u ≡ Sum w z → UpdateFits b o i u → 1 + w < 9
+    sum-in w z e f = subst UpdateIn e (f .named)
+
+  -- ---- resets
+  module _ {u : ClockUpdate} (i : ℕ) where
+    pub unchanged-is : u ≡ Unchanged → resetPart b o i u ≡ leadsBy first size o (nextAt b o) (1 + b .vars + i) (1 + b .vars + i) Keep
+    unchanged-is e = ap (resetPart b o i) e ∙ leads-lent l o (1 + b .vars + i) (1 + b .vars + i) Keep
+
+    pub reset-is : u ≡ Reset → resetPart b o i u ≡ setBy first size (nextAt b o) (1 + b .vars + i) (Set 0)
+    reset-is e = ap (resetPart b o i) e ∙ set-lent l o (1 + b .vars + i) (Set 0)
+
+    pub reset-clause : (x : ℕ) → u ≡ Reset
+        → partClauses x (resetPart b o i u) ≡ one (negated x ∷ bare (nextAt b o + getD first (1 + b .vars + i) 0) ∷ [])
+    reset-clause x e =
+        let z : nextAt b o + getD first (1 + b .vars + i) 0 + 0 ≡ nextAt b o + getD first (1 + b .vars + i) 0 = omega arith in
+        ap (partClauses x) (reset-is e) ∙ set-is x _ _ (Set 0) ∙ ap (λ (n : ℕ). one (negated x ∷ bare n ∷ [])) z
+
+  -- ---- delays
+  pub delay-kept : (d g : ℕ) → g < 1 + b .vars → delayPart b o d g ≡ leadsBy first size o (nextAt b o) g g Keep
+  delay-kept d g h =
+      ap (λ (t : Bool). leadsPart b o g g (cond t Keep (Rise d (b .top)))) (lt-ltb g (1 + b .vars) h) ∙ leads-lent l o g g Keep
+
+  pub delay-raised : (d g : ℕ) → 1 + b .vars ≤ g → delayPart b o d g ≡ leadsBy first size o (nextAt b o) g g (Rise d (b .top))
+  delay-raised d g h =
+      ap (λ (t : Bool). leadsPart b o g g (cond t Keep (Rise d (b .top)))) (le-ltb g (1 + b .vars) h) ∙ leads-lent l o g g (Rise d (b .top))
+
+-- ---- the group after lies below mostVariables
+module _ (b : GroupTable) (o i : ℕ) where
+  pub update-after : (u : Update) → Fits (updatePart b o i u) mostVariables → nextAt b o + firstAt b (1 + i) ≤ mostVariables
+  update-after KeepIt f = omega (arith, f .after-in)
+  update-after (Constant n) f = omega (arith, f .after-in)
+  update-after (Sum w z) f = omega (arith, f .after-in)
+
+  pub reset-after : (u : ClockUpdate) → Fits (resetPart b o i u) mostVariables → nextAt b o + firstAt b (1 + b .vars + i) ≤ mostVariables
+  reset-after Unchanged f = omega (arith, f .after-in)
+  reset-after Reset f = omega (arith, f .after-in)
+
+-- ---- an edge, kind by kind
+module _ {b : GroupTable} (h : Bounded b) {o : ℕ} {e : Edge} (f : EdgeFits b o e) where
+  pub source-in : o + e .source < mostVariables
+  source-in = omega (arith, fits-as (source-part b e o) (f .parts 0 (omega arith)) .after-in)
+
+  pub target-in : nextAt b o + e .target < mostVariables
+  target-in = omega (arith, fits-as (target-part b e o) (f .parts 1 (omega arith)) .after-in)
+
+  pub guard-fits : (k : ℕ) → k < 4 → AtomFits b o (atomAt (e .guard) k)
+  guard-fits k l = record { named = f .guards k l; fits = fits-as (guard-part b e o k l) (f .parts (2 + k) (omega (arith, h .vars-in))) }
+
+  pub updates-fit : (i : ℕ) → i < b .vars → UpdateFits b o i (updateAt e i)
+  updates-fit i l = record { named = f .sources i l; fits = fits-as (counter-part b e o i l) (f .parts (6 + i) (omega (arith, h .vars-in))) }
+
+  pub resets-fit : (i : ℕ) → i < b .groups - (1 + b .vars) → Fits (resetPart b o i (resetAt e i)) mostVariables
+  resets-fit i l = fits-as (clock-part b e o i) (f .parts (6 + b .vars + i) (omega (arith, h .vars-in)))

@@ -1,0 +1,88 @@
+-- put_invariants: the invariant of each location, a location a turn.
+use native.Mathlib.Omega.{arith}
+use borrow.Author.Needs.{needs}
+use Rattle.model.specs.Indexed.{each}
+use Rattle.parts.specs.StateBlock.{sizeAt}
+use Rattle.emission.specs.Writable.{invariantPiece}
+use Rattle.emission.proofs.TableLaws.{size-at}
+use mathlib.Core.Path.{_≡_}
+use Prim.Native.Nat.{_-_, _≤_, _<_}
+use Rattle.emission.specs.Written.{WroteClauses}
+use Rattle.emission.proofs.ClauseLaws.{wrote-each, wrote-each-none, room-each}
+use Rattle.emission.proofs.state.put_invariants.Statement.{statement}
+use Rattle.emission.proofs.state.put_invariants.Tie as tie
+
+abbrev Inv-loop : tie.InvT-loop
+Inv-loop b first size o out₀ at invariants end₀ l₀ l-end out end l = (l ≤ l-end) × WroteClauses (each l (invariantPiece b invariants o)) out₀ out end₀ end
+
+abbrev μ-loop : tie.MeasureT-loop
+μ-loop b first size o out₀ at invariants end₀ l₀ l-end out end l = l-end - l
+
+shared-slice-read-l-end : tie.Need-shared-slice-read-l-end Inv-loop μ-loop
+shared-slice-read-l-end c = omega (arith, c .before .before .before .pre .0 .size-long)
+
+cast-l-end : tie.Need-cast-l-end Inv-loop μ-loop
+cast-l-end c = omega (arith, c .shared-slice-known3 .given 0)
+
+loop-holds : tie.Need-loop-holds Inv-loop μ-loop
+loop-holds c = (omega arith, wrote-each-none _ _ _ (omega (arith, c .before .before .before .pre .2 .words .room)))
+
+mul-v : tie.Need-mul-v Inv-loop μ-loop
+mul-v c = omega (arith, size-at (c .before .before .before .before .before .pre .0) 0, c .before .before .before .before .before .pre .1 .locations-le)
+
+array-copy-out-v : tie.Need-array-copy-out-v Inv-loop μ-loop
+array-copy-out-v c =
+    let start = c .before .before .before .before .before in
+    omega (arith, size-at (start .pre .0) 0, start .pre .1 .locations-le)
+
+add-put-atoms : tie.Need-add-put-atoms Inv-loop μ-loop
+add-put-atoms c =
+    let start = c .before .before .before .before .before .before .before in
+    omega (arith, size-at (start .pre .0) 0, start .pre .1 .locations-in)
+
+put-atoms-requires : tie.Need-put-atoms-requires Inv-loop μ-loop
+put-atoms-requires c κs =
+    let turn = c .before .before .before .before in
+    let start = turn .before .before .before .before in
+    let p = start .pre in
+    let h : turn .loop .l < sizeAt (start .args .b) 0 = omega (arith, size-at (start .pre .0) 0) in
+    (p .0, omega (arith, size-at (p .0) 0, p .1 .locations-in), p .1 .atoms (turn .loop .l) h, room-each _ _ _ (turn .loop .inv .1) h (p .2))
+
+add-l : tie.Need-add-l Inv-loop μ-loop
+add-l c =
+    let start = c .before .before .before .before .before .before .before .before .before .before in
+    omega (arith, size-at (start .pre .0) 0, start .pre .1 .locations-le)
+
+loop-less : tie.Need-loop-less Inv-loop μ-loop
+loop-less c = search needs
+
+loop-again : tie.Need-loop-again Inv-loop μ-loop
+loop-again c = (omega arith, wrote-each _ _ (c .before .before .before .before .before .before .loop .inv .1) (c .before .put-atoms .ensures))
+
+same-length : tie.Need-same-length Inv-loop μ-loop
+same-length c = search needs
+
+returns : tie.Need-returns Inv-loop μ-loop
+returns c =
+    let start = c .before .before .before .before .before in
+    let done : c .before .loop .l ≡ sizeAt (start .args .b) 0 = omega (arith, size-at (start .pre .0) 0) in
+    rw done at (c .before .loop .inv .1)
+
+pub put-invariants-spec : {M : Type 1} → statement M
+put-invariants-spec =
+    tie.close
+    (tie.spec
+    Inv-loop
+    μ-loop
+    shared-slice-read-l-end
+    cast-l-end
+    loop-holds
+    mul-v
+    array-copy-out-v
+    add-put-atoms
+    put-atoms-requires
+    add-l
+    loop-less
+    loop-again
+    same-length
+    returns)

@@ -1,0 +1,184 @@
+// Writers of an edge's clauses, from the state block that begins at `o`; `x` is the variable of its choice. Variables are counted from 0.
+use crate::rules::put_constant;
+use crate::rules::put_kept;
+use crate::rules::put_shifted;
+use crate::state::put_atoms;
+use crate::words::put_implication;
+use model::ClockUpdate;
+use model::Edge;
+use model::Model;
+use model::Update;
+use parts::GroupTable;
+ghost use mathlib.Core.Path.{_≡_};
+ghost use Prim.Native.Nat.{ℕ, _+_, _-_, _<_, _≤_};
+ghost use Rattle.model.specs.Indexed.{each};
+ghost use Rattle.model.specs.Record.{updateAt, resetAt};
+ghost use Rattle.model.specs.Automaton.{stateSize, choices};
+ghost use Rattle.list.specs.Items.{edgesItems};
+ghost use Rattle.list.specs.Clauses.{oneHotWidth, clausesOf};
+ghost use Rattle.parts.specs.Numbering.{mostVariables};
+ghost use Rattle.parts.specs.Rules.{partClauses, Fits};
+ghost use Rattle.parts.specs.StateBlock.{Bounded};
+ghost use Rattle.parts.specs.PartsOf.{greatestAt, updatePart, resetPart};
+ghost use Rattle.parts.specs.Pieces.{Known, edgePiece};
+ghost use Rattle.emission.specs.Written.{RoomFor, WroteClauses};
+ghost use Rattle.emission.specs.Writable.{Lent, UpdateFits, EdgeFits};
+
+// Counter `i`, by its update.
+fn put_update(
+    b: GroupTable,
+    first: &[u16],
+    size: &[u16],
+    x: usize,
+    o: usize,
+    i: usize,
+    greatest: u8,
+    update: Update,
+    out: &mut [i32],
+    at: usize,
+) -> usize
+    requires { ⌜ Lent b (now first) (now size) × (x < mostVariables) × (i < 4) × (greatest ≡ greatestAt b i) × UpdateFits b o i update × RoomFor (partClauses x (updatePart b o i update)) (now out) at ⌝ }
+    ensures { λ r. ⌜ WroteClauses (partClauses x (updatePart b o i update)) (now (out .entry)) (now (out .exit)) at r ⌝ }
+{
+    let g = 1 + i;
+    let place = first[g] as usize;
+    let after = o + b.state + b.choices + place;
+    match update {
+        Update::Keep => put_kept(x, o + place, after, size[g] as usize, out, at),
+        Update::Constant(n) => put_constant(x, after, n, greatest, out, at),
+        Update::Sum { source, offset } => {
+            let w = 1 + source as usize;
+            let before = o + first[w] as usize;
+            put_shifted(
+                x,
+                before,
+                after,
+                size[w] as usize,
+                offset,
+                greatest,
+                out,
+                at,
+            )
+        }
+    }
+}
+
+// Each counter's update.
+fn put_updates(
+    b: GroupTable,
+    first: &[u16],
+    size: &[u16],
+    x: usize,
+    o: usize,
+    e: Edge,
+    out: &mut [i32],
+    at: usize,
+) -> usize
+    requires { ⌜ Lent b (now first) (now size) × (x < mostVariables) × (b .vars ≤ 4) × ((i : ℕ) → i < b .vars → UpdateFits b o i (updateAt e i)) × RoomFor (each (b .vars) (λ i. partClauses x (updatePart b o i (updateAt e i)))) (now out) at ⌝ }
+    ensures { λ r. ⌜ WroteClauses (each (b .vars) (λ i. partClauses x (updatePart b o i (updateAt e i)))) (now (out .entry)) (now (out .exit)) at r ⌝ }
+{
+    let updates = e.updates;
+    let counters = b.counters;
+    let mut end = at;
+    for i in 0..b.vars {
+        let s = updates[i];
+        let update = s.update;
+        let c = counters[i];
+        end = put_update(b, first, size, x, o, i, c.greatest, update, out, end);
+    }
+    end
+}
+
+// Clock `i`: reset gives not edge, 0 after; else each value is kept.
+fn put_reset(
+    b: GroupTable,
+    first: &[u16],
+    size: &[u16],
+    x: usize,
+    o: usize,
+    i: usize,
+    update: ClockUpdate,
+    out: &mut [i32],
+    at: usize,
+) -> usize
+    requires { ⌜ Lent b (now first) (now size) × (x < mostVariables) × (1 + b .vars + i < 9) × Fits (resetPart b o i update) mostVariables × RoomFor (partClauses x (resetPart b o i update)) (now out) at ⌝ }
+    ensures { λ r. ⌜ WroteClauses (partClauses x (resetPart b o i update)) (now (out .entry)) (now (out .exit)) at r ⌝ }
+{
+    let g = 1 + b.vars + i;
+    let place = first[g] as usize;
+    let after = o + b.state + b.choices + place;
+    match update {
+        ClockUpdate::Unchanged => put_kept(x, o + place, after, size[g] as usize, out, at),
+        ClockUpdate::Reset => put_implication(x, after, out, at),
+    }
+}
+
+// Each clock.
+fn put_resets(
+    b: GroupTable,
+    first: &[u16],
+    size: &[u16],
+    x: usize,
+    o: usize,
+    e: Edge,
+    out: &mut [i32],
+    at: usize,
+) -> usize
+    requires { ⌜ Lent b (now first) (now size) × (x < mostVariables) × Bounded b × ((i : ℕ) → i < b .groups - (1 + b .vars) → Fits (resetPart b o i (resetAt e i)) mostVariables) × RoomFor (each (b .groups - (1 + b .vars)) (λ i. partClauses x (resetPart b o i (resetAt e i)))) (now out) at ⌝ }
+    ensures { λ r. ⌜ WroteClauses (each (b .groups - (1 + b .vars)) (λ i. partClauses x (resetPart b o i (resetAt e i)))) (now (out .entry)) (now (out .exit)) at r ⌝ }
+{
+    let resets = e.resets;
+    let mut end = at;
+    for i in 0..b.groups - (1 + b.vars) {
+        let s = resets[i];
+        let update = s.update;
+        end = put_reset(b, first, size, x, o, i, update, out, end);
+    }
+    end
+}
+
+// The edge `e`, which is choice `x`: source, target, guard, counters, clocks.
+fn put_edge(
+    b: GroupTable,
+    first: &[u16],
+    size: &[u16],
+    x: usize,
+    o: usize,
+    e: Edge,
+    out: &mut [i32],
+    at: usize,
+) -> usize
+    requires { ⌜ Lent b (now first) (now size) × (x < mostVariables) × Bounded b × EdgeFits b o e × RoomFor (each (b .groups + 5) (edgePiece x b e o)) (now out) at ⌝ }
+    ensures { λ r. ⌜ WroteClauses (each (b .groups + 5) (edgePiece x b e o)) (now (out .entry)) (now (out .exit)) at r ⌝ }
+{
+    let next = o + b.state + b.choices;
+    let target = put_implication(x, o + e.source as usize, out, at);
+    let guarded = put_implication(x, next + e.target as usize, out, target);
+    let guard = e.guard;
+    let counters = put_atoms(b, first, size, o, x, guard, out, guarded);
+    let clocks = put_updates(b, first, size, x, o, e, out, counters);
+    put_resets(b, first, size, x, o, e, out, clocks)
+}
+
+// Each edge; edge e is choice M + 1 + e.
+pub fn put_edges(
+    m: Model,
+    b: GroupTable,
+    first: &[u16],
+    size: &[u16],
+    o: usize,
+    out: &mut [i32],
+    at: usize,
+) -> usize
+    requires { ⌜ Known m b × Lent b (now first) (now size) × (o + stateSize m + choices m + stateSize m ≤ mostVariables) × RoomFor (clausesOf (edgesItems oneHotWidth m o)) (now out) at ⌝ }
+    ensures { λ r. ⌜ WroteClauses (clausesOf (edgesItems oneHotWidth m o)) (now (out .entry)) (now (out .exit)) at r ⌝ }
+{
+    let start = o + b.state + b.top as usize + 1;
+    let edges = m.edges;
+    let mut end = at;
+    for e in 0..m.used as usize {
+        let edge = edges[e];
+        end = put_edge(b, first, size, start + e, o, edge, out, end);
+    }
+    end
+}

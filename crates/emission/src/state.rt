@@ -1,0 +1,138 @@
+// Writers of the state clauses of the state block that begins at `o`, variables counted from 0. The arrays of the table `b` are lent as `first`
+// and `size`: an array in a record that is handed on by value is copied wherever an element of it is read.
+use crate::rules::put_excluded;
+use crate::words::put_group;
+use model::Atom;
+use model::AtomSlot;
+use model::Invariant;
+use model::Model;
+use parts::GroupTable;
+ghost use mathlib.Core.List.{_++_};
+ghost use Prim.Native.Nat.{ℕ, _+_, _<_, _≤_};
+ghost use Rattle.model.specs.Indexed.{each};
+ghost use Rattle.model.specs.Record.{atomAt};
+ghost use Rattle.parts.specs.Numbering.{mostVariables};
+ghost use Rattle.parts.specs.Rules.{partClauses};
+ghost use Rattle.parts.specs.StateBlock.{sizeAt};
+ghost use Rattle.parts.specs.PartsOf.{atomPart};
+ghost use Rattle.parts.specs.Pieces.{BlockIn, groupPiece, atomPiece};
+ghost use Rattle.emission.specs.Written.{RoomFor, WroteClauses};
+ghost use Rattle.emission.specs.Writable.{Lent, AtomFits, InvariantsFit, invariantPiece};
+
+// The group clauses of each group.
+fn put_groups(
+    b: GroupTable,
+    first: &[u16],
+    size: &[u16],
+    o: usize,
+    out: &mut [i32],
+    at: usize,
+) -> usize
+    requires { ⌜ Lent b (now first) (now size) × BlockIn b o mostVariables × RoomFor (each (b .groups) (groupPiece b o)) (now out) at ⌝ }
+    ensures { λ r. ⌜ WroteClauses (each (b .groups) (groupPiece b o)) (now (out .entry)) (now (out .exit)) at r ⌝ }
+{
+    let mut end = at;
+    for g in 0..b.groups {
+        end = put_group(o + first[g] as usize, size[g] as usize, out, end);
+    }
+    end
+}
+
+// An atom under `x`: each value of its group that fails it.
+fn put_atom(
+    b: GroupTable,
+    first: &[u16],
+    size: &[u16],
+    o: usize,
+    x: usize,
+    atom: Atom,
+    out: &mut [i32],
+    at: usize,
+) -> usize
+    requires { ⌜ Lent b (now first) (now size) × (x < mostVariables) × AtomFits b o atom × RoomFor (partClauses x (atomPart b o atom)) (now out) at ⌝ }
+    ensures { λ r. ⌜ WroteClauses (partClauses x (atomPart b o atom)) (now (out .entry)) (now (out .exit)) at r ⌝ }
+{
+    match atom {
+        Atom::Blank => at,
+        Atom::OnClock {
+            clock,
+            relation,
+            constant,
+        } => {
+            let g = 1 + b.vars + clock as usize;
+            let before = o + first[g] as usize;
+            put_excluded(x, before, size[g] as usize, relation, constant, out, at)
+        }
+        Atom::OnCounter {
+            counter,
+            relation,
+            constant,
+        } => {
+            let h = 1 + counter as usize;
+            let start = o + first[h] as usize;
+            put_excluded(x, start, size[h] as usize, relation, constant, out, at)
+        }
+    }
+}
+
+// The atoms of an invariant or a guard under `x`, in order of the slots.
+pub fn put_atoms(
+    b: GroupTable,
+    first: &[u16],
+    size: &[u16],
+    o: usize,
+    x: usize,
+    atoms: [AtomSlot; Model::ATOMS],
+    out: &mut [i32],
+    at: usize,
+) -> usize
+    requires { ⌜ Lent b (now first) (now size) × (x < mostVariables) × ((k : ℕ) → k < 4 → AtomFits b o (atomAt atoms k)) × RoomFor (each 4 (atomPiece b o x atoms)) (now out) at ⌝ }
+    ensures { λ r. ⌜ WroteClauses (each 4 (atomPiece b o x atoms)) (now (out .entry)) (now (out .exit)) at r ⌝ }
+{
+    let mut end = at;
+    for k in 0..Model::ATOMS {
+        let s = atoms[k];
+        let atom = s.atom;
+        end = put_atom(b, first, size, o, x, atom, out, end);
+    }
+    end
+}
+
+// The invariant of each location.
+fn put_invariants(
+    b: GroupTable,
+    first: &[u16],
+    size: &[u16],
+    invariants: [Invariant; Model::LOCATIONS],
+    o: usize,
+    out: &mut [i32],
+    at: usize,
+) -> usize
+    requires { ⌜ Lent b (now first) (now size) × InvariantsFit b invariants o × RoomFor (each (sizeAt b 0) (invariantPiece b invariants o)) (now out) at ⌝ }
+    ensures { λ r. ⌜ WroteClauses (each (sizeAt b 0) (invariantPiece b invariants o)) (now (out .entry)) (now (out .exit)) at r ⌝ }
+{
+    let mut end = at;
+    for l in 0..size[0] as usize {
+        let v = invariants[l];
+        let atoms = v.atoms;
+        end = put_atoms(b, first, size, o, o + l, atoms, out, end);
+    }
+    end
+}
+
+// The state clauses: each group, then each invariant.
+pub fn put_state(
+    b: GroupTable,
+    first: &[u16],
+    size: &[u16],
+    invariants: [Invariant; Model::LOCATIONS],
+    o: usize,
+    out: &mut [i32],
+    at: usize,
+) -> usize
+    requires { ⌜ Lent b (now first) (now size) × BlockIn b o mostVariables × InvariantsFit b invariants o × RoomFor (each (b .groups) (groupPiece b o) ++ each (sizeAt b 0) (invariantPiece b invariants o)) (now out) at ⌝ }
+    ensures { λ r. ⌜ WroteClauses (each (b .groups) (groupPiece b o) ++ each (sizeAt b 0) (invariantPiece b invariants o)) (now (out .entry)) (now (out .exit)) at r ⌝ }
+{
+    let mid = put_groups(b, first, size, o, out, at);
+    put_invariants(b, first, size, invariants, o, out, mid)
+}

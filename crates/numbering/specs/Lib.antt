@@ -1,4 +1,0 @@
-pub mod Numbering
-pub mod Groups
-pub mod StepBlocks
-pub mod Layouts
