@@ -4,6 +4,7 @@ use mathlib.Core.Bool.{Bool, true, false, cond}
 use mathlib.Core.List.{List}
 use Prim.Native.Nat.{ℕ, _+_, _-_, _≤_}
 use lib.Dec.{eqb, ltb}
+use Rattle.model.specs.declared.Relation.{Relation}
 use Rattle.model.specs.declared.Atom.{Atom}
 use Rattle.model.specs.declared.Atom.the-variants.{Blank, OnClock, OnCounter}
 use Rattle.model.specs.declared.Update.{Update}
@@ -20,7 +21,7 @@ use Rattle.parts.specs.declared.Part.{Part}
 use Rattle.parts.specs.Rules.{partClauses}
 use Rattle.parts.specs.declared.GroupTable.{GroupTable}
 use Rattle.parts.specs.StateBlock.{sizeAt, Bounded}
-use Rattle.parts.specs.PartsOf.{nextAt, atomPart, setPart, updatePart, resetPart, edgePart}
+use Rattle.parts.specs.PartsOf.{nextAt, excludePart, atomPart, setPart, updatePart, resetPart, edgePart}
 use Rattle.parts.specs.Pieces.{groupPiece, atomPiece, edgePiece}
 use Rattle.counts.specs.Counted.{Counted}
 use Rattle.counts.specs.PartCounts.{partCount, partWords}
@@ -46,16 +47,19 @@ reset-kind : (b : GroupTable) (o i : ℕ) (u : ClockUpdate) → kind (resetPart 
 reset-kind b o i Unchanged = refl
 reset-kind b o i Reset = refl
 
+-- a part of an edge, by four tests of its number
+abbrev picked : GroupTable → Edge → ℕ → Bool → Bool → Bool → Bool → ℕ → Part
+picked b e j p q r s o =
+    cond p (setPart o (sizeAt b 0) (Set (e .source)))
+    (cond q (setPart (nextAt b o) (sizeAt b 0) (Set (e .target)))
+    (cond r (atomPart b o (atomAt (e .guard) (j - 2)))
+    (cond s (updatePart b o (j - 6) (updateAt e (j - 6))) (resetPart b o (j - 6 - b .vars) (resetAt e (j - 6 - b .vars))))))
+
 edge-kind : (b : GroupTable) (e : Edge) (o j : ℕ) → kind (edgePart b e o j) ≡ kind (edgePart b e 0 j)
 unfolding edgePart
 edge-kind b e o j = by (eqb j 0) (eqb j 1) (ltb j 6) (ltb (j - 6) (b .vars))
   where
-    pick : Bool → Bool → Bool → Bool → ℕ → Part
-    pick p q r s n =
-        cond p (setPart n (sizeAt b 0) (Set (e .source))) (cond q (setPart (nextAt b n) (sizeAt b 0) (Set (e .target))) (cond r (atomPart b n (atomAt (e .guard) (j - 2)))
-        (cond s (updatePart b n (j - 6) (updateAt e (j - 6))) (resetPart b n (j - 6 - b .vars) (resetAt e (j - 6 - b .vars))))))
-
-    by : (p q r s : Bool) → kind (pick p q r s o) ≡ kind (pick p q r s 0)
+    by : (p q r s : Bool) → kind (picked b e j p q r s o) ≡ kind (picked b e j p q r s 0)
     by true q r s = refl
     by false true r s = refl
     by false false true s = atom-kind b o (atomAt (e .guard) (j - 2))
@@ -67,8 +71,8 @@ module _ (b : GroupTable) (o x : ℕ) {c w : ℕ} where
   pub atom-counted : (a : Atom) → c ≡ partCount (atomPart b 0 a) → w ≡ partWords (atomPart b 0 a) → Counted (partClauses x (atomPart b o a)) c w
   atom-counted a p q = counted-part x (atomPart b o a) (p ∙ ap partCount (sym (atom-kind b o a))) (q ∙ ap partWords (sym (atom-kind b o a)))
 
-  pub edge-counted : (e : Edge) (j : ℕ) → c ≡ partCount (edgePart b e 0 j) → w ≡ partWords (edgePart b e 0 j) → Counted (edgePiece x b e o j) c w
-  edge-counted e j p q =
+  pub edge-part-counted : (e : Edge) (j : ℕ) → c ≡ partCount (edgePart b e 0 j) → w ≡ partWords (edgePart b e 0 j) → Counted (edgePiece x b e o j) c w
+  edge-part-counted e j p q =
       counted-part x (edgePart b e o j) (p ∙ ap partCount (sym (edge-kind b e o j))) (q ∙ ap partWords (sym (edge-kind b e o j)))
 
 -- ---- at most 32 values each
@@ -91,12 +95,7 @@ module _ (b : GroupTable) (h : Bounded b) (o : ℕ) where
   unfolding edgePart
   edge-small e j = by (eqb j 0) (eqb j 1) (ltb j 6) (ltb (j - 6) (b .vars))
     where
-      pick : Bool → Bool → Bool → Bool → Part
-      pick p q r s =
-          cond p (setPart o (sizeAt b 0) (Set (e .source))) (cond q (setPart (nextAt b o) (sizeAt b 0) (Set (e .target))) (cond r (atomPart b o (atomAt (e .guard) (j - 2)))
-          (cond s (updatePart b o (j - 6) (updateAt e (j - 6))) (resetPart b o (j - 6 - b .vars) (resetAt e (j - 6 - b .vars))))))
-
-      by : (p q r s : Bool) → pick p q r s .size ≤ 32
+      by : (p q r s : Bool) → picked b e j p q r s o .size ≤ 32
       by true q r s = omega arith
       by false true r s = omega arith
       by false false true s = atom-small (atomAt (e .guard) (j - 2))
@@ -104,12 +103,14 @@ module _ (b : GroupTable) (h : Bounded b) (o : ℕ) where
       by false false false false = reset-small (j - 6 - b .vars) (resetAt e (j - 6 - b .vars))
 
   -- the clauses of an atom have two literals
+  exclude-most : (x g : ℕ) (relation : Relation) (constant : ℕ) → Most (partClauses x (excludePart b o g relation constant)) 32 96
+  exclude-most x g relation constant =
+      most-part x (excludePart b o g relation constant) 3 96 (exclude-words-le relation constant) (omega (arith, h .size-le g)) (h .size-le g)
+
   pub atom-most : (x : ℕ) (a : Atom) → Most (partClauses x (atomPart b o a)) 32 96
   atom-most x Blank = most-part x (atomPart b o Blank) 4 96 (rule-words-le Forbid) (omega arith) (omega arith)
-  atom-most x (OnClock y relation constant) =
-      most-part x (atomPart b o (OnClock y relation constant)) 3 96 (exclude-words-le relation constant) (omega (arith, h .size-le (1 + b .vars + y))) (h .size-le (1 + b .vars + y))
-  atom-most x (OnCounter y relation constant) =
-      most-part x (atomPart b o (OnCounter y relation constant)) 3 96 (exclude-words-le relation constant) (omega (arith, h .size-le (1 + y))) (h .size-le (1 + y))
+  atom-most x (OnClock y relation constant) = exclude-most x (1 + b .vars + y) relation constant
+  atom-most x (OnCounter y relation constant) = exclude-most x (1 + y) relation constant
 
   pub atoms-most : (x : ℕ) (atoms : List AtomSlot) (n : ℕ) → n ≤ 4 → Most (each n (atomPiece b o x atoms)) 128 384
   atoms-most x atoms n l = most-few (atomPiece b o x atoms) 32 96 n 4 l (λ k p. atom-most x (atomAt atoms k))

@@ -15,7 +15,7 @@ use Rattle.model.specs.declared.Relation.{Relation}
 use Rattle.model.specs.declared.Relation.the-variants.{Less, LessEqual, Equal, GreaterEqual, Greater, NotEqual}
 use Rattle.model.specs.Indexed.{each, sumBelow, onlyIf, isSome}
 use Rattle.model.specs.Automaton.{meets, inRange, moved, shifted}
-use Rattle.model.proofs.IndexedLaws.{length-each, sum-below, sum-const, lt-or-le}
+use Rattle.model.proofs.IndexedLaws.{length-each, sum-below, lt-or-le}
 use Rattle.new_values.proofs.Signed.{negative-test}
 use Rattle.list.specs.Clauses.{Clause, bare, negated, one, clauseWords, wordsOf}
 use Rattle.list.specs.Lists.{toList}

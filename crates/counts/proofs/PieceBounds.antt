@@ -2,7 +2,7 @@
 -- 64 choices, 6,113 words; and the pieces, one after the other, are the list.
 use mathlib.Core.Path.{_≡_, refl, sym, ap, ap₂, _∙_}
 use mathlib.Core.List.{List, [], _∷_, _++_, flatMap}
-use Prim.Native.Nat.{ℕ, zero, suc, _+_, _*_, _≤_, _<_}
+use Prim.Native.Nat.{ℕ, zero, suc, _+_, _≤_, _<_}
 use native.Mathlib.Omega.{arith}
 use lib.Dec.{T}
 use lib.ListN.{length}
@@ -13,25 +13,28 @@ use Rattle.model.specs.Automaton.{ceiling, choices, Component, loc, counter, cl
 use Rattle.model.specs.Form.{wellFormed}
 use Rattle.model.proofs.FormLaws.{WellFormed, formed, choices-le, stateSize-le}
 use Rattle.list.specs.Lists.{All}
-use Rattle.list.specs.Items.{Item, group, overComponents, offset, stateWidth, blockAt, nextBlock, groupItems, invariantOf, invariantItems, stateItems, initialItems, startItems, choiceItems, delayItems, delaysItems, edgeOf, edgesItems, stepItems, endItems, bodyItems, items}
+use Rattle.list.specs.Items.{Item, group, overComponents, offset, stateWidth, blockAt, nextBlock, groupItems, invariantOf, invariantItems, stateItems}
+use Rattle.list.specs.Items.{initialItems, startItems, choiceItems, delayItems, delaysItems, edgeOf, edgesItems, stepItems, endItems, bodyItems, items}
 use Rattle.list.specs.Clauses.{Clause, oneHotWidth, groupClauses, expand, clausesOf, clauses, wordsOf, words}
 use Rattle.list.proofs.ListLaws.{all-app, all-app₃, all-app₄, all-each, flat-app, flat-one, flat-each, each-cong, each-add}
-use Rattle.list.proofs.Pieces.{clauses-pieces, end-piece, start-piece, state-piece, groups-piece, invariants-piece, step-piece, choice-piece, delays-piece, edges-piece}
+use Rattle.list.proofs.Pieces.{clauses-pieces, end-piece, start-piece, state-piece, groups-piece, invariants-piece}
+use Rattle.list.proofs.Pieces.{step-piece, choice-piece, delays-piece, edges-piece}
 use Rattle.parts.specs.declared.Rule.the-variants.{Set}
 use Rattle.parts.specs.declared.GroupTable.{GroupTable}
 use Rattle.parts.specs.Rules.{partClauses}
 use Rattle.parts.specs.StateBlock.{groupTable}
-use Rattle.parts.specs.PartsOf.{atomPart, setPart}
+use Rattle.parts.specs.PartsOf.{setPart}
 use Rattle.parts.specs.Pieces.{Known, edgePiece, edgeClauses}
 use Rattle.parts.proofs.EdgeParts.{source-part, target-part, guard-part}
 use Rattle.parts.proofs.PartPieces.{set-is, delay-law}
 use Rattle.parts.proofs.KnownLaws.{known-bounded, known-groups, known-state, location-piece-of, edge-piece-of}
-use Rattle.counts.specs.WrittenPieces.{pieceWords, statePieces, startPieces, stepPieces, pieces}
+use Rattle.counts.specs.KnownCounts.{mostClauses, mostWords}
+use Rattle.counts.specs.WrittenPieces.{mostPieceWords, pieceWords, statePieces, startPieces, stepPieces, pieces}
 use Rattle.counts.proofs.CountLaws.{counted-one, Most, by-count, most-as, most-app, most-few}
 use Rattle.counts.proofs.GroupLaws.{counted-group, group-16, group-32, group-64}
 use Rattle.counts.proofs.PartLaws.{part-most}
 use Rattle.counts.proofs.EdgeLaws.{edge-small, atom-most, atoms-most}
-use Rattle.counts.proofs.ListSize.{initial-counted, delay-counted}
+use Rattle.counts.proofs.ListTotals.{initial-counted, delay-counted}
 
 -- ---- the pieces of a well-formed model
 module _ (m : Model) (h : T (wellFormed m)) where
@@ -68,7 +71,8 @@ module _ (m : Model) (h : T (wellFormed m)) where
       parts : each (b .groups + 5) F ≡ each 2 F ++ each 4 (λ j. F (2 + j)) ++ each (m .vars + m .clocks) (λ i. F (6 + i))
       parts =
           let n : b .groups + 5 ≡ 6 + (m .vars + m .clocks) = omega (arith, known-groups known) in
-          ap (λ (i : ℕ). each i F) n ∙ each-add 6 (m .vars + m .clocks) F ∙ ap (λ (l : List Clause). l ++ each (m .vars + m .clocks) (λ i. F (6 + i))) (each-add 2 4 F)
+          let k = m .vars + m .clocks in
+          ap (λ (i : ℕ). each i F) n ∙ each-add 6 k F ∙ ap (λ (l : List Clause). l ++ each k (λ i. F (6 + i))) (each-add 2 4 F)
 
       ends : (j : ℕ) → j < 2 → Most (F j) 1 3
       ends zero p = most-as (ap (partClauses x) (sym (source-part b (edgeAt m e) o))) (set-most x _ _ (edgeAt m e .source))
@@ -91,7 +95,8 @@ module _ (m : Model) (h : T (wellFormed m)) where
 
   initial-most : Most (clausesOf (initialItems oneHotWidth m)) 9 18
   initial-most =
-      by-count (initial-counted known) (omega (arith, known-groups known, ok .vars-le, ok .clocks-le)) (omega (arith, known-groups known, ok .vars-le, ok .clocks-le))
+      let n : b .groups ≤ 9 = omega (arith, known-groups known, ok .vars-le, ok .clocks-le) in
+      by-count (initial-counted known) n (omega (arith, n))
 
   end-most : (k : ℕ) → Most (clausesOf (endItems oneHotWidth m k)) 1 2
   end-most k = most-as (sym (end-piece m k)) (by-count (counted-one _) (omega arith) (omega arith))
@@ -127,32 +132,32 @@ module _ (m : Model) (h : T (wellFormed m)) where
   step-most : (o : ℕ) → Most (clausesOf (stepItems oneHotWidth m o)) 29218 104866
   step-most o = most-as (sym (step-piece m o)) (most-app _ _ (moves-most o) (state-most (nextBlock oneHotWidth m o)))
 
-  pub list-most : (k : ℕ) → k ≤ 64 → Most (clauses m k) 1876107 6730133
+  pub list-most : (k : ℕ) → k ≤ 64 → Most (clauses m k) mostClauses mostWords
   list-most k l =
       most-as (sym (clauses-pieces m k))
       (most-app _ _ (most-app _ _ (most-as (sym (start-piece m)) (most-app _ _ (state-most 0) initial-most))
       (most-few _ 29218 104866 k 64 l (λ t p. step-most (blockAt oneHotWidth m t)))) (end-most k))
 
 -- The list of a well-formed model for a bound of at most 64 has at most so many clauses and words.
-pub list-clauses-most : (m : Model) → T (wellFormed m) → (k : ℕ) → k ≤ 64 → length (clauses m k) ≤ 1876107
+pub list-clauses-most : (m : Model) → T (wellFormed m) → (k : ℕ) → k ≤ 64 → length (clauses m k) ≤ mostClauses
 list-clauses-most m h k l = list-most m h k l .clauses-most
 
-pub list-words-most : (m : Model) → T (wellFormed m) → (k : ℕ) → k ≤ 64 → length (words m k) ≤ 6730133
+pub list-words-most : (m : Model) → T (wellFormed m) → (k : ℕ) → k ≤ 64 → length (words m k) ≤ mostWords
 unfolding words
 list-words-most m h k l = list-most m h k l .words-most
 
 -- ---- each piece
 abbrev Short : List Item → Type 0
-Short p = pieceWords p ≤ 6113
+Short p = pieceWords p ≤ mostPieceWords
 
-short : (p : List Item) {c w : ℕ} → Most (clausesOf p) c w → w ≤ 6113 → Short p
+short : (p : List Item) {c w : ℕ} → Most (clausesOf p) c w → w ≤ mostPieceWords → Short p
 short p s l = omega (arith, s .words-most)
 
 shorts : (n : ℕ) (f : ℕ → List Item) → ((i : ℕ) → i < n → Short (f i)) → All Short (each n (λ i. f i ∷ []))
 shorts n f h = all-each Short n (λ i. f i ∷ []) .1 (λ i l. (h i l, tt))
 
 -- a group alone
-group-short : (first n : ℕ) {c w : ℕ} → Most (groupClauses first n) c w → w ≤ 6113 → Short (group first n ∷ [])
+group-short : (first n : ℕ) {c w : ℕ} → Most (groupClauses first n) c w → w ≤ mostPieceWords → Short (group first n ∷ [])
 group-short first n s l = short (group first n ∷ []) (most-as (sym (flat-one expand (group first n))) s) l
 
 module _ (m : Model) (h : T (wellFormed m)) where
@@ -185,7 +190,7 @@ module _ (m : Model) (h : T (wellFormed m)) where
       )
 
 -- Of a well-formed model, no piece that emission writes at once has more than 6,113 words.
-pub piece-words-most : (m : Model) → T (wellFormed m) → (k : ℕ) → All (λ p. pieceWords p ≤ 6113) (pieces m k)
+pub piece-words-most : (m : Model) → T (wellFormed m) → (k : ℕ) → All (λ p. pieceWords p ≤ mostPieceWords) (pieces m k)
 unfolding pieces startPieces
 piece-words-most m h k =
     all-app₃ Short (startPieces m) (each k (λ t. stepPieces m (blockAt oneHotWidth m t))) (endItems oneHotWidth m k ∷ []) .1 (
@@ -195,7 +200,7 @@ piece-words-most m h k =
     )
 
 -- The group of 64 choices has just as many.
-pub choice-words : (m : Model) (o : ℕ) → choices m ≡ 64 → pieceWords (choiceItems oneHotWidth m o) ≡ 6113
+pub choice-words : (m : Model) (o : ℕ) → choices m ≡ 64 → pieceWords (choiceItems oneHotWidth m o) ≡ mostPieceWords
 choice-words m o e =
     ap (λ (l : List Clause). length (wordsOf l)) (choice-piece m o ∙ ap (groupClauses (o + stateWidth oneHotWidth m)) e) ∙ sym
     (counted-group (o + stateWidth oneHotWidth m) 64 .words-are)
@@ -237,5 +242,6 @@ pieces-joined m k =
     let step : ℕ → List (List Item) = λ t. stepPieces m (blockAt oneHotWidth m t) in
     join-app _ _
     (join-app _ _ (join-app _ _ (state-joined m 0) (flat-one (λ p. p) (initialItems oneHotWidth m)))
-    (flat-each (λ p. p) k step ∙ each-cong k (λ t. joined (step t)) (λ t. stepItems oneHotWidth m (blockAt oneHotWidth m t)) (λ t l. step-joined m (blockAt oneHotWidth m t))))
+    (flat-each (λ p. p) k step ∙ each-cong k (λ t. joined (step t)) (λ t. stepItems oneHotWidth m (blockAt oneHotWidth m t))
+    (λ t l. step-joined m (blockAt oneHotWidth m t))))
     (flat-one (λ p. p) (endItems oneHotWidth m k))

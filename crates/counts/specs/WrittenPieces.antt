@@ -8,6 +8,10 @@ use Rattle.model.specs.Automaton.{ceiling, groupSize}
 use Rattle.list.specs.Items.{Item, group, overComponents, offset, blockAt, nextBlock, initialItems, choiceItems, delayItems, endItems, invariantOf, edgeOf}
 use Rattle.list.specs.Clauses.{oneHotWidth, clausesOf, wordsOf}
 
+-- The longest piece is the group of 64 choices: 64 literals and the 0, and three words for each of 2016 pairs.
+abbrev pub mostPieceWords : ℕ
+mostPieceWords = 6113
+
 -- How many words a piece has.
 abbrev pub pieceWords : List Item → ℕ
 pieceWords piece = length (wordsOf (clausesOf piece))

@@ -36,9 +36,9 @@ pub fn edge_count(b: GroupTable, e: Edge) -> Count
     let mut clauses: usize = 0;
     let mut words: usize = 0;
     for j in 0..b.groups + 5 {
-        let a = count_part(b.edge_part(e, 0, j));
-        clauses += a.clauses;
-        words += a.words;
+        let part = count_part(b.edge_part(e, 0, j));
+        clauses += part.clauses;
+        words += part.words;
     }
     Count { clauses, words }
 }

@@ -7,7 +7,7 @@ use parts::Rule;
 use parts::smaller;
 ghost use mathlib.Core.Path.{_≡_};
 ghost use mathlib.Core.Bool.{cond};
-ghost use Prim.Native.Nat.{_+_, _*_, _≤_};
+ghost use Prim.Native.Nat.{_≤_};
 ghost use lib.Dec.{ltb};
 ghost use Rattle.model.specs.Indexed.{sumBelow, isSome};
 ghost use Rattle.model.specs.Automaton.{shifted};
@@ -39,7 +39,7 @@ fn failing_count(relation: Relation, constant: u8, n: usize) -> usize
 
 // Whether v plus the offset lies in 0 to `greatest`.
 fn lands(v: usize, offset: i8, greatest: usize) -> bool
-    requires { ⌜ v ≤ 256 ⌝ }
+    requires { ⌜ v ≤ 32 ⌝ }
     ensures { λ r. ⌜ r ≡ isSome (shifted offset greatest v) ⌝ }
 {
     let a = amount(offset) as usize;

@@ -9,14 +9,16 @@ use Rattle.list.specs.Clauses.{oneHotWidth, clausesOf}
 use Rattle.parts.proofs.KnownLaws.{known-bounded}
 use Rattle.counts.specs.Counted.{Counted}
 use Rattle.counts.proofs.CountLaws.{counted-each-none, counted-each-more, Most, clauses-le, words-le}
-use Rattle.counts.proofs.ListSize.{choice-counted, edges-counted}
+use Rattle.counts.proofs.ListTotals.{edge-counted, edges-counted}
 use Rattle.counts.proofs.PieceBounds.{edges-most}
 use borrow.Author.Needs.{needs}
 use Rattle.counts.proofs.edges_count.Statement.{statement}
 use Rattle.counts.proofs.edges_count.Tie as tie
 
 abbrev Inv-loop : tie.InvT-loop
-Inv-loop b m clauses₀ words₀ i₀ i-end clauses words i = (i ≤ i-end) × (i-end ≡ m .used) × ((o : ℕ) → Counted (each i (λ j. clausesOf (edgeOf oneHotWidth m o j))) clauses words)
+Inv-loop b m clauses₀ words₀ i₀ i-end clauses words i =
+    (i ≤ i-end) × (i-end ≡ m .used)
+    × ((o : ℕ) → Counted (each i (λ j. clausesOf (edgeOf oneHotWidth m o j))) clauses words)
 
 abbrev μ-loop : tie.MeasureT-loop
 μ-loop b m clauses₀ words₀ i₀ i-end clauses words i = i-end - i
@@ -39,10 +41,11 @@ edge-count-requires c κs = known-bounded (c .before .before .before .pre)
 -- with one edge more
 next : (c : tie.After-edge-count Inv-loop μ-loop)
     → let l = c .before .before .before .loop in let m = c .before .before .before .before .args .t1 in
-    (o : ℕ) → Counted (each (l .i + 1) (λ j. clausesOf (edgeOf oneHotWidth m o j))) (l .clauses + c .edge-count .result .clauses) (l .words + c .edge-count .result .words)
+    (o : ℕ) → Counted (each (l .i + 1) (λ j. clausesOf (edgeOf oneHotWidth m o j)))
+    (l .clauses + c .edge-count .result .clauses) (l .words + c .edge-count .result .words)
 next c o =
     let p = c .before .before .before in
-    counted-each-more _ (p .loop .inv .2 o) (choice-counted (p .before .pre) (p .loop .i) (omega arith) (c .edge-count .ensures) o)
+    counted-each-more _ (p .loop .inv .2 o) (edge-counted (p .before .pre) (p .loop .i) (omega arith) (c .edge-count .ensures) o)
 
 most : (c : tie.After-edge-count Inv-loop μ-loop)
     → let m = c .before .before .before .before .args .t1 in

@@ -9,14 +9,16 @@ use Rattle.list.specs.Clauses.{oneHotWidth, clausesOf}
 use Rattle.parts.proofs.KnownLaws.{known-bounded}
 use Rattle.counts.specs.Counted.{Counted}
 use Rattle.counts.proofs.CountLaws.{counted-each-none, counted-each-more, Most, clauses-le, words-le}
-use Rattle.counts.proofs.ListSize.{location-counted, invariants-counted}
+use Rattle.counts.proofs.ListTotals.{location-counted, invariants-counted}
 use Rattle.counts.proofs.PieceBounds.{invariants-most}
 use borrow.Author.Needs.{needs}
 use Rattle.counts.proofs.invariants_count.Statement.{statement}
 use Rattle.counts.proofs.invariants_count.Tie as tie
 
 abbrev Inv-loop : tie.InvT-loop
-Inv-loop b m clauses₀ words₀ l₀ l-end clauses words l = (l ≤ l-end) × (l-end ≡ m .locations) × ((o : ℕ) → Counted (each l (λ j. clausesOf (invariantOf oneHotWidth m o j))) clauses words)
+Inv-loop b m clauses₀ words₀ l₀ l-end clauses words l =
+    (l ≤ l-end) × (l-end ≡ m .locations)
+    × ((o : ℕ) → Counted (each l (λ j. clausesOf (invariantOf oneHotWidth m o j))) clauses words)
 
 abbrev μ-loop : tie.MeasureT-loop
 μ-loop b m clauses₀ words₀ l₀ l-end clauses words l = l-end - l
@@ -39,7 +41,8 @@ atoms-count-requires c κs = known-bounded (c .before .before .before .before .p
 -- with one location more
 next : (c : tie.After-atoms-count Inv-loop μ-loop)
     → let l = c .before .before .before .before .loop in let m = c .before .before .before .before .before .args .t1 in
-    (o : ℕ) → Counted (each (l .l + 1) (λ j. clausesOf (invariantOf oneHotWidth m o j))) (l .clauses + c .atoms-count .result .clauses) (l .words + c .atoms-count .result .words)
+    (o : ℕ) → Counted (each (l .l + 1) (λ j. clausesOf (invariantOf oneHotWidth m o j)))
+    (l .clauses + c .atoms-count .result .clauses) (l .words + c .atoms-count .result .words)
 next c o =
     let p = c .before .before .before .before in
     counted-each-more _ (p .loop .inv .2 o) (location-counted (p .before .pre) (p .loop .l) (omega arith) (c .atoms-count .ensures) o)

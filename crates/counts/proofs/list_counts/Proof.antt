@@ -3,9 +3,11 @@ use native.Mathlib.Omega.{arith}
 use Prim.Native.Nat.{_+_, _*_, _≤_}
 use Rattle.model.proofs.FormLaws.{formed, variables-le}
 use Rattle.list.specs.Clauses.{clauses}
+use Rattle.parts.specs.Numbering.{mostVariables}
 use Rattle.counts.specs.Counted.{Counted}
+use Rattle.counts.specs.KnownCounts.{mostClauses, mostWords}
 use Rattle.counts.proofs.CountLaws.{Most, clauses-le, words-le}
-use Rattle.counts.proofs.ListSize.{list-counted, list-words, known-variables}
+use Rattle.counts.proofs.ListTotals.{list-counted, list-words, known-variables}
 use Rattle.counts.proofs.PieceBounds.{state-most, moves-most, list-most}
 use borrow.Author.Needs.{needs}
 use Rattle.counts.proofs.list_counts.Statement.{statement}
@@ -21,7 +23,7 @@ add-t8 : tie.Need-add-t8
 add-t8 c = search needs
 
 variables-le-most : (c : tie.After-moves-count)
-    → let a = c .before .before .args in a .z .state + a .bound * (a .z .state + a .z .choices) ≤ 21776
+    → let a = c .before .before .args in a .z .state + a .bound * (a .z .state + a .z .choices) ≤ mostVariables
 variables-le-most c =
     let p = c .before .before in
     let a = p .args in
@@ -35,7 +37,7 @@ counted : (c : tie.After-moves-count)
     (s .words + a .b .groups * 2 + a .bound * (t .words + s .words) + 2)
 counted c = let p = c .before .before in list-counted (p .pre .1) (p .args .bound) (c .before .state-count .ensures) (c .moves-count .ensures)
 
-most : (c : tie.After-moves-count) → let a = c .before .before .args in Most (clauses (a .m) (a .bound)) 1876107 6730133
+most : (c : tie.After-moves-count) → let a = c .before .before .args in Most (clauses (a .m) (a .bound)) mostClauses mostWords
 most c = let p = c .before .before in list-most (p .args .m) (p .pre .1 .formed) (p .args .bound) (p .pre .2)
 
 -- a step

@@ -8,7 +8,7 @@ use Rattle.list.specs.Clauses.{oneHotWidth, clausesOf}
 use Rattle.parts.proofs.KnownLaws.{known-bounded}
 use Rattle.counts.specs.Counted.{Counted}
 use Rattle.counts.proofs.CountLaws.{Most, clauses-le, words-le}
-use Rattle.counts.proofs.ListSize.{moves-counted}
+use Rattle.counts.proofs.ListTotals.{moves-counted}
 use Rattle.counts.proofs.PieceBounds.{moves-most}
 use borrow.Author.Needs.{needs}
 use Rattle.counts.proofs.moves_count.Statement.{statement}
@@ -37,10 +37,11 @@ edges-count-requires c κs = search needs
 
 counted : (c : tie.After-edges-count)
     → let a = c .before .before .before .before .args in
+    let m = a .m in
     let n = (a .b .top + 1) * a .b .state in
     let g = c .before .before .before .group-count .result in
     let e = c .edges-count .result in
-    (o : ℕ) → Counted (clausesOf (choiceItems oneHotWidth (a .m) o) ++ clausesOf (delaysItems oneHotWidth (a .m) o) ++ clausesOf (edgesItems oneHotWidth (a .m) o))
+    (o : ℕ) → Counted (clausesOf (choiceItems oneHotWidth m o) ++ clausesOf (delaysItems oneHotWidth m o) ++ clausesOf (edgesItems oneHotWidth m o))
     (g .clauses + n + e .clauses) (g .words + n * 4 + e .words)
 counted c o =
     let p = c .before .before .before in

@@ -35,7 +35,8 @@ atom-part-requires c κs = search needs
 count-part-requires : tie.Need-count-part-requires Inv-loop μ-loop
 count-part-requires c κs =
     let p = c .before .before .before in
-    subst (λ (q : Part). q .size ≤ 32) (sym (c .atom-part .ensures)) (atom-small (p .before .args .b) (p .before .pre) 0 (atomAt (p .before .args .t2) (p .loop .k)))
+    let a = p .before .args in
+    subst (λ (q : Part). q .size ≤ 32) (sym (c .atom-part .ensures)) (atom-small (a .b) (p .before .pre) 0 (atomAt (a .t2) (p .loop .k)))
 
 -- with one atom more
 next : (c : tie.After-count-part Inv-loop μ-loop)

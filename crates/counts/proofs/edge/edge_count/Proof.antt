@@ -8,7 +8,7 @@ use Rattle.parts.specs.Pieces.{edgePiece}
 use Rattle.counts.specs.Counted.{Counted}
 use Rattle.counts.specs.PartCounts.{partCount, partWords}
 use Rattle.counts.proofs.CountLaws.{counted-each-none, counted-each-more, Most, clauses-le, words-le}
-use Rattle.counts.proofs.EdgeLaws.{edge-counted, edge-small, edge-parts-most}
+use Rattle.counts.proofs.EdgeLaws.{edge-part-counted, edge-small, edge-parts-most}
 use borrow.Author.Needs.{needs}
 use Rattle.counts.proofs.edge.edge_count.Statement.{statement}
 use Rattle.counts.proofs.edge.edge_count.Tie as tie
@@ -43,7 +43,7 @@ next c x o =
     let a = c .before .before .before .before .before .args in
     let r = c .before .edge-part .ensures in
     let n = c .count-part .ensures in
-    counted-each-more _ (l .inv .1 x o) (edge-counted (a .b) o x (a .e) (l .j) (n .0 ∙ ap partCount r) (n .1 ∙ ap partWords r))
+    counted-each-more _ (l .inv .1 x o) (edge-part-counted (a .b) o x (a .e) (l .j) (n .0 ∙ ap partCount r) (n .1 ∙ ap partWords r))
 
 most : (c : tie.After-count-part Inv-loop μ-loop)
     → let l = c .before .before .before .loop in let a = c .before .before .before .before .before .args in

@@ -8,7 +8,7 @@ use Rattle.list.specs.Clauses.{oneHotWidth}
 use Rattle.parts.proofs.KnownLaws.{known-bounded}
 use Rattle.counts.specs.Tables.{Table, mostEdgeClauses}
 use Rattle.counts.proofs.CountLaws.{clauses-le}
-use Rattle.counts.proofs.ListSize.{choice-counted}
+use Rattle.counts.proofs.ListTotals.{edge-counted}
 use Rattle.counts.proofs.PieceBounds.{edge-most}
 use Rattle.counts.proofs.TableLaws.{table-none, table-more}
 use borrow.Author.Needs.{needs}
@@ -53,7 +53,7 @@ loop-again c =
     let p = c .before .before .before in
     let k = p .before .pre in
     let m = p .before .args .t1 in
-    let counted = choice-counted k (p .loop .i) (omega arith) (c .edge-count .ensures) in (
+    let counted = edge-counted k (p .loop .i) (omega arith) (c .edge-count .ensures) in (
       search needs,
       search needs,
       table-more _ (p .loop .inv .2) (omega (arith, formed m (k .formed) .used-le)) (λ o. counted o .clauses-are)

@@ -2,7 +2,7 @@
 use mathlib.Core.Path.{_≡_, refl, sym, ap, ap₂, _∙_}
 use mathlib.Core.Bool.{Bool, true, false, cond}
 use mathlib.Core.List.{_++_}
-use Prim.Native.Nat.{ℕ, suc, _+_, _*_, _<_}
+use Prim.Native.Nat.{ℕ, _+_, _*_, _<_}
 use native.Mathlib.Nat.{mul-assoc}
 use native.Mathlib.Omega.{arith}
 use lib.Dec.{ltb}
@@ -15,7 +15,8 @@ use Rattle.model.specs.Automaton.{ceiling, stateSize, variables}
 use Rattle.model.specs.Bounds.{KnownSizes}
 use Rattle.model.proofs.IndexedLaws.{length-each, sum-const}
 use Rattle.model.proofs.FormLaws.{variables-is, state-of-sizes, choices-of-sizes}
-use Rattle.list.specs.Items.{blockAt, nextBlock, groupItems, invariantOf, invariantItems, stateItems, initialItems, choiceItems, delaysItems, edgeOf, edgesItems, stepItems}
+use Rattle.list.specs.Items.{blockAt, nextBlock, invariantOf, invariantItems, stateItems, initialItems}
+use Rattle.list.specs.Items.{choiceItems, delaysItems, edgeOf, edgesItems, stepItems}
 use Rattle.list.specs.Clauses.{oneHotWidth, groupClauses, clausesOf, clauses, wordsOf, words}
 use Rattle.list.proofs.Pieces.{clauses-pieces, end-piece, start-piece, state-piece, invariants-piece, step-piece, edges-piece}
 use Rattle.parts.specs.declared.Rule.the-variants.{Keep, Rise}
@@ -78,10 +79,10 @@ module _ {m : Model} {b : GroupTable} (k : Known m b) where
       (counted-is (counted-app (g (o + b .state)) (counted-each (delayPieces b o) (b .top + 1) (λ d. delay-counted (o + b .state + d) o d))) refl
       (omega (arith, mul-assoc (b .top + 1) (b .state) 4)))
 
-  pub choice-counted : (e : ℕ) {c w : ℕ} → e < m .used → ((x o : ℕ) → Counted (each (b .groups + 5) (edgePiece x b (edgeAt m e) o)) c w)
+  pub edge-counted : (e : ℕ) {c w : ℕ} → e < m .used → ((x o : ℕ) → Counted (each (b .groups + 5) (edgePiece x b (edgeAt m e) o)) c w)
       → (o : ℕ) → Counted (clausesOf (edgeOf oneHotWidth m o e)) c w
   unfolding edgeClauses
-  choice-counted e l s o =
+  edge-counted e l s o =
       counted-as (edge-piece-of k o (o + stateSize m + (ceiling m + 1 + e)) e l refl) (s (o + stateSize m + (ceiling m + 1 + e)) o)
 
   pub edges-counted : {c w : ℕ} (o : ℕ) → Counted (each (m .used) (λ e. clausesOf (edgeOf oneHotWidth m o e))) c w
