@@ -84,21 +84,21 @@ clause-failed a c i h = record { count = rw h (omega arith); some = rw h (omega 
 pub passed-each-none : (a : List ℕ) (f : ℕ → List Clause) (i : ℕ) → Passed a (each 0 f) i i
 passed-each-none a f i = rw (each-zero f) (passed-none a i)
 
-pub passed-each : (f : ℕ → List Clause) (n : ℕ) {a : List ℕ} {i j k : ℕ} → Passed a (each n f) i j → Passed a (f n) j k → Passed a (each (n + 1) f) i k
+passed-each : (f : ℕ → List Clause) (n : ℕ) {a : List ℕ} {i j k : ℕ} → Passed a (each n f) i j → Passed a (f n) j k → Passed a (each (n + 1) f) i k
 passed-each f n p q = rw (each-more n f) (passed-then p q)
 
-pub failed-each : (f : ℕ → List Clause) (t n : ℕ) {a : List ℕ} {i j k : ℕ} → t < n → Passed a (each t f) i j → Failed a (f t) j k → Failed a (each n f) i k
+failed-each : (f : ℕ → List Clause) (t n : ℕ) {a : List ℕ} {i j k : ℕ} → t < n → Passed a (each t f) i j → Failed a (f t) j k → Failed a (each n f) i k
 failed-each f t n {a} {i} {j} {k} h p q =
     le-ind (λ (m : ℕ). Failed a (each m f) i k) (rw (each-suc t f) (failed-then p q)) (λ m _ ih. rw (each-suc m f) (failed-more (f m) ih)) n h
 
 -- ---- the answer of a check
-pub check-passed : {a : List ℕ} {cs : List Clause} {i j : ℕ} → Passed a cs i j → _≡_ {A = PieceCheck} (record { ok = true; at = j }) (checkFrom a cs i)
+check-passed : {a : List ℕ} {cs : List Clause} {i j : ℕ} → Passed a cs i j → _≡_ {A = PieceCheck} (record { ok = true; at = j }) (checkFrom a cs i)
 unfolding checkFrom
 check-passed {a} {cs} {i} {j} p =
     let e : j ≡ i + trueBefore a cs = omega (arith, p .count, p .all) in
     rw (le-ltb (trueBefore a cs) (length cs) (omega (arith, p .all)), e)
 
-pub check-failed : {a : List ℕ} {cs : List Clause} {i j : ℕ} → Failed a cs i j → _≡_ {A = PieceCheck} (record { ok = false; at = j }) (checkFrom a cs i)
+check-failed : {a : List ℕ} {cs : List Clause} {i j : ℕ} → Failed a cs i j → _≡_ {A = PieceCheck} (record { ok = false; at = j }) (checkFrom a cs i)
 unfolding checkFrom
 check-failed {a} {cs} {i} {j} p = rw (lt-ltb (trueBefore a cs) (length cs) (p .some), p .count)
 
@@ -119,7 +119,7 @@ failed-check {a} {cs} {i} {n} {r} k h =
       some = ltb-true (trueBefore a cs) (length cs) (not-false _ (sym (ap (λ (s : PieceCheck). s .ok) e) ∙ h));
     }
 
-pub checked-passed : {a : List ℕ} {cs : List Clause} {i j n : ℕ} → Passed a cs i j → j ≤ i + n → Checked a cs i n (record { ok = true; at = j })
+checked-passed : {a : List ℕ} {cs : List Clause} {i j n : ℕ} → Passed a cs i j → j ≤ i + n → Checked a cs i n (record { ok = true; at = j })
 checked-passed p l = record { is = check-passed p; most = l }
 
 pub checked-failed : {a : List ℕ} {cs : List Clause} {i j n : ℕ} → Failed a cs i j → j ≤ i + n → Checked a cs i n (record { ok = false; at = j })
@@ -132,7 +132,7 @@ told-false r h = λ t. record { ok = h t; at = r .at }
 told-true : (r : PieceCheck) → r .ok ≡ true → r ≡ record { ok = true; at = r .at }
 told-true r h = λ t. record { ok = h t; at = r .at }
 
-pub checked-failing : {a : List ℕ} {cs : List Clause} {i n : ℕ} {r : PieceCheck} → Failed a cs i (r .at) → r .ok ≡ false → r .at ≤ i + n → Checked a cs i n r
+checked-failing : {a : List ℕ} {cs : List Clause} {i n : ℕ} {r : PieceCheck} → Failed a cs i (r .at) → r .ok ≡ false → r .at ≤ i + n → Checked a cs i n r
 checked-failing {r} p h l = record { is = told-false r h ∙ check-failed p; most = l }
 
 pub checked-false : (a : List ℕ) (c : Clause) (i : ℕ) → clauseTrue a c ≡ false → Checked a (one c) i 1 (record { ok = false; at = i })
@@ -186,7 +186,7 @@ module _ {a : List ℕ} {f : ℕ → List Clause} {most i n N j : ℕ} (u : Upto
   upto-done more l s = checked-passed (upto-all l) (omega (arith, u .few))
 
 -- ---- the truth of a clause
-pub or-false : (b : Bool) → (b || false) ≡ b
+or-false : (b : Bool) → (b || false) ≡ b
 or-false true = refl
 or-false false = refl
 

@@ -29,7 +29,7 @@ all-each a f zero h = passed-each-none a f 0 .all
 all-each a f (suc n) h = rw (each-suc n f) (passed-then {i = 0} (passed-over (all-each a f n h) refl refl) (passed-over (h n) refl refl) .all)
 
 module _ (a : List ℕ) (x : ℕ) (h : bit a x ≡ false) where
-  pub led-true : (c : Clause) → AllTrue a (one (negated x ∷ c))
+  led-true : (c : Clause) → AllTrue a (one (negated x ∷ c))
   unfolding trueBefore one
   led-true c = rw h
 

@@ -32,22 +32,22 @@ array-copy-out-slot c = search needs
 
 atom-part-requires : tie.Need-atom-part-requires Inv-loop μ-loop
 atom-part-requires c κs =
-    let g = c .before .before .before .before in
-    (g .pre .0, g .pre .1)
+    let entry = c .before .before .before .before in
+    (entry .pre .0, entry .pre .1)
 
 check-part-requires : tie.Need-check-part-requires Inv-loop μ-loop
 check-part-requires c κs =
-    let l = c .before .before .before in
-    let g = l .before .before in
-    let fits = g .pre .3 (l .loop .k) (c .before .before .loop-test .taken) in
-    (g .pre .2, subst (λ (p : Part). Fits p (length (now (g .args .a)))) (sym (c .atom-part .ensures)) fits, omega (arith, l .loop .inv .few))
+    let at-loop = c .before .before .before in
+    let entry = at-loop .before .before in
+    let fits = entry .pre .3 (at-loop .loop .k) (c .before .before .loop-test .taken) in
+    (entry .pre .2, subst (λ (p : Part). Fits p (length (now (entry .args .a)))) (sym (c .atom-part .ensures)) fits, omega (arith, at-loop .loop .inv .few))
 
 returns : tie.Need-returns Inv-loop μ-loop
 returns c =
-    let a = c .before .before .before in
-    let l = a .before .before .before in
-    let part = checked-as (ap (partClauses (l .before .before .args .x)) (a .atom-part .ensures)) (c .before .before .check-part .ensures) in
-    upto-failed (l .loop .inv) mostInvariantClauses (a .before .before .loop-test .taken) part (not-true _ (c .if1 .taken)) (omega arith)
+    let at-atom-part = c .before .before .before in
+    let at-loop = at-atom-part .before .before .before in
+    let part = checked-as (ap (partClauses (at-loop .before .before .args .x)) (at-atom-part .atom-part .ensures)) (c .before .before .check-part .ensures) in
+    upto-failed (at-loop .loop .inv) mostInvariantClauses (at-atom-part .before .before .loop-test .taken) part (not-true _ (c .if1 .taken)) (omega arith)
 
 add-k : tie.Need-add-k Inv-loop μ-loop
 add-k c = search needs
@@ -57,10 +57,10 @@ loop-less c = search needs
 
 loop-again : tie.Need-loop-again Inv-loop μ-loop
 loop-again c =
-    let a = c .before .before .before in
-    let l = a .before .before .before in
-    let part = checked-as (ap (partClauses (l .before .before .args .x)) (a .atom-part .ensures)) (c .before .before .check-part .ensures) in
-    upto-next (l .loop .inv) (a .before .before .loop-test .taken) part (not-false _ (c .if1 .left))
+    let at-atom-part = c .before .before .before in
+    let at-loop = at-atom-part .before .before .before in
+    let part = checked-as (ap (partClauses (at-loop .before .before .args .x)) (at-atom-part .atom-part .ensures)) (c .before .before .check-part .ensures) in
+    upto-next (at-loop .loop .inv) (at-atom-part .before .before .loop-test .taken) part (not-false _ (c .if1 .left))
 
 returns-2 : tie.Need-returns-2 Inv-loop μ-loop
 returns-2 c = upto-done (c .before .loop .inv) mostInvariantClauses (omega arith) (omega (arith, c .before .loop .inv .le))

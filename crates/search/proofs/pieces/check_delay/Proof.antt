@@ -31,27 +31,27 @@ loop-holds c = upto-none
 
 delay-part-requires : tie.Need-delay-part-requires Inv-loop μ-loop
 delay-part-requires c κs =
-    let g = c .before .before .before .before in
-    (g .pre .0, g .pre .1)
+    let entry = c .before .before .before .before in
+    (entry .pre .0, entry .pre .1)
 
 check-part-requires : tie.Need-check-part-requires Inv-loop μ-loop
 check-part-requires c κs =
-    let g = c .before .before .before .before .before in
-    let fits = g .pre .2 .delay-fits (g .args .d) (c .before .before .loop .g) (c .before .loop-test .taken) in (
-      omega (arith, g .pre .2 .choice-in, g .pre .2 .delay-is-choice),
-      subst (λ (p : Part). Fits p (length (now (g .args .a)))) (sym (c .delay-part .ensures)) fits,
-      omega (arith, c .before .before .loop .inv .few, c .before .loop-test .taken, g .pre .0 .groups-le, g .pre .0 .vars-le),
+    let entry = c .before .before .before .before .before in
+    let fits = entry .pre .2 .delay-fits (entry .args .d) (c .before .before .loop .g) (c .before .loop-test .taken) in (
+      omega (arith, entry .pre .2 .choice-in, entry .pre .2 .delay-is-choice),
+      subst (λ (p : Part). Fits p (length (now (entry .args .a)))) (sym (c .delay-part .ensures)) fits,
+      omega (arith, c .before .before .loop .inv .few, c .before .loop-test .taken, entry .pre .0 .groups-le, entry .pre .0 .vars-le),
     )
 
 returns : tie.Need-returns Inv-loop μ-loop
 returns c =
-    let d = c .before .before .before in
-    let l = d .before in
-    let g = l .before .before .before .before in
-    let x = g .args .o + g .args .b .state + g .args .d in
-    let part = checked-as (ap (partClauses x) (d .delay-part .ensures)) (c .before .before .check-part .ensures) in
-    upto-failed (l .before .loop .inv) mostDelayClauses (l .loop-test .taken) part (not-true _ (c .if1 .taken))
-    (omega (arith, l .loop-test .taken, g .pre .0 .groups-le, g .pre .0 .vars-le))
+    let at-delay-part = c .before .before .before in
+    let at-loop-test = at-delay-part .before in
+    let entry = at-loop-test .before .before .before .before in
+    let x = entry .args .o + entry .args .b .state + entry .args .d in
+    let part = checked-as (ap (partClauses x) (at-delay-part .delay-part .ensures)) (c .before .before .check-part .ensures) in
+    upto-failed (at-loop-test .before .loop .inv) mostDelayClauses (at-loop-test .loop-test .taken) part (not-true _ (c .if1 .taken))
+    (omega (arith, at-loop-test .loop-test .taken, entry .pre .0 .groups-le, entry .pre .0 .vars-le))
 
 add-g : tie.Need-add-g Inv-loop μ-loop
 add-g c = search needs
@@ -61,16 +61,17 @@ loop-less c = search needs
 
 loop-again : tie.Need-loop-again Inv-loop μ-loop
 loop-again c =
-    let d = c .before .before .before in
-    let g = d .before .before .before .before .before in
-    let x = g .args .o + g .args .b .state + g .args .d in
-    let part = checked-as (ap (partClauses x) (d .delay-part .ensures)) (c .before .before .check-part .ensures) in
-    upto-next (d .before .before .loop .inv) (d .before .loop-test .taken) part (not-false _ (c .if1 .left))
+    let at-delay-part = c .before .before .before in
+    let entry = at-delay-part .before .before .before .before .before in
+    let x = entry .args .o + entry .args .b .state + entry .args .d in
+    let part = checked-as (ap (partClauses x) (at-delay-part .delay-part .ensures)) (c .before .before .check-part .ensures) in
+    upto-next (at-delay-part .before .before .loop .inv) (at-delay-part .before .loop-test .taken) part (not-false _ (c .if1 .left))
 
 returns-2 : tie.Need-returns-2 Inv-loop μ-loop
 returns-2 c =
-    let g = c .before .before .before .before in
-    upto-done (c .before .loop .inv) mostDelayClauses (omega arith) (omega (arith, c .before .loop .inv .le, g .pre .0 .groups-le, g .pre .0 .vars-le))
+    let loop-inv = c .before .loop .inv in
+    let entry = c .before .before .before .before in
+    upto-done loop-inv mostDelayClauses (omega arith) (omega (arith, loop-inv .le, entry .pre .0 .groups-le, entry .pre .0 .vars-le))
 
 pub check-delay-spec : {M : Type 1} → statement M
 check-delay-spec =

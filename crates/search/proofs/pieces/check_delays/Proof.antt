@@ -30,24 +30,24 @@ loop-holds c = upto-none
 
 add-is-true : tie.Need-add-is-true Inv-loop μ-loop
 add-is-true c =
-    let g = c .before .before .before .before .before in
-    record { fits = omega (arith, g .pre .0 .state-le) }
+    let entry = c .before .before .before .before .before in
+    record { fits = omega (arith, entry .pre .0 .state-le) }
 
 add-is-true-2 : tie.Need-add-is-true-2 Inv-loop μ-loop
 add-is-true-2 c =
-    let g = c .before .before .before .before .before in
-    record { fits = omega (arith, g .pre .0 .state-le, g .pre .0 .top-le) }
+    let entry = c .before .before .before .before .before in
+    record { fits = omega (arith, entry .pre .0 .state-le, entry .pre .0 .top-le) }
 
 is-true-requires : tie.Need-is-true-requires Inv-loop μ-loop
 is-true-requires c κs =
-    let g = c .before .before .before .before .before in
-    omega (arith, g .pre .2 .choice-in, g .pre .2 .delay-is-choice)
+    let entry = c .before .before .before .before .before in
+    omega (arith, entry .pre .2 .choice-in, entry .pre .2 .delay-is-choice)
 
 add-count : tie.Need-add-count Inv-loop μ-loop
 add-count c =
-    let l = c .before .before .before .before .before in
-    let g = l .before .before .before in
-    record { fits = omega (arith, l .loop .inv .few, g .pre .0 .state-le, g .pre .0 .top-le) }
+    let at-loop = c .before .before .before .before .before in
+    let entry = at-loop .before .before .before in
+    record { fits = omega (arith, at-loop .loop .inv .few, entry .pre .0 .state-le, entry .pre .0 .top-le) }
 
 add-d : tie.Need-add-d Inv-loop μ-loop
 add-d c = search needs
@@ -57,31 +57,38 @@ loop-less c = search needs
 
 loop-again : tie.Need-loop-again Inv-loop μ-loop
 loop-again c =
-    let l = c .before .before .before .before in
-    let l2 = l .before in
-    let g = l2 .before .before .before in
+    let at-loop-test = c .before .before .before .before in
+    let at-loop = at-loop-test .before in
+    let entry = at-loop .before .before .before in
     let is-false = sym (c .before .before .is-true .ensures) ∙ not-true _ (c .before .if1 .taken) in
-    let all = delay-true (now (g .args .a)) (g .args .b) (g .args .o) (l2 .loop .d) is-false in
-    upto-over (l2 .loop .inv) (l .loop-test .taken) (passed-over all (g .pre .2 .delay-clauses (l2 .loop .d)) refl) (omega (arith, g .pre .0 .state-le))
+    let all = delay-true (now (entry .args .a)) (entry .args .b) (entry .args .o) (at-loop .loop .d) is-false in
+    upto-over (at-loop .loop .inv) (at-loop-test .loop-test .taken) (passed-over all (entry .pre .2 .delay-clauses (at-loop .loop .d)) refl)
+    (omega (arith, entry .pre .0 .state-le))
 
 cast-check-delay : tie.Need-cast-check-delay Inv-loop μ-loop
 cast-check-delay c =
-    let l = c .before .before .before in
-    let g = l .before .before .before .before in
-    record { fits = omega (arith, l .loop-test .taken, g .pre .0 .top-le) }
+    let at-loop-test = c .before .before .before in
+    let entry = at-loop-test .before .before .before .before in
+    record { fits = omega (arith, at-loop-test .loop-test .taken, entry .pre .0 .top-le) }
 
 check-delay-requires : tie.Need-check-delay-requires Inv-loop μ-loop
 check-delay-requires c κs =
-    let l = c .before .before .before in
-    let g = l .before .before .before .before in
-    (g .pre .0, g .pre .1, g .pre .2, omega (arith, l .loop-test .taken), omega (arith, l .before .loop .inv .few, l .loop-test .taken, g .pre .0 .top-le))
+    let at-loop-test = c .before .before .before in
+    let entry = at-loop-test .before .before .before .before in (
+      entry .pre .0,
+      entry .pre .1,
+      entry .pre .2,
+      omega (arith, at-loop-test .loop-test .taken),
+      omega (arith, at-loop-test .before .loop .inv .few, at-loop-test .loop-test .taken, entry .pre .0 .top-le),
+    )
 
 returns : tie.Need-returns Inv-loop μ-loop
 returns c =
-    let l = c .before .before .before .before .before .before in
-    let g = l .before .before .before .before in
-    upto-failed (l .before .loop .inv) (32 * mostDelayClauses) (l .loop-test .taken) (c .before .before .check-delay .ensures) (not-true _ (c .if2 .taken))
-    (omega (arith, l .loop-test .taken, g .pre .0 .top-le))
+    let at-loop-test = c .before .before .before .before .before .before in
+    let entry = at-loop-test .before .before .before .before in
+    upto-failed (at-loop-test .before .loop .inv) (32 * mostDelayClauses) (at-loop-test .loop-test .taken) (c .before .before .check-delay .ensures)
+    (not-true _ (c .if2 .taken))
+    (omega (arith, at-loop-test .loop-test .taken, entry .pre .0 .top-le))
 
 add-d-2 : tie.Need-add-d-2 Inv-loop μ-loop
 add-d-2 c = search needs
@@ -91,13 +98,13 @@ loop-less-2 c = search needs
 
 loop-again-2 : tie.Need-loop-again-2 Inv-loop μ-loop
 loop-again-2 c =
-    let l = c .before .before .before .before .before .before in
-    upto-next (l .before .loop .inv) (l .loop-test .taken) (c .before .before .check-delay .ensures) (not-false _ (c .if2 .left))
+    let at-loop-test = c .before .before .before .before .before .before in
+    upto-next (at-loop-test .before .loop .inv) (at-loop-test .loop-test .taken) (c .before .before .check-delay .ensures) (not-false _ (c .if2 .left))
 
 returns-2 : tie.Need-returns-2 Inv-loop μ-loop
 returns-2 c =
-    let g = c .before .before .before .before in
-    upto-done (c .before .loop .inv) (32 * mostDelayClauses) (omega arith) (omega (arith, c .before .loop .inv .le, g .pre .0 .top-le))
+    let entry = c .before .before .before .before in
+    upto-done (c .before .loop .inv) (32 * mostDelayClauses) (omega arith) (omega (arith, c .before .loop .inv .le, entry .pre .0 .top-le))
 
 pub check-delays-spec : {M : Type 1} → statement M
 check-delays-spec =

@@ -21,9 +21,9 @@ check-delays-requires c κs = search needs
 
 returns-2 : tie.Need-returns-2
 returns-2 c =
-    let k = c .before .before .before in
-    let group = passed-check (k .check-group .ensures) (not-false _ (c .before .if1 .left)) in
-    checked-then mostFrontClauses group (c .check-delays .ensures) (omega (arith, k .check-group .ensures .most))
+    let at-check-group = c .before .before .before in
+    let group = passed-check (at-check-group .check-group .ensures) (not-false _ (c .before .if1 .left)) in
+    checked-then mostFrontClauses group (c .check-delays .ensures) (omega (arith, at-check-group .check-group .ensures .most))
 
 pub check-front-spec : {M : Type 1} → statement M
 check-front-spec =

@@ -23,8 +23,8 @@ mul-first c = search needs
 
 element-copy-out-first : tie.Need-element-copy-out-first Inv-loop μ-loop
 element-copy-out-first c =
-    let g = c .before .before .before in
-    omega (arith, g .pre .0 .groups-le)
+    let entry = c .before .before .before in
+    omega (arith, entry .pre .0 .groups-le)
 
 cast-first : tie.Need-cast-first Inv-loop μ-loop
 cast-first c = search needs
@@ -34,30 +34,34 @@ mul-size c = search needs
 
 element-copy-out-size : tie.Need-element-copy-out-size Inv-loop μ-loop
 element-copy-out-size c =
-    let g = c .before .before .before .before in
-    omega (arith, g .pre .0 .groups-le)
+    let entry = c .before .before .before .before in
+    omega (arith, entry .pre .0 .groups-le)
 
 cast-size : tie.Need-cast-size Inv-loop μ-loop
 cast-size c = search needs
 
 add-check-group : tie.Need-add-check-group Inv-loop μ-loop
 add-check-group c =
-    let l = c .before .before .before in
-    record { fits = omega (arith, l .before .before .pre .0 .group-in (l .loop .g) (c .before .before .loop-test .taken)) }
+    let at-loop = c .before .before .before in
+    record { fits = omega (arith, at-loop .before .before .pre .0 .group-in (at-loop .loop .g) (c .before .before .loop-test .taken)) }
 
 check-group-requires : tie.Need-check-group-requires Inv-loop μ-loop
 check-group-requires c κs =
-    let l2 = c .before .before .before in
-    let g = l2 .before .before in
-    let l = c .before .before .loop-test .taken in
-    (g .pre .0 .group-in (l2 .loop .g) l, g .pre .0 .group-le (l2 .loop .g) l, omega (arith, l2 .loop .inv .few, g .pre .0 .groups-le))
+    let at-loop = c .before .before .before in
+    let entry = at-loop .before .before in
+    let l = c .before .before .loop-test .taken in (
+      entry .pre .0 .group-in (at-loop .loop .g) l,
+      entry .pre .0 .group-le (at-loop .loop .g) l,
+      omega (arith, at-loop .loop .inv .few, entry .pre .0 .groups-le),
+    )
 
 returns : tie.Need-returns Inv-loop μ-loop
 returns c =
-    let l = c .before .before .before .before .before in
-    let g = l .before .before .before in
-    upto-failed (l .before .loop .inv) mostBlockClauses (l .loop-test .taken) (c .before .before .check-group .ensures) (not-true _ (c .if1 .taken))
-    (omega (arith, l .loop-test .taken, g .pre .0 .groups-le))
+    let at-loop-test = c .before .before .before .before .before in
+    let entry = at-loop-test .before .before .before in
+    upto-failed (at-loop-test .before .loop .inv) mostBlockClauses (at-loop-test .loop-test .taken) (c .before .before .check-group .ensures)
+    (not-true _ (c .if1 .taken))
+    (omega (arith, at-loop-test .loop-test .taken, entry .pre .0 .groups-le))
 
 add-g : tie.Need-add-g Inv-loop μ-loop
 add-g c = search needs
@@ -67,13 +71,13 @@ loop-less c = search needs
 
 loop-again : tie.Need-loop-again Inv-loop μ-loop
 loop-again c =
-    let l = c .before .before .before .before .before in
-    upto-next (l .before .loop .inv) (l .loop-test .taken) (c .before .before .check-group .ensures) (not-false _ (c .if1 .left))
+    let at-loop-test = c .before .before .before .before .before in
+    upto-next (at-loop-test .before .loop .inv) (at-loop-test .loop-test .taken) (c .before .before .check-group .ensures) (not-false _ (c .if1 .left))
 
 returns-2 : tie.Need-returns-2 Inv-loop μ-loop
 returns-2 c =
-    let g = c .before .before .before in
-    upto-done (c .before .loop .inv) mostBlockClauses (omega arith) (omega (arith, c .before .loop .inv .le, g .pre .0 .groups-le))
+    let entry = c .before .before .before in
+    upto-done (c .before .loop .inv) mostBlockClauses (omega arith) (omega (arith, c .before .loop .inv .le, entry .pre .0 .groups-le))
 
 pub check-groups-spec : {M : Type 1} → statement M
 check-groups-spec =

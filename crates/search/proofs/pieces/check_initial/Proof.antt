@@ -31,51 +31,55 @@ loop-holds c = upto-none
 
 mul-first : tie.Need-mul-first Inv-loop μ-loop
 mul-first c =
-    let g = c .before .before .before in
-    omega (arith, at-most-nine (g .pre .0))
+    let entry = c .before .before .before in
+    omega (arith, at-most-nine (entry .pre .0))
 
 element-copy-out-first : tie.Need-element-copy-out-first Inv-loop μ-loop
 element-copy-out-first c =
-    let g = c .before .before .before in
-    omega (arith, at-most-nine (g .pre .0))
+    let entry = c .before .before .before in
+    omega (arith, at-most-nine (entry .pre .0))
 
 cast-first : tie.Need-cast-first Inv-loop μ-loop
 cast-first c = search needs
 
 initial-value-requires : tie.Need-initial-value-requires Inv-loop μ-loop
 initial-value-requires c κs =
-    let g = c .before .before .before .before in
-    g .pre .0 .formed
+    let entry = c .before .before .before .before in
+    entry .pre .0 .formed
 
 cast-is-true : tie.Need-cast-is-true Inv-loop μ-loop
 cast-is-true c = search needs
 
 add-is-true : tie.Need-add-is-true Inv-loop μ-loop
 add-is-true c =
-    let l = c .before .before .before in
-    record { fits = omega (arith, known-initial (l .before .before .pre .0) (l .loop .g) (c .before .before .loop-test .taken), c .initial-value .ensures) }
+    let at-loop = c .before .before .before in
+    record {
+      fits = omega
+          (arith, known-initial (at-loop .before .before .pre .0) (at-loop .loop .g) (c .before .before .loop-test .taken), c .initial-value .ensures);
+    }
 
 is-true-requires : tie.Need-is-true-requires Inv-loop μ-loop
 is-true-requires c κs =
-    let l = c .before .before .before in
-    omega (arith, known-initial (l .before .before .pre .0) (l .loop .g) (c .before .before .loop-test .taken), c .initial-value .ensures)
+    let at-loop = c .before .before .before in
+    omega (arith, known-initial (at-loop .before .before .pre .0) (at-loop .loop .g) (c .before .before .loop-test .taken), c .initial-value .ensures)
 
 returns : tie.Need-returns Inv-loop μ-loop
 returns c =
-    let l = c .before .before .before .before in
-    let l2 = l .before in
-    let g = l2 .before .before in
-    let first = firstAt (g .args .t2) (l2 .loop .g) in
-    let is-false = looked (now (g .args .a)) first _ _ (c .before .is-true .ensures) (c .before .before .initial-value .ensures) (not-true _ (c .if1 .taken)) in
-    checked-as (initial-piece-of (g .pre .0))
-    (upto-failed (l2 .loop .inv) 9 (l .loop-test .taken) (checked-false _ _ _ is-false) refl
-    (omega (arith, l .loop-test .taken, at-most-nine (g .pre .0))))
+    let at-loop-test = c .before .before .before .before in
+    let at-loop = at-loop-test .before in
+    let entry = at-loop .before .before in
+    let first = firstAt (entry .args .t2) (at-loop .loop .g) in
+    let is-false = looked (now (entry .args .a)) first _ _ (c .before .is-true .ensures) (c .before .before .initial-value .ensures)
+    (not-true _ (c .if1 .taken)) in
+    checked-as (initial-piece-of (entry .pre .0))
+    (upto-failed (at-loop .loop .inv) 9 (at-loop-test .loop-test .taken) (checked-false _ _ _ is-false) refl
+    (omega (arith, at-loop-test .loop-test .taken, at-most-nine (entry .pre .0))))
 
 add-count : tie.Need-add-count Inv-loop μ-loop
 add-count c =
-    let l = c .before .before .before .before in
-    let g = l .before .before .before in
-    record { fits = omega (arith, l .before .loop .inv .few, l .loop-test .taken, at-most-nine (g .pre .0)) }
+    let at-loop-test = c .before .before .before .before in
+    let entry = at-loop-test .before .before .before in
+    record { fits = omega (arith, at-loop-test .before .loop .inv .few, at-loop-test .loop-test .taken, at-most-nine (entry .pre .0)) }
 
 add-g : tie.Need-add-g Inv-loop μ-loop
 add-g c = search needs
@@ -85,18 +89,19 @@ loop-less c = search needs
 
 loop-again : tie.Need-loop-again Inv-loop μ-loop
 loop-again c =
-    let l = c .before .before .before .before in
-    let l2 = l .before in
-    let g = l2 .before .before in
-    let first = firstAt (g .args .t2) (l2 .loop .g) in
-    let is-so = looked (now (g .args .a)) first _ _ (c .before .is-true .ensures) (c .before .before .initial-value .ensures) (not-false _ (c .if1 .left)) in
-    upto-over (l2 .loop .inv) (l .loop-test .taken) (clause-passed _ _ _ is-so) (omega arith)
+    let at-loop-test = c .before .before .before .before in
+    let at-loop = at-loop-test .before in
+    let entry = at-loop .before .before in
+    let first = firstAt (entry .args .t2) (at-loop .loop .g) in
+    let is-so = looked (now (entry .args .a)) first _ _ (c .before .is-true .ensures) (c .before .before .initial-value .ensures)
+    (not-false _ (c .if1 .left)) in
+    upto-over (at-loop .loop .inv) (at-loop-test .loop-test .taken) (clause-passed _ _ _ is-so) (omega arith)
 
 returns-2 : tie.Need-returns-2 Inv-loop μ-loop
 returns-2 c =
-    let g = c .before .before .before in
-    checked-as (initial-piece-of (g .pre .0))
-    (upto-done (c .before .loop .inv) 9 (omega arith) (omega (arith, c .before .loop .inv .le, at-most-nine (g .pre .0))))
+    let entry = c .before .before .before in
+    checked-as (initial-piece-of (entry .pre .0))
+    (upto-done (c .before .loop .inv) 9 (omega arith) (omega (arith, c .before .loop .inv .le, at-most-nine (entry .pre .0))))
 
 pub check-initial-spec : {M : Type 1} → statement M
 check-initial-spec =

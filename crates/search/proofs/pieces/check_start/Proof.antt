@@ -14,8 +14,8 @@ check-state-requires c κs = search needs
 
 returns : tie.Need-returns
 returns c =
-    let g = c .before .before .before .before in
-    checked-as (sym (start-piece (g .args .m)))
+    let entry = c .before .before .before .before in
+    checked-as (sym (start-piece (entry .args .m)))
     (checked-stop _ mostStartClauses (c .before .before .check-state .ensures) (not-true _ (c .if1 .taken)) (omega arith))
 
 check-initial-requires : tie.Need-check-initial-requires
@@ -23,10 +23,10 @@ check-initial-requires c κs = search needs
 
 returns-2 : tie.Need-returns-2
 returns-2 c =
-    let k = c .before .before .before in
-    let state = passed-check (k .check-state .ensures) (not-false _ (c .before .if1 .left)) in
-    checked-as (sym (start-piece (k .before .before .args .m)))
-    (checked-then mostStartClauses state (c .check-initial .ensures) (omega (arith, k .check-state .ensures .most)))
+    let at-check-state = c .before .before .before in
+    let state = passed-check (at-check-state .check-state .ensures) (not-false _ (c .before .if1 .left)) in
+    checked-as (sym (start-piece (at-check-state .before .before .args .m)))
+    (checked-then mostStartClauses state (c .check-initial .ensures) (omega (arith, at-check-state .check-state .ensures .most)))
 
 pub check-start-spec : {M : Type 1} → statement M
 check-start-spec =

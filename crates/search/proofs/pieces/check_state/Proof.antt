@@ -30,9 +30,9 @@ check-groups-requires c κs = (block-in (c .before .pre .0) (c .before .args .o)
 
 returns : tie.Need-returns Inv-loop μ-loop
 returns c =
-    let g = c .before .before .before .before in
-    let groups = checked-as (groups-piece-of (g .pre .0) (g .args .o)) (c .before .before .check-groups .ensures) in
-    checked-as (sym (state-piece (g .args .t1) (g .args .o))) (checked-stop _ mostStateClauses groups (not-true _ (c .if1 .taken)) (omega arith))
+    let entry = c .before .before .before .before in
+    let groups = checked-as (groups-piece-of (entry .pre .0) (entry .args .o)) (c .before .before .check-groups .ensures) in
+    checked-as (sym (state-piece (entry .args .t1) (entry .args .o))) (checked-stop _ mostStateClauses groups (not-true _ (c .if1 .taken)) (omega arith))
 
 cast-l-end : tie.Need-cast-l-end Inv-loop μ-loop
 cast-l-end c = search needs
@@ -42,31 +42,39 @@ loop-holds c = upto-none
 
 add-is-true : tie.Need-add-is-true Inv-loop μ-loop
 add-is-true c =
-    let g = c .before .before .before .before .before .before in
-    record { fits = omega (arith, wf (g .pre .0) .locations-le) }
+    let entry = c .before .before .before .before .before .before in
+    record { fits = omega (arith, wf (entry .pre .0) .locations-le) }
 
 is-true-requires : tie.Need-is-true-requires Inv-loop μ-loop
 is-true-requires c κs =
-    let g = c .before .before .before .before .before .before in
-    omega (arith, known-locations (g .pre .0))
+    let entry = c .before .before .before .before .before .before in
+    omega (arith, known-locations (entry .pre .0))
 
 mul-count : tie.Need-mul-count Inv-loop μ-loop
 mul-count c =
-    let g = c .before .before .before .before .before .before .before .before in
-    omega (arith, wf (g .pre .0) .locations-le)
+    let entry = c .before .before .before .before .before .before .before .before in
+    omega (arith, wf (entry .pre .0) .locations-le)
 
 array-read-count : tie.Need-array-read-count Inv-loop μ-loop
 array-read-count c =
-    let g = c .before .before .before .before .before .before .before .before in
-    omega (arith, wf (g .pre .0) .locations-le, slots-are (g .pre .1))
+    let entry = c .before .before .before .before .before .before .before .before in
+    omega (arith, wf (entry .pre .0) .locations-le, slots-are (entry .pre .1))
 
 add-count : tie.Need-add-count Inv-loop μ-loop
 add-count c =
-    let l = c .before .before .before in
-    let k2 = l .before .before .before in
-    let g = k2 .before .before in
-    let k = wf (g .pre .0) .locations-le in
-    record { fits = omega (arith, k, l .loop .inv .few, k2 .check-groups .ensures .most, g .pre .1 .few (l .loop .l) (c .before .before .loop-test .taken)) }
+    let at-loop = c .before .before .before in
+    let at-check-groups = at-loop .before .before .before in
+    let entry = at-check-groups .before .before in
+    let k = wf (entry .pre .0) .locations-le in
+    record {
+      fits = omega (
+        arith,
+        k,
+        at-loop .loop .inv .few,
+        at-check-groups .check-groups .ensures .most,
+        entry .pre .1 .few (at-loop .loop .l) (c .before .before .loop-test .taken),
+      );
+    }
 
 add-l : tie.Need-add-l Inv-loop μ-loop
 add-l c = search needs
@@ -76,57 +84,59 @@ loop-less c = search needs
 
 loop-again : tie.Need-loop-again Inv-loop μ-loop
 loop-again c =
-    let l2 = c .before .before .before in
+    let at-loop = c .before .before .before in
     let loop-test = c .before .before .loop-test in
-    let g = l2 .before .before .before .before .before in
-    let l = l2 .loop .l in
+    let entry = at-loop .before .before .before .before .before in
+    let l = at-loop .loop .l in
     let is-false = sym (c .before .is-true .ensures) ∙ not-true _ (c .if2 .taken) in
-    let all = location-true (g .pre .0) (now (g .args .a)) (g .args .o) l is-false in
-    let clauses = location-clauses (g .pre .0) (g .args .o) l (loop-test .taken) (g .pre .1) in
-    upto-over (l2 .loop .inv) (loop-test .taken) (passed-over all clauses refl)
-    (omega (arith, g .pre .1 .few l (loop-test .taken)))
+    let all = location-true (entry .pre .0) (now (entry .args .a)) (entry .args .o) l is-false in
+    let clauses = location-clauses (entry .pre .0) (entry .args .o) l (loop-test .taken) (entry .pre .1) in
+    upto-over (at-loop .loop .inv) (loop-test .taken) (passed-over all clauses refl)
+    (omega (arith, entry .pre .1 .few l (loop-test .taken)))
 
 mul-v : tie.Need-mul-v Inv-loop μ-loop
 mul-v c =
-    let g = c .before .before .before .before .before .before .before .before in
-    omega (arith, wf (g .pre .0) .locations-le)
+    let entry = c .before .before .before .before .before .before .before .before in
+    omega (arith, wf (entry .pre .0) .locations-le)
 
 element-copy-out-v : tie.Need-element-copy-out-v Inv-loop μ-loop
 element-copy-out-v c =
-    let g = c .before .before .before .before .before .before .before .before in
-    omega (arith, wf (g .pre .0) .locations-le)
+    let entry = c .before .before .before .before .before .before .before .before in
+    omega (arith, wf (entry .pre .0) .locations-le)
 
 add-check-atoms : tie.Need-add-check-atoms Inv-loop μ-loop
 add-check-atoms c =
-    let g = c .before .before .before .before .before .before .before .before .before .before in
-    record { fits = omega (arith, wf (g .pre .0) .locations-le) }
+    let entry = c .before .before .before .before .before .before .before .before .before .before in
+    record { fits = omega (arith, wf (entry .pre .0) .locations-le) }
 
 check-atoms-requires : tie.Need-check-atoms-requires Inv-loop μ-loop
 check-atoms-requires c κs =
-    let l = c .before .before .before .before in
-    let l2 = l .before in
-    let k = l2 .before .before .before in
-    let g = k .before .before in
-    let fits = invariant-fits (g .pre .0) (g .args .o) (length (now (g .args .a))) (l2 .loop .l) (g .pre .3) (l .loop-test .taken) in (
-      known-bounded (g .pre .0),
-      g .pre .2,
-      omega (arith, known-locations (g .pre .0)),
+    let at-loop-test = c .before .before .before .before in
+    let at-loop = at-loop-test .before in
+    let at-check-groups = at-loop .before .before .before in
+    let entry = at-check-groups .before .before in
+    let fits = invariant-fits (entry .pre .0) (entry .args .o) (length (now (entry .args .a))) (at-loop .loop .l) (entry .pre .3)
+    (at-loop-test .loop-test .taken) in (
+      known-bounded (entry .pre .0),
+      entry .pre .2,
+      omega (arith, known-locations (entry .pre .0)),
       fits,
-      omega (arith, wf (g .pre .0) .locations-le, l2 .loop .inv .few, l .loop-test .taken, k .check-groups .ensures .most),
+      omega (arith, wf (entry .pre .0) .locations-le, at-loop .loop .inv .few, at-loop-test .loop-test .taken, at-check-groups .check-groups .ensures .most),
     )
 
 returns-2 : tie.Need-returns-2 Inv-loop μ-loop
 returns-2 c =
-    let l = c .before .before .before .before .before .before .before in
-    let k = l .before .before .before .before in
-    let g = k .before .before in
-    let groups = passed-check (checked-as (groups-piece-of (g .pre .0) (g .args .o)) (k .check-groups .ensures)) (not-false _ (l .before .before .if1 .left)) in
-    let invariants = upto-failed (l .before .loop .inv) (16 * mostInvariantClauses) (l .loop-test .taken) (c .before .before .check-atoms .ensures)
-    (not-true _ (c .if3 .taken))
-    (omega (arith, l .loop-test .taken, wf (g .pre .0) .locations-le)) in
-    checked-as (sym (state-piece (g .args .t1) (g .args .o)))
-    (checked-then mostStateClauses groups (checked-as (invariants-piece-of (g .pre .0) (g .args .o)) invariants)
-    (omega (arith, k .check-groups .ensures .most)))
+    let at-loop-test = c .before .before .before .before .before .before .before in
+    let at-check-groups = at-loop-test .before .before .before .before in
+    let entry = at-check-groups .before .before in
+    let groups = passed-check (checked-as (groups-piece-of (entry .pre .0) (entry .args .o)) (at-check-groups .check-groups .ensures))
+    (not-false _ (at-loop-test .before .before .if1 .left)) in
+    let invariants = upto-failed (at-loop-test .before .loop .inv) (16 * mostInvariantClauses) (at-loop-test .loop-test .taken)
+    (c .before .before .check-atoms .ensures) (not-true _ (c .if3 .taken))
+    (omega (arith, at-loop-test .loop-test .taken, wf (entry .pre .0) .locations-le)) in
+    checked-as (sym (state-piece (entry .args .t1) (entry .args .o)))
+    (checked-then mostStateClauses groups (checked-as (invariants-piece-of (entry .pre .0) (entry .args .o)) invariants)
+    (omega (arith, at-check-groups .check-groups .ensures .most)))
 
 add-l-2 : tie.Need-add-l-2 Inv-loop μ-loop
 add-l-2 c = search needs
@@ -136,19 +146,20 @@ loop-less-2 c = search needs
 
 loop-again-2 : tie.Need-loop-again-2 Inv-loop μ-loop
 loop-again-2 c =
-    let l = c .before .before .before .before .before .before .before in
-    upto-next (l .before .loop .inv) (l .loop-test .taken) (c .before .before .check-atoms .ensures) (not-false _ (c .if3 .left))
+    let at-loop-test = c .before .before .before .before .before .before .before in
+    upto-next (at-loop-test .before .loop .inv) (at-loop-test .loop-test .taken) (c .before .before .check-atoms .ensures) (not-false _ (c .if3 .left))
 
 returns-3 : tie.Need-returns-3 Inv-loop μ-loop
 returns-3 c =
     let loop-inv = c .before .loop .inv in
-    let k = c .before .before .before .before in
-    let g = k .before .before in
-    let groups = passed-check (checked-as (groups-piece-of (g .pre .0) (g .args .o)) (k .check-groups .ensures)) (not-false _ (c .before .before .if1 .left)) in
-    let invariants = upto-done loop-inv (16 * mostInvariantClauses) (omega arith) (omega (arith, loop-inv .le, wf (g .pre .0) .locations-le)) in
-    checked-as (sym (state-piece (g .args .t1) (g .args .o)))
-    (checked-then mostStateClauses groups (checked-as (invariants-piece-of (g .pre .0) (g .args .o)) invariants)
-    (omega (arith, k .check-groups .ensures .most)))
+    let at-check-groups = c .before .before .before .before in
+    let entry = at-check-groups .before .before in
+    let groups = passed-check (checked-as (groups-piece-of (entry .pre .0) (entry .args .o)) (at-check-groups .check-groups .ensures))
+    (not-false _ (c .before .before .if1 .left)) in
+    let invariants = upto-done loop-inv (16 * mostInvariantClauses) (omega arith) (omega (arith, loop-inv .le, wf (entry .pre .0) .locations-le)) in
+    checked-as (sym (state-piece (entry .args .t1) (entry .args .o)))
+    (checked-then mostStateClauses groups (checked-as (invariants-piece-of (entry .pre .0) (entry .args .o)) invariants)
+    (omega (arith, at-check-groups .check-groups .ensures .most)))
 
 pub check-state-spec : {M : Type 1} → statement M
 check-state-spec =

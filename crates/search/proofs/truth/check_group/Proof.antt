@@ -69,13 +69,13 @@ lower-less c = omega arith
 
 lower-again : tie.Need-lower-again Inv-upper μ-upper Inv-lower μ-lower
 lower-again c =
-    let l = c .before .before .before in
-    let g = l .before .before .before .before in
-    let i = l .lower .i in
-    let x = g .args .b + i in
+    let at-lower = c .before .before .before in
+    let entry = at-lower .before .before .before .before in
+    let i = at-lower .lower .i in
+    let x = entry .args .b + i in
     let is-false = sym (c .before .is-true .ensures) ∙ not-true _ (c .if2 .taken) in
-    upto-over (l .lower .inv) (c .before .before .lower-test .taken)
-    (passed-over (row-true (now (g .args .a)) x (x + 1) (g .args .n - (i + 1)) is-false) (row-length _ _ _) refl) (omega arith)
+    upto-over (at-lower .lower .inv) (c .before .before .lower-test .taken)
+    (passed-over (row-true (now (entry .args .a)) x (x + 1) (entry .args .n - (i + 1)) is-false) (row-length _ _ _) refl) (omega arith)
 
 upper-holds : tie.Need-upper-holds Inv-upper μ-upper Inv-lower μ-lower
 upper-holds c = upto-none
@@ -98,14 +98,14 @@ not-both-requires c κs = omega arith
 returns-2 : tie.Need-returns-2 Inv-upper μ-upper Inv-lower μ-lower
 unfolding groupClauses pairs
 returns-2 c =
-    let u = c .before .before .before in
+    let at-upper = c .before .before .before in
     let upper-test-taken = c .before .before .upper-test .taken in
-    let l = u .before .before .before in
-    let m = l .before .before .before in
+    let at-lower-test = at-upper .before .before .before in
+    let at-members-true = at-lower-test .before .before .before in
     let both = sym (c .before .not-both .ensures) ∙ not-true _ (c .if3 .taken) in
-    let in-row = upto-failed (u .upper .inv) 64 upper-test-taken (checked-false _ _ _ both) refl (omega (arith, upper-test-taken)) in
-    checked-then mostGroupClauses (clause-passed _ _ _ (sym (m .members-true .ensures) ∙ not-false _ (l .before .before .if1 .left)))
-    (upto-failed (l .before .lower .inv) (64 * 64) (l .lower-test .taken) in-row refl (omega (arith, l .lower-test .taken)))
+    let in-row = upto-failed (at-upper .upper .inv) 64 upper-test-taken (checked-false _ _ _ both) refl (omega (arith, upper-test-taken)) in
+    checked-then mostGroupClauses (clause-passed _ _ _ (sym (at-members-true .members-true .ensures) ∙ not-false _ (at-lower-test .before .before .if1 .left)))
+    (upto-failed (at-lower-test .before .lower .inv) (64 * 64) (at-lower-test .lower-test .taken) in-row refl (omega (arith, at-lower-test .lower-test .taken)))
     (omega arith)
 
 add-count-3 : tie.Need-add-count-3 Inv-upper μ-upper Inv-lower μ-lower
@@ -119,8 +119,8 @@ upper-less c = omega arith
 
 upper-again : tie.Need-upper-again Inv-upper μ-upper Inv-lower μ-lower
 upper-again c =
-    let u = c .before .before .before in
-    upto-over (u .upper .inv) (c .before .before .upper-test .taken)
+    let at-upper = c .before .before .before in
+    upto-over (at-upper .upper .inv) (c .before .before .upper-test .taken)
     (clause-passed _ _ _ (sym (c .before .not-both .ensures) ∙ not-false _ (c .if3 .left))) (omega arith)
 
 add-i-2 : tie.Need-add-i-2 Inv-upper μ-upper Inv-lower μ-lower
@@ -131,15 +131,15 @@ lower-less-2 c = omega arith
 
 lower-again-2 : tie.Need-lower-again-2 Inv-upper μ-upper Inv-lower μ-lower
 lower-again-2 c =
-    let l = c .before .before .before .before in
-    upto-over (l .before .lower .inv) (l .lower-test .taken)
+    let at-lower-test = c .before .before .before .before in
+    upto-over (at-lower-test .before .lower .inv) (at-lower-test .lower-test .taken)
     (upto-all (c .before .upper .inv) (omega arith)) (omega (arith, c .before .upper .inv .few, c .before .upper .inv .le))
 
 returns-3 : tie.Need-returns-3 Inv-upper μ-upper Inv-lower μ-lower
 unfolding groupClauses pairs
 returns-3 c =
-    let m = c .before .before .before in
-    checked-then mostGroupClauses (clause-passed _ _ _ (sym (m .members-true .ensures) ∙ not-false _ (c .before .before .if1 .left)))
+    let at-members-true = c .before .before .before in
+    checked-then mostGroupClauses (clause-passed _ _ _ (sym (at-members-true .members-true .ensures) ∙ not-false _ (c .before .before .if1 .left)))
     (upto-done (c .before .lower .inv) (64 * 64) (omega arith) (omega (arith, c .before .lower .inv .le)))
     (omega arith)
 

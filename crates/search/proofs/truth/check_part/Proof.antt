@@ -20,16 +20,17 @@ loop-holds c = upto-none
 
 check-value-requires : tie.Need-check-value-requires Inv-loop μ-loop
 check-value-requires c κs =
-    let g = c .before .before .before in
-    (g .pre .0, g .pre .1, c .loop-test .taken, omega (arith, c .before .loop .inv .few, g .pre .1 .size-le))
+    let entry = c .before .before .before in
+    (entry .pre .0, entry .pre .1, c .loop-test .taken, omega (arith, c .before .loop .inv .few, entry .pre .1 .size-le))
 
 returns : tie.Need-returns Inv-loop μ-loop
 unfolding partClauses
 returns c =
-    let l = c .before .before .before in
-    let g = l .before .before .before in
-    upto-failed (l .before .loop .inv) mostPartClauses (l .loop-test .taken) (c .before .before .check-value .ensures) (not-true _ (c .if1 .taken))
-    (omega (arith, l .loop-test .taken, g .pre .1 .size-le))
+    let at-loop-test = c .before .before .before in
+    let entry = at-loop-test .before .before .before in
+    upto-failed (at-loop-test .before .loop .inv) mostPartClauses (at-loop-test .loop-test .taken) (c .before .before .check-value .ensures)
+    (not-true _ (c .if1 .taken))
+    (omega (arith, at-loop-test .loop-test .taken, entry .pre .1 .size-le))
 
 add-v : tie.Need-add-v Inv-loop μ-loop
 add-v c = search needs
@@ -39,14 +40,14 @@ loop-less c = search needs
 
 loop-again : tie.Need-loop-again Inv-loop μ-loop
 loop-again c =
-    let l = c .before .before .before in
-    upto-next (l .before .loop .inv) (l .loop-test .taken) (c .before .before .check-value .ensures) (not-false _ (c .if1 .left))
+    let at-loop-test = c .before .before .before in
+    upto-next (at-loop-test .before .loop .inv) (at-loop-test .loop-test .taken) (c .before .before .check-value .ensures) (not-false _ (c .if1 .left))
 
 returns-2 : tie.Need-returns-2 Inv-loop μ-loop
 unfolding partClauses
 returns-2 c =
-    let g = c .before .before .before in
-    upto-done (c .before .loop .inv) mostPartClauses (omega arith) (omega (arith, c .before .loop .inv .le, g .pre .1 .size-le))
+    let entry = c .before .before .before in
+    upto-done (c .before .loop .inv) mostPartClauses (omega arith) (omega (arith, c .before .loop .inv .le, entry .pre .1 .size-le))
 
 pub check-part-spec : {M : Type 1} → statement M
 check-part-spec = tie.close (tie.spec Inv-loop μ-loop loop-holds check-value-requires returns add-v loop-less loop-again returns-2)
