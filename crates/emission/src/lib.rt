@@ -49,6 +49,23 @@ pub enum Emission {
     },
 }
 
+impl Emission {
+    pub fn number(self) -> u8
+        ensures { λ r. ⌜ r ≡ emitTold self .number ⌝ }
+    {
+        match self {
+            Emission::NotWellFormed => 20,
+            Emission::BoundTooLarge => 21,
+            Emission::BufferTooShort { words: _ } => 22,
+            Emission::Written {
+                variables: _,
+                clauses: _,
+                words: _,
+            } => 0,
+        }
+    }
+}
+
 // Start: state clauses of state 0, then the initial values.
 fn put_start(
     m: Model,

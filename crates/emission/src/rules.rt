@@ -111,7 +111,7 @@ fn put_shifted_value(
     requires { ⌜ (x < mostVariables) × (y < mostVariables) × (v < 32) × (after + greatest < mostVariables) × RoomFor (ruleClauses x y after v (Rule.Shift offset greatest)) (now out) at ⌝ }
     ensures { λ r. ⌜ WroteClauses (ruleClauses x y after v (Rule.Shift offset greatest)) (now (out .entry)) (now (out .exit)) at r ⌝ }
 {
-    let new = shift(v as u8, offset, greatest);
+    let new = shift(offset, greatest, v as u8);
     match new {
         NewValue::OutOfRange => put_exclusion(x, y, out, at),
         NewValue::Value(u) => put_joint_implication(x, y, after + u as usize, out, at),

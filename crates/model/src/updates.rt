@@ -17,8 +17,8 @@ impl Update {
     {
         match self {
             Update::Keep => NewValue::Value(own),
-            Update::Constant(c) => in_range(c as u16, greatest),
-            Update::Sum { source, offset } => shift(slot(before, source), offset, greatest),
+            Update::Constant(c) => in_range(greatest, c as u16),
+            Update::Sum { source, offset } => shift(offset, greatest, slot(before, source)),
         }
     }
 }

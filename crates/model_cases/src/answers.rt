@@ -15,31 +15,32 @@ pub(crate) fn unknown() {
 
 // 10: the refusal's number, 0 or 20.
 pub(crate) fn formed(m: Model) {
-    match totals::ceiling_of(m) {
-        CeilingAnswer::NotWellFormed => first(20),
-        CeilingAnswer::Ceiling(_) => first(0),
-    }
+    first(totals::ceiling_of(m).number() as u64);
     end();
 }
 
 // 11: number, M.
 pub(crate) fn ceiling(m: Model) {
-    match totals::ceiling_of(m) {
-        CeilingAnswer::NotWellFormed => two_numbers(20, 0),
-        CeilingAnswer::Ceiling(c) => two_numbers(0, c),
+    let answer = totals::ceiling_of(m);
+    let number = answer.number() as u64;
+    match answer {
+        CeilingAnswer::NotWellFormed => two_numbers(number, 0),
+        CeilingAnswer::Ceiling(c) => two_numbers(number, c),
     }
 }
 
 // 12 bound: number, S, H, N.
 pub(crate) fn totals_for(m: Model, bound: u8) {
-    match totals::totals_of(m, bound as usize) {
-        TotalsAnswer::NotWellFormed => four_numbers(20, 0, 0, 0),
-        TotalsAnswer::BoundTooLarge => four_numbers(21, 0, 0, 0),
+    let answer = totals::totals_of(m, bound as usize);
+    let number = answer.number() as u64;
+    match answer {
+        TotalsAnswer::NotWellFormed => four_numbers(number, 0, 0, 0),
+        TotalsAnswer::BoundTooLarge => four_numbers(number, 0, 0, 0),
         TotalsAnswer::Totals {
             state,
             choices,
             variables,
-        } => four_numbers(0, state, choices, variables),
+        } => four_numbers(number, state, choices, variables),
     }
 }
 
@@ -51,7 +52,7 @@ pub(crate) fn walked(m: Model, values: [u8; 80], last_index: usize) {
     }
 }
 
-fn show_four(values: [u8; 4]) {
+fn show_four(values: [u8; Model::COUNTERS]) {
     more(values[0] as u64);
     more(values[1] as u64);
     more(values[2] as u64);

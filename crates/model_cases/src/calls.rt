@@ -9,14 +9,16 @@ use model::Model;
 
 // 15 bound: number, variables, clauses, words.
 pub(crate) fn counted(m: Model, bound: u8) {
-    match counts::counts_of(m, bound as usize) {
-        CountsAnswer::NotWellFormed => four_numbers(20, 0, 0, 0),
-        CountsAnswer::BoundTooLarge => four_numbers(21, 0, 0, 0),
+    let answer = counts::counts_of(m, bound as usize);
+    let number = answer.number() as u64;
+    match answer {
+        CountsAnswer::NotWellFormed => four_numbers(number, 0, 0, 0),
+        CountsAnswer::BoundTooLarge => four_numbers(number, 0, 0, 0),
         CountsAnswer::Counts {
             variables,
             clauses,
             words,
-        } => four_numbers(0, variables, clauses, words),
+        } => four_numbers(number, variables, clauses, words),
     }
 }
 
@@ -53,15 +55,16 @@ fn show_words(buf: &[i32]) {
 }
 
 fn told(e: Emission) {
+    let number = e.number() as u64;
     match e {
-        Emission::NotWellFormed => four_numbers(20, 0, 0, 0),
-        Emission::BoundTooLarge => four_numbers(21, 0, 0, 0),
-        Emission::BufferTooShort { words } => four_numbers(22, 0, 0, words),
+        Emission::NotWellFormed => four_numbers(number, 0, 0, 0),
+        Emission::BoundTooLarge => four_numbers(number, 0, 0, 0),
+        Emission::BufferTooShort { words } => four_numbers(number, 0, 0, words),
         Emission::Written {
             variables,
             clauses,
             words,
-        } => four_numbers(0, variables, clauses, words),
+        } => four_numbers(number, variables, clauses, words),
     }
 }
 
@@ -103,7 +106,7 @@ pub(crate) fn encoded(m: Model, values: [u8; 80], last_index: usize) {
 
 // 18 bound bytes: the assignment as a run: number, place; then the run.
 pub(crate) fn decoded(m: Model, values: [u8; 80], last_index: usize) {
-    let mut buf = [255u8; 64];
+    let mut buf = [255u8; Model::STEPS];
     let bound = values[1];
     if 1 <= last_index {
         if last_index < 80 {

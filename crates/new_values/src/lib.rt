@@ -29,7 +29,8 @@ impl NewValue {
     }
 }
 
-pub fn in_range(v: u16, greatest: u8) -> NewValue
+// The value `v`, which must lie in 0 to `greatest`.
+pub fn in_range(greatest: u8, v: u16) -> NewValue
     ensures { λ r. ⌜ r ≡ newValue (inRange greatest v) ⌝ }
 {
     if v <= greatest as u16 {
@@ -44,12 +45,12 @@ fn move_by(v: u8, negative: bool, amount: u8, greatest: u8) -> NewValue
 {
     if negative {
         if amount <= v {
-            in_range((v - amount) as u16, greatest)
+            in_range(greatest, (v - amount) as u16)
         } else {
             NewValue::OutOfRange
         }
     } else {
-        in_range(v as u16 + amount as u16, greatest)
+        in_range(greatest, v as u16 + amount as u16)
     }
 }
 
@@ -71,7 +72,8 @@ pub fn amount(z: i8) -> u8
     }
 }
 
-pub fn shift(v: u8, offset: i8, greatest: u8) -> NewValue
+// `v` plus an offset, in 0 to `greatest`.
+pub fn shift(offset: i8, greatest: u8, v: u8) -> NewValue
     ensures { λ r. ⌜ r ≡ newValue (shifted offset greatest v) ⌝ }
 {
     move_by(v, is_negative(offset), amount(offset), greatest)

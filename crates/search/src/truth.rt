@@ -156,7 +156,7 @@ fn check_shifted(
     requires { ⌜ (x < length (now a)) × (y < length (now a)) × (after + greatest < length (now a)) × (at < mostClauses) ⌝ }
     ensures { λ r. ⌜ Checked (now (a .entry)) (ruleClauses x y after v (Rule.Shift offset greatest)) at 1 r ⌝ }
 {
-    match shift(v, offset, greatest) {
+    match shift(offset, greatest, v) {
         NewValue::OutOfRange => counted(not_both(a, x, y), at),
         NewValue::Value(u) => counted(both_lead(a, x, y, after + u as usize), at),
     }

@@ -47,15 +47,16 @@ fn told(number: u8, variables: usize, clauses: usize, words: usize) -> SizeAnswe
 fn emitted(e: Emission) -> SizeAnswer
     ensures { λ r. ⌜ sizeTold r ≡ emittedSizes (emitTold e) ⌝ }
 {
+    let number = e.number();
     match e {
-        Emission::NotWellFormed => told(20, 0, 0, 0),
-        Emission::BoundTooLarge => told(21, 0, 0, 0),
-        Emission::BufferTooShort { words } => told(22, 0, 0, words),
+        Emission::NotWellFormed => told(number, 0, 0, 0),
+        Emission::BoundTooLarge => told(number, 0, 0, 0),
+        Emission::BufferTooShort { words } => told(number, 0, 0, words),
         Emission::Written {
             variables,
             clauses,
             words,
-        } => told(0, variables, clauses, words),
+        } => told(number, variables, clauses, words),
     }
 }
 

@@ -138,14 +138,15 @@ fn sizes(number: u8, line: usize, variables: usize, clauses: usize, words: usize
 fn counted(c: CountsAnswer) -> SizeAnswer
     ensures { λ r. ⌜ sizeTold r ≡ countedSizes (listTold c) ⌝ }
 {
+    let number = c.number();
     match c {
-        CountsAnswer::NotWellFormed => sizes(20, 0, 0, 0, 0),
-        CountsAnswer::BoundTooLarge => sizes(21, 0, 0, 0, 0),
+        CountsAnswer::NotWellFormed => sizes(number, 0, 0, 0, 0),
+        CountsAnswer::BoundTooLarge => sizes(number, 0, 0, 0, 0),
         CountsAnswer::Counts {
             variables,
             clauses,
             words,
-        } => sizes(0, 0, variables, clauses, words),
+        } => sizes(number, 0, variables, clauses, words),
     }
 }
 
