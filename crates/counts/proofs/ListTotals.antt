@@ -18,7 +18,7 @@ use Rattle.model.proofs.FormLaws.{variables-is, state-of-sizes, choices-of-size
 use Rattle.list.specs.Items.{blockAt, nextBlock, invariantOf, invariantItems, stateItems, initialItems}
 use Rattle.list.specs.Items.{choiceItems, delaysItems, edgeOf, edgesItems, stepItems}
 use Rattle.list.specs.Clauses.{oneHotWidth, groupClauses, clausesOf, clauses, wordsOf, words}
-use Rattle.list.proofs.Pieces.{clauses-pieces, end-piece, start-piece, state-piece, invariants-piece, step-piece, edges-piece}
+use Rattle.list.proofs.PieceClauses.{clauses-pieces, end-piece, start-piece, state-piece, invariants-piece, step-piece, edges-piece}
 use Rattle.parts.specs.declared.Rule.the-variants.{Keep, Rise}
 use Rattle.parts.specs.declared.GroupTable.{GroupTable}
 use Rattle.parts.specs.Rules.{partClauses}

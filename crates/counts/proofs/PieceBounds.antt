@@ -17,8 +17,8 @@ use Rattle.list.specs.Items.{Item, group, overComponents, offset, stateWidth, b
 use Rattle.list.specs.Items.{initialItems, startItems, choiceItems, delayItems, delaysItems, edgeOf, edgesItems, stepItems, endItems, bodyItems, items}
 use Rattle.list.specs.Clauses.{Clause, oneHotWidth, groupClauses, expand, clausesOf, clauses, wordsOf, words}
 use Rattle.list.proofs.ListLaws.{all-app, all-app₃, all-app₄, all-each, flat-app, flat-one, flat-each, each-cong, each-add}
-use Rattle.list.proofs.Pieces.{clauses-pieces, end-piece, start-piece, state-piece, groups-piece, invariants-piece}
-use Rattle.list.proofs.Pieces.{step-piece, choice-piece, delays-piece, edges-piece}
+use Rattle.list.proofs.PieceClauses.{clauses-pieces, end-piece, start-piece, state-piece, groups-piece, invariants-piece}
+use Rattle.list.proofs.PieceClauses.{step-piece, choice-piece, delays-piece, edges-piece}
 use Rattle.parts.specs.declared.Rule.the-variants.{Set}
 use Rattle.parts.specs.declared.GroupTable.{GroupTable}
 use Rattle.parts.specs.Rules.{partClauses}

@@ -18,7 +18,7 @@ use Rattle.model.proofs.FormLaws.{formed, state-of-sizes, stateSize-le, choices
 use Rattle.list.specs.Items.{offset, blockAt, startItems, initialItems, stateItems, endItems, edgesItems, edgeOf}
 use Rattle.list.specs.Clauses.{Clause, bare, one, oneHotWidth, clausesOf, clauses}
 use Rattle.list.proofs.ListLaws.{each-cong}
-use Rattle.list.proofs.Pieces.{start-piece, end-piece, edges-piece, clauses-pieces}
+use Rattle.list.proofs.PieceClauses.{start-piece, end-piece, edges-piece, clauses-pieces}
 use Rattle.parts.specs.declared.GroupTable.{GroupTable}
 use Rattle.parts.specs.StateBlock.{componentAt, groupTable, sizeAt}
 use Rattle.parts.specs.Numbering.{variableNumber, mostVariables}

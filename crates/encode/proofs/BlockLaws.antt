@@ -15,7 +15,7 @@ use Rattle.model.specs.Run.{walk}
 use Rattle.model.proofs.IndexedLaws.{some-none}
 use Rattle.model.proofs.RunLaws.{walk-nil, walk-cons, walk-step, walk-app}
 use Rattle.list.specs.Assignments.{oneHot, stateBytes, stepsBytes}
-use Rattle.encode.specs.Blocks.{counterBytes, clockBytes, stepBytes, Walks}
+use Rattle.encode.specs.BlockBytes.{counterBytes, clockBytes, stepBytes, Walks}
 
 -- a state block: the location, the counters, the clocks
 pub state-is : (m : Model) (s : State) (top : ℕ) → top ≡ ceiling m → stateBytes oneHot m s

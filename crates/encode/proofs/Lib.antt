@@ -1,3 +1,2 @@
-pub mod BufferLaws
 pub mod BlockLaws
 pub mod Reports

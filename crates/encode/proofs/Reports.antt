@@ -22,8 +22,8 @@ use Rattle.walk.specs.Walker.{walkSteps, walkReport}
 use Rattle.walk.proofs.Accepts.{accepts-iff}
 use Rattle.list.specs.Assignments.{assignmentOf}
 use Rattle.list.proofs.OneHot.{assignment-is}
-use Rattle.encode.specs.Buffers.{Room, Wrote}
-use Rattle.encode.specs.Blocks.{Walks}
+use Rattle.buffer.specs.Buffers.{Room, Wrote}
+use Rattle.encode.specs.BlockBytes.{Walks}
 use Rattle.encode.specs.EncodeCall.{isAccepted, encodeReport, encodeLeft}
 
 -- ---- a report of the walker with the number 0 is that of an accepted run

@@ -1,3 +1,2 @@
-pub mod Buffers
-pub mod Blocks
+pub mod BlockBytes
 pub mod EncodeCall

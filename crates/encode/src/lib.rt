@@ -16,8 +16,8 @@ ghost use Rattle.model.specs.Automaton.{ceiling, initialState};
 ghost use Rattle.model.specs.Bounds.{KnownSizes};
 ghost use Rattle.model.specs.Form.{wellFormed};
 ghost use Rattle.list.specs.Assignments.{oneHot, stateBytes, stepsBytes, assignmentOf};
-ghost use Rattle.encode.specs.Buffers.{Room, Wrote};
-ghost use Rattle.encode.specs.Blocks.{counterBytes, clockBytes, stepBytes, Walks};
+ghost use Rattle.buffer.specs.Buffers.{Room, Wrote};
+ghost use Rattle.encode.specs.BlockBytes.{counterBytes, clockBytes, stepBytes, Walks};
 ghost use Rattle.encode.specs.EncodeCall.{encodeTold, encodeReport, encodeLeft};
 
 // What became of a run that is to be written as an assignment.

@@ -8,7 +8,7 @@ pub mod Layouts
 pub mod AnyLayout
 pub mod OneHot
 pub mod DemandProofs
-pub mod Pieces
+pub mod PieceClauses
 pub mod Searching
 pub mod Rows
 pub mod Sample

@@ -21,7 +21,7 @@ use Rattle.list.specs.Items.{blockAt, nextBlock, stateWidth, choiceWidth, state
 use Rattle.list.specs.Clauses.{Clause, oneHotWidth, groupClauses, clausesOf}
 use Rattle.list.proofs.ListLaws.{each-cong}
 use Rattle.list.proofs.OneHot.{state-width-is}
-use Rattle.list.proofs.Pieces.{state-piece, step-piece, invariants-piece, atoms-piece, choice-piece, delays-piece}
+use Rattle.list.proofs.PieceClauses.{state-piece, step-piece, invariants-piece, atoms-piece, choice-piece, delays-piece}
 use Rattle.parts.specs.declared.Rule.the-variants.{Keep, Rise}
 use Rattle.parts.specs.Rules.{partClauses, Fits}
 use Rattle.parts.proofs.PartLengths.{keep-length, rise-length}

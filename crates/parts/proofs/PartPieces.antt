@@ -26,7 +26,7 @@ use Rattle.list.specs.Items.{Member, offset, nextBlock, stateWidth, choiceMembe
 use Rattle.list.specs.Clauses.{bare, negated, Clause, one, oneHotWidth, variableOf, groupClauses, expand, clausesOf}
 use Rattle.list.proofs.ListLaws.{each-add, each-cong, flat-none}
 use Rattle.list.proofs.OneHot.{next-block-is}
-use Rattle.list.proofs.Pieces.{groups-piece, initial-piece, values-piece, delay-piece, leads-piece, puts-piece, edge-piece, source-piece, target-piece, guard-piece, updates-piece, resets-piece}
+use Rattle.list.proofs.PieceClauses.{groups-piece, initial-piece, values-piece, delay-piece, leads-piece, puts-piece, edge-piece, source-piece, target-piece, guard-piece, updates-piece, resets-piece}
 use Rattle.parts.specs.declared.Rule.{Rule}
 use Rattle.parts.specs.declared.Rule.the-variants.{Exclude, Keep, Rise, Shift, Set, Forbid}
 use Rattle.parts.specs.Rules.{ruleClauses, rowClauses, valueClauses, partClauses}

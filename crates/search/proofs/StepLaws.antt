@@ -12,7 +12,7 @@ use Rattle.model.proofs.FormLaws.{variables-le}
 use Rattle.list.specs.Items.{blockAt, nextBlock, choiceItems, delaysItems, stateItems, stepItems}
 use Rattle.list.specs.Clauses.{Clause, oneHotWidth, clausesOf}
 use Rattle.list.proofs.OneHot.{next-block-is}
-use Rattle.list.proofs.Pieces.{next-block, step-piece, edges-piece}
+use Rattle.list.proofs.PieceClauses.{next-block, step-piece, edges-piece}
 use Rattle.counts.specs.Tables.{mostEdgeClauses}
 use Rattle.parts.specs.declared.GroupTable.{GroupTable}
 use Rattle.parts.specs.declared.Part.{Part}

@@ -1,10 +1,11 @@
 -- `put_assignment`: the block of the initial state, then the blocks of the steps, each written where the one before it ended.
 use mathlib.Core.Path.{sym, subst, ap}
-use mathlib.Core.List.{_++_}
+use mathlib.Core.List.{List, _++_}
+use Prim.Native.Nat.{ℕ}
 use Rattle.model.specs.declared.State.{State}
 use Rattle.list.specs.Assignments.{oneHot, stateBytes, stepsBytes, assignmentOf}
-use Rattle.encode.proofs.BufferLaws.{wrote-then, wrote-is, room-is, room-first, room-then}
-use Rattle.encode.specs.Blocks.{Walks}
+use Rattle.buffer.proofs.BufferLaws.{wrote-then, wrote-as, room-as, room-first, room-then}
+use Rattle.encode.specs.BlockBytes.{Walks}
 use borrow.Author.Needs.{needs}
 use Rattle.encode.proofs.put_assignment.Statement.{statement}
 use Rattle.encode.proofs.put_assignment.Tie as tie
@@ -26,7 +27,7 @@ put-state-requires c κs =
       pre .0,
       c .before .ceiling .ensures .is,
       room-first (stepsBytes oneHot m (initial-state .result) run-now)
-          (room-is (ap (λ (s : State). stateBytes oneHot m s ++ stepsBytes oneHot m s run-now) (sym (initial-state .ensures))) (pre .2)),
+          (room-as (ap (λ (s : State). stateBytes oneHot m s ++ stepsBytes oneHot m s run-now) (sym (initial-state .ensures))) (pre .2)),
     )
 
 put-steps-requires : tie.Need-put-steps-requires
@@ -40,7 +41,7 @@ put-steps-requires c κs =
       pre .0,
       subst (λ (s : State). Walks m s run-now) (sym (initial-state .ensures)) (pre .1),
       room-then (c .before .before .before .put-state .ensures)
-          (room-is (ap (λ (s : State). stateBytes oneHot m s ++ stepsBytes oneHot m s run-now) (sym (initial-state .ensures))) (pre .2)),
+          (room-as (ap (λ (s : State). stateBytes oneHot m s ++ stepsBytes oneHot m s run-now) (sym (initial-state .ensures))) (pre .2)),
     )
 
 same-length : tie.Need-same-length
@@ -52,8 +53,8 @@ returns c =
     let at-put-state = c .before .before .before .before .before .before in
     let args = at-put-state .before .before .before .before .before .before .args in
     let m = args .m in
-    wrote-is
-    (ap (λ (s : State). stateBytes oneHot m s ++ stepsBytes oneHot m s (args .run .now)) (at-put-state .before .before .before .initial-state .ensures))
+    let blocks : State → List ℕ = λ s. stateBytes oneHot m s ++ stepsBytes oneHot m s (args .run .now) in
+    wrote-as (sym (ap blocks (at-put-state .before .before .before .initial-state .ensures)))
     (wrote-then (at-put-state .put-state .ensures) (c .before .before .put-steps .ensures))
 
 pub put-assignment-spec : {M : Type 1} → statement M

@@ -6,8 +6,8 @@ use mathlib.Core.Path.{_≡_}
 use Prim.Native.Nat.{_≤_, _-_, _+_}
 use Rattle.list.proofs.OneHot.{one-hot-length}
 use Rattle.list.specs.Assignments.{oneHot}
-use Rattle.encode.proofs.BufferLaws.{wrote-list-none, wrote-list}
-use Rattle.encode.specs.Buffers.{Wrote}
+use Rattle.buffer.proofs.BufferLaws.{wrote-list-none, wrote-list}
+use Rattle.buffer.specs.Buffers.{Wrote}
 use Rattle.encode.proofs.put_group.Statement.{statement}
 use Rattle.encode.proofs.put_group.Tie as tie
 

@@ -1,8 +1,7 @@
 -- `put_step`: the group of the choice, then the block of the next state.
-use mathlib.Core.Path.{sym}
 use Rattle.model.proofs.FormLaws.{ceiling-of-sizes, choices-of-sizes}
 use Rattle.encode.proofs.BlockLaws.{step-is}
-use Rattle.encode.proofs.BufferLaws.{wrote-then, room-first, room-then, wrote-is, room-is}
+use Rattle.buffer.proofs.BufferLaws.{wrote-then, room-first, room-then, wrote-as, room-as}
 use borrow.Author.Needs.{needs}
 use Rattle.encode.proofs.put_step.Statement.{statement}
 use Rattle.encode.proofs.put_step.Tie as tie
@@ -11,7 +10,7 @@ put-group-requires : tie.Need-put-group-requires
 put-group-requires c κs =
     let entry = c .before .before in
     let args = entry .args in
-    room-first _ (room-is (step-is (args .m) (args .byte) (args .next) (args .z .choices) (choices-of-sizes _ _ (entry .pre .1))) (entry .pre .2))
+    room-first _ (room-as (step-is (args .m) (args .byte) (args .next) (args .z .choices) (choices-of-sizes _ _ (entry .pre .1))) (entry .pre .2))
 
 put-state-requires : tie.Need-put-state-requires
 put-state-requires c κs =
@@ -22,7 +21,7 @@ put-state-requires c κs =
       pre .0,
       ceiling-of-sizes _ _ pre₁,
       room-then (c .before .before .before .put-group .ensures)
-          (room-is (step-is (args .m) (args .byte) (args .next) (args .z .choices) (choices-of-sizes _ _ pre₁)) (pre .2)),
+          (room-as (step-is (args .m) (args .byte) (args .next) (args .z .choices) (choices-of-sizes _ _ pre₁)) (pre .2)),
     )
 
 same-length : tie.Need-same-length
@@ -33,7 +32,7 @@ returns c =
     let put-group = c .before .before .before .before .before .before .put-group in
     let entry = c .before .before .before .before .before .before .before .before .before in
     let args = entry .args in
-    wrote-is (sym (step-is (args .m) (args .byte) (args .next) (args .z .choices) (choices-of-sizes _ _ (entry .pre .1))))
+    wrote-as (step-is (args .m) (args .byte) (args .next) (args .z .choices) (choices-of-sizes _ _ (entry .pre .1)))
     (wrote-then (put-group .ensures) (c .before .before .put-state .ensures))
 
 pub put-step-spec : {M : Type 1} → statement M

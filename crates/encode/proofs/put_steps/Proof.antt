@@ -13,8 +13,8 @@ use Rattle.model.specs.Bounds.{KnownSizes}
 use Rattle.model.specs.Automaton.{ceiling}
 use Rattle.list.specs.Assignments.{oneHot, stepsBytes}
 use Rattle.encode.proofs.BlockLaws.{steps-none, taken, reached-more, steps-more, steps-whole}
-use Rattle.encode.proofs.BufferLaws.{wrote-none, wrote-then, room-first, room-then, wrote-is, room-is}
-use Rattle.encode.specs.Buffers.{Wrote}
+use Rattle.buffer.proofs.BufferLaws.{wrote-none, wrote-then, room-first, room-then, wrote-as, room-as}
+use Rattle.buffer.specs.Buffers.{Wrote}
 use Rattle.encode.proofs.put_steps.Statement.{statement}
 use Rattle.encode.proofs.put_steps.Tie as tie
 
@@ -65,7 +65,7 @@ put-step-requires c κs =
     let run-now = args .run .now in
     let l : loop .t < length run-now = omega (arith, v .1, loop-test .taken) in
     let h = taken (args .m) (args .first) run-now (loop .t) (loop .s) l (v .4) (pre .1) (advance .result) (advance .ensures) in
-    (pre .0, v .2, room-then (v .5) (room-first _ (room-is (steps-whole (args .m) (args .first) run-now (loop .t) (loop .s) l (v .4) _ h) (pre .2))))
+    (pre .0, v .2, room-then (v .5) (room-first _ (room-as (steps-whole (args .m) (args .first) run-now (loop .t) (loop .s) l (v .4) _ h) (pre .2))))
 
 add-t : tie.Need-add-t Inv-loop μ-loop
 add-t c = search needs
@@ -94,7 +94,7 @@ loop-again c =
       v .2,
       v .3,
       reached-more m first run-now loop-t loop-s l (v .4) _ h,
-      wrote-is (sym (steps-more m first run-now loop-t loop-s l (v .4) _ h)) (wrote-then (v .5) (c .before .before .put-step .ensures)),
+      wrote-as (steps-more m first run-now loop-t loop-s l (v .4) _ h) (wrote-then (v .5) (c .before .before .put-step .ensures)),
     )
 
 same-length : tie.Need-same-length Inv-loop μ-loop
@@ -108,7 +108,7 @@ returns c =
     let first = args .first in
     let run-now = args .run .now in
     let done : c .before .loop .t ≡ length run-now = omega (arith, v .1) in
-    wrote-is (ap (λ (n : ℕ). stepsBytes oneHot m first (take n run-now)) done ∙ ap (stepsBytes oneHot m first) (take-length run-now)) (v .5)
+    wrote-as (sym (ap (λ (n : ℕ). stepsBytes oneHot m first (take n run-now)) done ∙ ap (stepsBytes oneHot m first) (take-length run-now))) (v .5)
 
 pub put-steps-spec : {M : Type 1} → statement M
 put-steps-spec =

@@ -3,7 +3,7 @@ use mathlib.Core.Path.{sym}
 use native.Mathlib.Omega.{arith}
 use borrow.Author.Needs.{needs}
 use borrow.Author.Tests.{not-false, not-true}
-use Rattle.list.proofs.Pieces.{start-piece}
+use Rattle.list.proofs.PieceClauses.{start-piece}
 use Rattle.search.proofs.CheckLaws.{checked-as, checked-stop, checked-then, passed-check}
 use Rattle.search.specs.Limits.{mostStartClauses}
 use Rattle.search.proofs.pieces.check_start.Statement.{statement}

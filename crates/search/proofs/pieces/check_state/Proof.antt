@@ -6,7 +6,7 @@ use borrow.Author.Needs.{needs}
 use borrow.Author.Tests.{not-false, not-true}
 use denote.Ref.{now}
 use lib.ListN.{length}
-use Rattle.list.proofs.Pieces.{state-piece}
+use Rattle.list.proofs.PieceClauses.{state-piece}
 use Rattle.list.specs.Clauses.{clauses}
 use Rattle.counts.proofs.TableLaws.{slots-are}
 use Rattle.counts.specs.Tables.{mostInvariantClauses}
