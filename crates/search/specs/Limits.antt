@@ -1,5 +1,5 @@
--- How many clauses pieces of the list have at most, where a group has at most 64 members, a state block 9 groups, and for 16 locations, 32 edges
--- and 64 steps. They are simple products, above what a model can reach: no count of the search passes mostClauses, so no sum wraps.
+-- How far a check of a piece of the list counts at most, where a group has at most 64 members, a state block 9 groups, and for 16 locations,
+-- 32 edges and 64 steps. They are simple products, above what a model can reach: no count of the search passes mostCounted, so no sum wraps.
 use Prim.Native.Nat.{ℕ, _+_, _*_}
 use Rattle.counts.specs.Tables.{mostInvariantClauses, mostEdgeClauses}
 
@@ -36,5 +36,5 @@ abbrev pub mostStepClauses : ℕ
 mostStepClauses = mostFrontClauses + 32 * mostEdgeClauses + mostStateClauses
 
 -- The whole list, the clause of the end too.
-abbrev pub mostClauses : ℕ
-mostClauses = mostStartClauses + 64 * mostStepClauses + 1
+abbrev pub mostCounted : ℕ
+mostCounted = mostStartClauses + 64 * mostStepClauses + 1

@@ -26,7 +26,7 @@ ghost use Rattle.list.specs.Clauses.{oneHotWidth, clauses};
 ghost use Rattle.list.specs.Assignments.{firstFalse};
 ghost use Rattle.counts.specs.Tables.{Table, mostInvariantClauses, mostEdgeClauses};
 ghost use Rattle.search.specs.Checking.{Checked};
-ghost use Rattle.search.specs.Limits.{mostStepClauses, mostClauses};
+ghost use Rattle.search.specs.Limits.{mostStepClauses, mostCounted};
 ghost use Rattle.parts.specs.Pieces.{Known, stepClauses};
 ghost use Rattle.search.specs.Answer.{found};
 
@@ -51,7 +51,7 @@ fn check_steps(
     a: &[u8],
     at: usize,
 ) -> PieceCheck
-    requires { ⌜ Known m b × KnownSizes m z × Table (invariantOf oneHotWidth m) (m .locations) 16 mostInvariantClauses invariants × Table (edgeOf oneHotWidth m) (m .used) 32 mostEdgeClauses table × (bound ≤ 64) × (length (now a) ≡ variables m bound) × (at + 64 * mostStepClauses ≤ mostClauses) ⌝ }
+    requires { ⌜ Known m b × KnownSizes m z × Table (invariantOf oneHotWidth m) (m .locations) 16 mostInvariantClauses invariants × Table (edgeOf oneHotWidth m) (m .used) 32 mostEdgeClauses table × (bound ≤ 64) × (length (now a) ≡ variables m bound) × (at + 64 * mostStepClauses ≤ mostCounted) ⌝ }
     ensures { λ r. ⌜ Checked (now (a .entry)) (each bound (stepClauses m)) at (64 * mostStepClauses) r ⌝ }
 {
     let edges_at = b.state + b.top as usize + 1;

@@ -17,7 +17,7 @@ ghost use Rattle.model.specs.Form.{wellFormed};
 ghost use Rattle.list.specs.Items.{stateItems, initialItems, startItems, invariantOf};
 ghost use Rattle.list.specs.Clauses.{oneHotWidth, clausesOf};
 ghost use Rattle.search.specs.Checking.{Checked};
-ghost use Rattle.search.specs.Limits.{mostBlockClauses, mostStateClauses, mostStartClauses, mostDelayClauses, mostFrontClauses, mostClauses};
+ghost use Rattle.search.specs.Limits.{mostBlockClauses, mostStateClauses, mostStartClauses, mostDelayClauses, mostFrontClauses, mostCounted};
 ghost use Rattle.parts.specs.Rules.{Fits};
 ghost use Rattle.counts.specs.Tables.{Table, mostInvariantClauses};
 ghost use Rattle.parts.specs.Numbering.{mostVariables};
@@ -27,7 +27,7 @@ ghost use Rattle.parts.specs.Pieces.{Known, BlockIn, StepIn, groupPiece, atomPi
 
 // The group clauses of the state block that begins at `o`.
 fn check_groups(b: GroupTable, a: &[u8], o: usize, at: usize) -> PieceCheck
-    requires { ⌜ BlockIn b o (length (now a)) × (at + mostBlockClauses ≤ mostClauses) ⌝ }
+    requires { ⌜ BlockIn b o (length (now a)) × (at + mostBlockClauses ≤ mostCounted) ⌝ }
     ensures { λ r. ⌜ Checked (now (a .entry)) (each (b .groups) (groupPiece b o)) at mostBlockClauses r ⌝ }
 {
     let mut count = at;
@@ -55,7 +55,7 @@ fn check_atoms(
     atoms: [AtomSlot; Model::ATOMS],
     at: usize,
 ) -> PieceCheck
-    requires { ⌜ Bounded b × (o ≤ mostVariables) × (x < length (now a)) × ((k : ℕ) → k < 4 → Fits (atomPart b o (atomAt atoms k)) (length (now a))) × (at + mostInvariantClauses ≤ mostClauses) ⌝ }
+    requires { ⌜ Bounded b × (o ≤ mostVariables) × (x < length (now a)) × ((k : ℕ) → k < 4 → Fits (atomPart b o (atomAt atoms k)) (length (now a))) × (at + mostInvariantClauses ≤ mostCounted) ⌝ }
     ensures { λ r. ⌜ Checked (now (a .entry)) (each 4 (atomPiece b o x atoms)) at mostInvariantClauses r ⌝ }
 {
     let mut count = at;
@@ -84,7 +84,7 @@ pub fn check_state(
     o: usize,
     at: usize,
 ) -> PieceCheck
-    requires { ⌜ Known m b × Table (invariantOf oneHotWidth m) (m .locations) 16 mostInvariantClauses table × (o ≤ mostVariables) × (o + stateSize m ≤ length (now a)) × (at + mostStateClauses ≤ mostClauses) ⌝ }
+    requires { ⌜ Known m b × Table (invariantOf oneHotWidth m) (m .locations) 16 mostInvariantClauses table × (o ≤ mostVariables) × (o + stateSize m ≤ length (now a)) × (at + mostStateClauses ≤ mostCounted) ⌝ }
     ensures { λ r. ⌜ Checked (now (a .entry)) (clausesOf (stateItems oneHotWidth m o)) at mostStateClauses r ⌝ }
 {
     let s = check_groups(b, a, o, at);
@@ -129,7 +129,7 @@ fn initial_value(m: Model, g: usize) -> u8
 
 // The clauses of the initial values.
 fn check_initial(m: Model, b: GroupTable, a: &[u8], at: usize) -> PieceCheck
-    requires { ⌜ Known m b × (stateSize m ≤ length (now a)) × (at + 9 ≤ mostClauses) ⌝ }
+    requires { ⌜ Known m b × (stateSize m ≤ length (now a)) × (at + 9 ≤ mostCounted) ⌝ }
     ensures { λ r. ⌜ Checked (now (a .entry)) (clausesOf (initialItems oneHotWidth m)) at 9 r ⌝ }
 {
     let mut count = at;
@@ -169,7 +169,7 @@ pub fn check_start(
 
 // The clauses of delay `d` from the state block that begins at `o`.
 fn check_delay(b: GroupTable, a: &[u8], o: usize, d: u8, at: usize) -> PieceCheck
-    requires { ⌜ Bounded b × (o ≤ mostVariables) × StepIn b o (length (now a)) × (d ≤ b .top) × (at + mostDelayClauses ≤ mostClauses) ⌝ }
+    requires { ⌜ Bounded b × (o ≤ mostVariables) × StepIn b o (length (now a)) × (d ≤ b .top) × (at + mostDelayClauses ≤ mostCounted) ⌝ }
     ensures { λ r. ⌜ Checked (now (a .entry)) (each (b .groups) (delayPiece b o d)) at mostDelayClauses r ⌝ }
 {
     let x = o + b.state + d as usize;
@@ -190,7 +190,7 @@ fn check_delay(b: GroupTable, a: &[u8], o: usize, d: u8, at: usize) -> PieceChec
 // The clauses of all delays from the state block that begins at `o`. All clauses of a delay that is false are true, one for
 // each member of the state block.
 fn check_delays(b: GroupTable, a: &[u8], o: usize, at: usize) -> PieceCheck
-    requires { ⌜ Bounded b × (o ≤ mostVariables) × StepIn b o (length (now a)) × (at + 32 * mostDelayClauses ≤ mostClauses) ⌝ }
+    requires { ⌜ Bounded b × (o ≤ mostVariables) × StepIn b o (length (now a)) × (at + 32 * mostDelayClauses ≤ mostCounted) ⌝ }
     ensures { λ r. ⌜ Checked (now (a .entry)) (each (b .top + 1) (delayPieces b o)) at (32 * mostDelayClauses) r ⌝ }
 {
     let mut count = at;
@@ -213,7 +213,7 @@ fn check_delays(b: GroupTable, a: &[u8], o: usize, at: usize) -> PieceCheck
 
 // The clauses of a step up to its edges: the choice's group, then the delays.
 pub fn check_front(b: GroupTable, a: &[u8], o: usize, at: usize) -> PieceCheck
-    requires { ⌜ Bounded b × (o ≤ mostVariables) × StepIn b o (length (now a)) × (at + mostFrontClauses ≤ mostClauses) ⌝ }
+    requires { ⌜ Bounded b × (o ≤ mostVariables) × StepIn b o (length (now a)) × (at + mostFrontClauses ≤ mostCounted) ⌝ }
     ensures { λ r. ⌜ Checked (now (a .entry)) (frontPiece b o) at mostFrontClauses r ⌝ }
 {
     let s = check_group(a, o + b.state, b.choices, at);

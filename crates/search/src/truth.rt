@@ -12,7 +12,7 @@ ghost use lib.ListN.{length};
 ghost use Rattle.list.specs.Clauses.{bare, negated, members, groupClauses};
 ghost use Rattle.list.specs.Assignments.{bit, clauseTrue};
 ghost use Rattle.search.specs.Checking.{Checked, counted};
-ghost use Rattle.search.specs.Limits.{mostGroupClauses, mostPartClauses, mostClauses};
+ghost use Rattle.search.specs.Limits.{mostGroupClauses, mostPartClauses, mostCounted};
 ghost use Rattle.parts.specs.Rules.{ruleClauses, valueClauses, partClauses, Fits};
 
 // A piece of the list has been checked: whether all its clauses are true, and the count of clauses where the check stopped.
@@ -79,7 +79,7 @@ fn members_true(a: &[u8], b: usize, n: usize) -> bool
 
 // One clause has been looked at.
 fn counted(ok: bool, at: usize) -> PieceCheck
-    requires { ⌜ at < mostClauses ⌝ }
+    requires { ⌜ at < mostCounted ⌝ }
     ensures { λ r. ⌜ r ≡ counted ok at ⌝ }
 {
     if ok {
@@ -94,7 +94,7 @@ fn counted(ok: bool, at: usize) -> PieceCheck
 
 // Checks a group's clauses, counting on from `at`. All pairs of a member that is false are true.
 pub fn check_group(a: &[u8], b: usize, n: usize, at: usize) -> PieceCheck
-    requires { ⌜ (b + n ≤ length (now a)) × (n ≤ 64) × (at + mostGroupClauses ≤ mostClauses) ⌝ }
+    requires { ⌜ (b + n ≤ length (now a)) × (n ≤ 64) × (at + mostGroupClauses ≤ mostCounted) ⌝ }
     ensures { λ r. ⌜ Checked (now (a .entry)) (groupClauses b n) at mostGroupClauses r ⌝ }
 {
     if !members_true(a, b, n) {
@@ -133,7 +133,7 @@ fn check_excluded(
     constant: u8,
     at: usize,
 ) -> PieceCheck
-    requires { ⌜ (x < length (now a)) × (y < length (now a)) × (at < mostClauses) ⌝ }
+    requires { ⌜ (x < length (now a)) × (y < length (now a)) × (at < mostCounted) ⌝ }
     ensures { λ r. ⌜ Checked (now (a .entry)) (ruleClauses x y 0 v (Rule.Exclude relation constant)) at 1 r ⌝ }
 {
     if relation.holds(v, constant) {
@@ -153,7 +153,7 @@ fn check_shifted(
     greatest: u8,
     at: usize,
 ) -> PieceCheck
-    requires { ⌜ (x < length (now a)) × (y < length (now a)) × (after + greatest < length (now a)) × (at < mostClauses) ⌝ }
+    requires { ⌜ (x < length (now a)) × (y < length (now a)) × (after + greatest < length (now a)) × (at < mostCounted) ⌝ }
     ensures { λ r. ⌜ Checked (now (a .entry)) (ruleClauses x y after v (Rule.Shift offset greatest)) at 1 r ⌝ }
 {
     match shift(offset, greatest, v) {
@@ -164,7 +164,7 @@ fn check_shifted(
 
 // Checks the clauses of a part for value `v`.
 pub fn check_value(a: &[u8], x: usize, p: Part, v: usize, at: usize) -> PieceCheck
-    requires { ⌜ (x < length (now a)) × Fits p (length (now a)) × (v < p .size) × (at < mostClauses) ⌝ }
+    requires { ⌜ (x < length (now a)) × Fits p (length (now a)) × (v < p .size) × (at < mostCounted) ⌝ }
     ensures { λ r. ⌜ Checked (now (a .entry)) (valueClauses x p v) at 1 r ⌝ }
 {
     let y = p.before + v;
@@ -189,7 +189,7 @@ pub fn check_value(a: &[u8], x: usize, p: Part, v: usize, at: usize) -> PieceChe
 
 // Checks the clauses of a part, value after value.
 pub fn check_part(a: &[u8], x: usize, p: Part, at: usize) -> PieceCheck
-    requires { ⌜ (x < length (now a)) × Fits p (length (now a)) × (at + mostPartClauses ≤ mostClauses) ⌝ }
+    requires { ⌜ (x < length (now a)) × Fits p (length (now a)) × (at + mostPartClauses ≤ mostCounted) ⌝ }
     ensures { λ r. ⌜ Checked (now (a .entry)) (partClauses x p) at mostPartClauses r ⌝ }
 {
     let mut count = at;
