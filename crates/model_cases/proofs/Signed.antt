@@ -1,12 +1,12 @@
 -- Facts of a signed word: its negation at a wider type, and what the tests on its sign tell.
-use Prim.Native.Nat.{zero, suc, _<_, _^_, zero-le}
-use mathlib.Core.Path.{_≡_, refl}
+use Prim.Native.Nat.{zero, suc, _<_, _^_}
+use mathlib.Core.Path.{_≡_}
 use mathlib.Core.Bool.{true, false, true≢false}
 use native.Mathlib.Omega.{arith}
 use lib.IntN.{ℤ, pos, negsuc, _-ℤ_, natAbs}
 use lib.Signed.{ltZ, nonNeg}
 use lib.Dec.{T}
-use borrow.Author.Tests.{le-ltb, lt-ltb, ltb-true}
+use borrow.Author.Tests.{lt-ltb, ltb-true}
 use mir.Syntax.{w32, w64}
 use mir.Val.{SFits, Fits}
 

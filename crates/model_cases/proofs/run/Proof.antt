@@ -1,3 +1,4 @@
+-- `run`: each turn ends a line later, at most one past the end.
 use borrow.Author.Needs.{needs}
 use lib.ListN.{length}
 use Prim.Native.Nat.{_≤_, _-_, _+_}
@@ -45,18 +46,5 @@ returns c = search needs
 
 pub run-spec : {M : Type 1} → statement M
 run-spec =
-    tie.close
-    (tie.spec
-    Inv-loop
-    μ-loop
-    blank-requires
-    loop-holds
-    line-end-requires
-    sub-line
-    part-line-start
-    part-line-end
-    line-requires
-    add-at
-    loop-less
-    loop-again
-    returns)
+    tie.close (tie.spec Inv-loop μ-loop blank-requires loop-holds line-end-requires sub-line part-line-start part-line-end line-requires add-at loop-less
+    loop-again returns)

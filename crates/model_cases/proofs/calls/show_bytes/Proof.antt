@@ -1,7 +1,7 @@
+-- `show_bytes`: every need is arithmetic on the index, which stays below the buffer's length.
 use borrow.Author.Needs.{needs}
 use mathlib.Core.Path.{_≡_}
 use lib.ListN.{length}
-use native.Mathlib.Omega.{arith}
 use Prim.Native.Nat.{_≤_, _-_}
 use Rattle.model_cases.proofs.calls.show_bytes.Statement.{statement}
 use Rattle.model_cases.proofs.calls.show_bytes.Tie as tie
@@ -44,17 +44,5 @@ returns-2 c = search needs
 
 pub show-bytes-spec : {M : Type 1} → statement M
 show-bytes-spec =
-    tie.close
-    (tie.spec
-    Inv-loop
-    μ-loop
-    loop-holds
-    shared-slice-read-b
-    end-requires
-    returns
-    show-byte-requires
-    add-i
-    loop-less
-    loop-again
-    end-requires-2
+    tie.close (tie.spec Inv-loop μ-loop loop-holds shared-slice-read-b end-requires returns show-byte-requires add-i loop-less loop-again end-requires-2
     returns-2)

@@ -1,7 +1,7 @@
+-- `show_words`: the index stays below the buffer's length, so each read of a word is within it.
 use borrow.Author.Needs.{needs}
 use mathlib.Core.Path.{_≡_}
 use lib.ListN.{length}
-use native.Mathlib.Omega.{arith}
 use Prim.Native.Nat.{_≤_, _-_}
 use Rattle.model_cases.proofs.calls.show_words.Statement.{statement}
 use Rattle.model_cases.proofs.calls.show_words.Tie as tie
@@ -47,18 +47,5 @@ returns-2 c = search needs
 
 pub show-words-spec : {M : Type 1} → statement M
 show-words-spec =
-    tie.close
-    (tie.spec
-    Inv-loop
-    μ-loop
-    loop-holds
-    mul-w
-    shared-slice-copy-out-w
-    end-requires
-    returns
-    show-word-requires
-    add-i
-    loop-less
-    loop-again
-    end-requires-2
-    returns-2)
+    tie.close (tie.spec Inv-loop μ-loop loop-holds mul-w shared-slice-copy-out-w end-requires returns show-word-requires add-i loop-less loop-again
+    end-requires-2 returns-2)

@@ -1,3 +1,4 @@
+-- `read`: every need is arithmetic on the index, which stays below the slice's length.
 use borrow.Author.Needs.{needs}
 use mathlib.Core.Path.{_≡_}
 use lib.ListN.{length}
@@ -33,15 +34,4 @@ returns : tie.Need-returns Inv-loop μ-loop
 returns c = search needs
 
 pub read-spec : {M : Type 1} → statement M
-read-spec =
-    tie.close
-    (tie.spec
-    Inv-loop
-    μ-loop
-    loop-holds
-    shared-slice-read-with-byte
-    with-byte-requires
-    add-i
-    loop-less
-    loop-again
-    returns)
+read-spec = tie.close (tie.spec Inv-loop μ-loop loop-holds shared-slice-read-with-byte with-byte-requires add-i loop-less loop-again returns)
