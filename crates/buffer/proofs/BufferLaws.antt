@@ -1,5 +1,5 @@
 -- A piece that is written where the one before it ended extends what was written.
-use mathlib.Core.Path.{_≡_, refl, sym, ap, subst, _∙_}
+use mathlib.Core.Path.{_≡_, refl, sym, ap, _∙_}
 use mathlib.Core.List.{List, [], _∷_, _++_, append-assoc, append-nil}
 use Prim.Native.Nat.{ℕ, suc, _+_, _-_, _≤_, _<_}
 use native.Mathlib.Nat.{le-refl}
@@ -128,8 +128,7 @@ module _ {A : Type 0} where
       le-ind (λ (k : ℕ). length (each i f) ≤ length (each k f)) (le-refl (length (each i f)))
       (λ k _ ih. rw (each-suc k f, length-append (each k f) (f k)) (omega arith)) n h
 
-  pub room-each : (f : ℕ → List A) (i n : ℕ) {old mid : List A} {a b : ℕ} → Wrote (each i f) old mid a b → i < n → Room (each n f) old a
-      → Room (f i) mid b
+  pub room-each : (f : ℕ → List A) (i n : ℕ) {old mid : List A} {a b : ℕ} → Wrote (each i f) old mid a b → i < n → Room (each n f) old a → Room (f i) mid b
   room-each f i n w h r = record {
     room =
         omega (

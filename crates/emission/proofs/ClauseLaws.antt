@@ -97,8 +97,7 @@ module _ (f : ℕ → List Clause) where
       → WroteClauses (each (i + 1) f) old (take b mid ++ (new ++ drop (length mid - b) (drop b mid))) a (b + n)
   wrote-each-tail i p q = record { words = buffer.wrote-as (words-each f (i + 1)) (buffer.wrote-each-tail F i (turns i p) (q .words)) }
 
-  pub room-each : (i n : ℕ) {old mid : List ℤ} {a b : ℕ} → WroteClauses (each i f) old mid a b → i < n → RoomFor (each n f) old a
-      → RoomFor (f i) mid b
+  pub room-each : (i n : ℕ) {old mid : List ℤ} {a b : ℕ} → WroteClauses (each i f) old mid a b → i < n → RoomFor (each n f) old a → RoomFor (f i) mid b
   room-each i n p h r = record { words = buffer.room-each F i n (turns i p) h (buffer.room-as (words-each f n) (r .words)) }
 
 -- ---- clauses of one, two and three literals, stored word by word

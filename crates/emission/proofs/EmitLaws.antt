@@ -9,7 +9,6 @@ use lib.IntN.{ℤ}
 use lib.ListN.{length, drop}
 use borrow.Author.Tests.{lt-ltb, le-ltb}
 use Rattle.model.specs.declared.Model.{Model}
-use Rattle.model.specs.Automaton.{variables}
 use Rattle.model.specs.Form.{wellFormed}
 use Rattle.list.specs.Clauses.{clauses, words, wordsOf}
 use Rattle.counts.specs.declared.ListCounts.{ListCounts}
@@ -28,8 +27,7 @@ unfolding words
 size-words m k = refl
 
 -- what is left where the list was written from the start
-written : (m : Model) (k : ℕ) (old new : List ℤ) (end : ℕ) → WroteClauses (clauses m k) old new 0 end
-    → new ≡ words m k ++ drop (length (words m k)) old
+written : (m : Model) (k : ℕ) (old new : List ℤ) (end : ℕ) → WroteClauses (clauses m k) old new 0 end → new ≡ words m k ++ drop (length (words m k)) old
 unfolding words
 written m k old new end w =
     let q : end ≡ length (words m k) = w .words .ends ∙ omega (arith, size-words m k) in
@@ -66,6 +64,5 @@ module _ (m : Model) (k room : ℕ) (old : List ℤ) where
     list-room g = record { words = record { room = omega (arith, c .words, size-words m k) } }
 
 -- a room under another name
-pub room-is : (m : Model) (k : ℕ) {r room : ℕ} {old new : List ℤ} {told : EmitReport} → r ≡ room → Emitted m k r old new told
-    → Emitted m k room old new told
+pub room-is : (m : Model) (k : ℕ) {r room : ℕ} {old new : List ℤ} {told : EmitReport} → r ≡ room → Emitted m k r old new told → Emitted m k room old new told
 room-is m k e h = rw e at h

@@ -81,8 +81,7 @@ module _ {b : GroupTable} {first size : List ℕ} (l : Lent b first size) (o : �
     pub reset-is : u ≡ Reset → resetPart b o i u ≡ setBy first size (nextAt b o) (1 + b .vars + i) (Set 0)
     reset-is e = ap (resetPart b o i) e ∙ set-lent l o (1 + b .vars + i) (Set 0)
 
-    pub reset-clause : (x : ℕ) → u ≡ Reset
-        → partClauses x (resetPart b o i u) ≡ one (negated x ∷ bare (nextAt b o + getD first (1 + b .vars + i) 0) ∷ [])
+    pub reset-clause : (x : ℕ) → u ≡ Reset → partClauses x (resetPart b o i u) ≡ one (negated x ∷ bare (nextAt b o + getD first (1 + b .vars + i) 0) ∷ [])
     reset-clause x e =
         let z : nextAt b o + getD first (1 + b .vars + i) 0 + 0 ≡ nextAt b o + getD first (1 + b .vars + i) 0 = omega arith in
         ap (partClauses x) (reset-is e) ∙ set-is x _ _ (Set 0) ∙ ap (λ (n : ℕ). one (negated x ∷ bare n ∷ [])) z

@@ -27,7 +27,7 @@ use Rattle.parts.proofs.NumberingLaws.{block-at, variable-number, block-most}
 use Rattle.parts.proofs.PartFits.{locations-in}
 use Rattle.parts.proofs.KnownLaws.{wf, known-vars, known-state, known-top, known-locations, location-size}
 use Rattle.parts.proofs.KnownLaws.{atom-in, update-in, invariant-fits, edge-fits-of, edge-piece-of, state-piece-of, step-piece-of}
-use Rattle.emission.specs.Writable.{Lent, AtomFits, InvariantsFit, EdgeFits}
+use Rattle.emission.specs.Writable.{Lent, InvariantsFit, EdgeFits}
 
 -- the target's number is one more than its variable
 pub end-is : (m : Model) (k n : ℕ) → n ≡ variableNumber m k (m .target) → clausesOf (endItems oneHotWidth m k) ≡ one (bare (n - 1) ∷ [])
@@ -124,7 +124,6 @@ module _ {m : Model} {b : GroupTable} (k : Known m b) where
       nine : (f : GroupTable → List ℕ) → length (f (groupTable m)) ≡ 9 → length (f b) ≡ 9
       nine f h = subst (λ (x : GroupTable). length (f x) ≡ 9) (sym (k .is)) h
 
-pub clauses-are : (m : Model) (n : ℕ)
-    → clauses m n ≡ clausesOf (startItems oneHotWidth m) ++ each n (stepClauses m) ++ clausesOf (endItems oneHotWidth m n)
+pub clauses-are : (m : Model) (n : ℕ) → clauses m n ≡ clausesOf (startItems oneHotWidth m) ++ each n (stepClauses m) ++ clausesOf (endItems oneHotWidth m n)
 unfolding stepClauses
 clauses-are m n = clauses-pieces m n

@@ -45,6 +45,5 @@ pub one-wrote : (c : Clause) {old mid new : List ℤ} {a b e : ℕ} → Wrote (m
 one-wrote c p q = record { words = buffer.wrote-as (one-words c) (buffer.wrote-then p q) }
 
 -- one word of a local is stored
-pub wrote-word : {w : ℤ} (l : List ℤ) (at : ℕ) (x : ℤ) → x ≡ w → SFits w32 x → at < length l
-    → Wrote (w ∷ []) l (set l at (toZ w32 (ofZ w32 x))) at (at + 1)
+pub wrote-word : {w : ℤ} (l : List ℤ) (at : ℕ) (x : ℤ) → x ≡ w → SFits w32 x → at < length l → Wrote (w ∷ []) l (set l at (toZ w32 (ofZ w32 x))) at (at + 1)
 wrote-word l at x e f h = rw (toZ-ofZ w32 x f, e) (buffer.wrote-one l at _ h)

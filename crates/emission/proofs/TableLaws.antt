@@ -1,5 +1,5 @@
 -- What is written by the lent slices of the table, and that it is what is asked by the table.
-use mathlib.Core.Path.{_≡_, refl, sym, ap, ap₂, subst, _∙_}
+use mathlib.Core.Path.{_≡_, refl, sym, ap, ap₂, subst}
 use mathlib.Core.Bool.{Bool, true, false, cond}
 use mathlib.Core.List.{List, [], _∷_}
 use Prim.Native.Nat.{ℕ, _+_, _-_, _≤_, _<_}
@@ -8,7 +8,6 @@ use lib.Dec.{eqb, ltb}
 use lib.ListN.{getD}
 use Rattle.model.specs.declared.Model.{Model}
 use Rattle.model.specs.declared.Relation.{Relation}
-use Rattle.model.specs.declared.Update.{Update}
 use Rattle.model.specs.Indexed.{each}
 use Rattle.model.specs.Record.{blankCounter}
 use Rattle.model.specs.Automaton.{loc, counter, clock, initialValue}

@@ -1,7 +1,7 @@
 -- The pieces of an edge by kind: source, target, guard atoms, counters, clocks.
 use mathlib.Core.Path.{_≡_, ap, ap₂, _∙_}
 use mathlib.Core.List.{List, [], _∷_, _++_}
-use Prim.Native.Nat.{ℕ, _+_, _-_, _≤_, _<_}
+use Prim.Native.Nat.{ℕ, _+_, _-_, _≤_}
 use native.Mathlib.Omega.{arith}
 use Rattle.model.specs.declared.Edge.{Edge}
 use Rattle.model.specs.Indexed.{each}

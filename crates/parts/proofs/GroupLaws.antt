@@ -12,7 +12,7 @@ use lib.ListN.{List·getD-eq-default}
 use Rattle.model.specs.declared.Model.{Model}
 use Rattle.model.specs.Indexed.{each, listBelow, sumBelow}
 use Rattle.model.specs.Record.{counterAt}
-use Rattle.model.specs.Automaton.{ceiling, Component, loc, counter, clock, groupSize, stateSize, choices}
+use Rattle.model.specs.Automaton.{ceiling, Component, loc, counter, clock, groupSize, stateSize}
 use Rattle.model.proofs.IndexedLaws.{lt-or-le, getD-list, length-list, sum-none, sum-more, sum-mono, sum-below, each-zero}
 use Rattle.model.proofs.FormLaws.{WellFormed, stateSize-is, stateSize-le, choices-le}
 use Rattle.list.specs.Items.{offset, overComponents}
@@ -99,7 +99,9 @@ module _ (m : Model) where
   -- a group begins after all that come before it
   pub begins-is : (g : ℕ) → sumBelow many g ≡ beginning g
   begins-is zero = sum-none many
-  begins-is (suc g) = ap (sumBelow many) (suc-eq-add-one g) ∙ sum-more many g ∙ ap (λ (n : ℕ). n + many g) (begins-is g) ∙ sym (begins-next g) ∙ ap beginning (sym (suc-eq-add-one g))
+  begins-is (suc g) =
+      ap (sumBelow many) (suc-eq-add-one g) ∙ sum-more many g ∙ ap (λ (n : ℕ). n + many g) (begins-is g) ∙ sym (begins-next g)
+      ∙ ap beginning (sym (suc-eq-add-one g))
 
   pub block-is : stateSize m ≡ sumBelow many (1 + m .vars + m .clocks)
   block-is = stateSize-is m ∙ sym (at-clock (m .clocks)) ∙ sym (begins-is (1 + m .vars + m .clocks))
@@ -112,7 +114,8 @@ module _ (m : Model) where
     pub many-le : (g : ℕ) → many g ≤ 32
     many-le g = group-cases (m .vars) g
         (λ e. subst (λ (k : ℕ). many k ≤ 32) (sym e) (omega (arith, ok .locations-le)))
-        (λ i l e. subst (λ (k : ℕ). many k ≤ 32) (sym e) (subst (λ (x : Component). groupSize m x ≤ 32) (sym (comp-counter i l)) (omega (arith, ok .greatest-le i l))))
+        (λ i l e. subst (λ (k : ℕ). many k ≤ 32) (sym e)
+        (subst (λ (x : Component). groupSize m x ≤ 32) (sym (comp-counter i l)) (omega (arith, ok .greatest-le i l))))
         (λ i e. subst (λ (k : ℕ). many k ≤ 32) (sym e) (subst (λ (x : Component). groupSize m x ≤ 32) (sym (comp-clock i)) (omega (arith, ok .ceiling-le))))
 
     pub beginning-le : (g : ℕ) → beginning g ≤ g * 32

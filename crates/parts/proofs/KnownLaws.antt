@@ -6,7 +6,7 @@ use Prim.Native.Nat.{ℕ, zero, suc, _+_, _-_, _*_, _≤_, _<_}
 use native.Mathlib.Nat.{mul-le-mul-right, suc-mul}
 use native.Mathlib.Omega.{arith}
 use lib.Dec.{ltb}
-use lib.ListN.{length, getD}
+use lib.ListN.{length}
 use Rattle.model.specs.declared.Atom.{Atom}
 use Rattle.model.specs.declared.Atom.the-variants.{Blank, OnClock, OnCounter}
 use Rattle.model.specs.declared.Update.{Update}
@@ -17,7 +17,8 @@ use Rattle.model.specs.Record.{atomAt, invariantAt, edgeAt, counterAt}
 use Rattle.model.specs.Automaton.{ceiling, Component, loc, groupSize, initialValue, stateSize, choices, variables}
 use Rattle.model.proofs.IndexedLaws.{length-each}
 use Rattle.model.proofs.FormLaws.{WellFormed, DeclaredAtom, DeclaredUpdate, formed, choices-is, variables-is}
-use Rattle.list.specs.Items.{blockAt, nextBlock, stateWidth, choiceWidth, stateItems, edgesItems, stateMember, groupItems, initialItems, invariantOf, invariantItems, excludeFailing, choiceItems, delayItems, delaysItems, edgeOf}
+use Rattle.list.specs.Items.{blockAt, nextBlock, stateWidth, choiceWidth, stateItems, edgesItems, stateMember, groupItems, initialItems, invariantOf}
+use Rattle.list.specs.Items.{invariantItems, excludeFailing, choiceItems, delayItems, delaysItems, edgeOf}
 use Rattle.list.specs.Clauses.{Clause, oneHotWidth, groupClauses, clausesOf}
 use Rattle.list.proofs.ListLaws.{each-cong}
 use Rattle.list.proofs.OneHot.{state-width-is}
@@ -31,7 +32,8 @@ use Rattle.parts.specs.PartsOf.{atomPart, leadsPart, delayPart, edgePart
 use Rattle.parts.proofs.GroupLaws.{size-is, comp-counter, comp-clock, bounded, group-cases, block-is}
 use Rattle.parts.proofs.PartPieces.{groups-are, vars-are, top-is, state-is, choices-are, groups-law, initial-law, atom-law, delay-law, edge-law}
 use Rattle.parts.proofs.PartFits.{group-fits, group-small, locations-in, atom-fits, delay-fits, edge-fits}
-use Rattle.parts.specs.Pieces.{Known, BlockIn, StepIn, groupPiece, initialPiece, atomPiece, locationPiece, delayPiece, delayPieces, frontPiece, edgePiece, edgeClauses, stepClauses}
+use Rattle.parts.specs.Pieces.{Known, BlockIn, StepIn, groupPiece, initialPiece, atomPiece, locationPiece, delayPiece, delayPieces, frontPiece, edgePiece}
+use Rattle.parts.specs.Pieces.{edgeClauses, stepClauses}
 
 -- ---- initial values by number
 module _ (m : Model) where
@@ -123,11 +125,13 @@ module _ {m : Model} {b : GroupTable} (k : Known m b) where
 
   pub groups-piece-of : (o : ℕ) → each (b .groups) (groupPiece b o) ≡ clausesOf (groupItems oneHotWidth m o)
   groups-piece-of o =
-      subst (λ (x : GroupTable). each (x .groups) (groupPiece x o) ≡ clausesOf (groupItems oneHotWidth m o)) (sym (k .is)) (groups-law m o (wf .vars-le) (wf .clocks-le))
+      subst (λ (x : GroupTable). each (x .groups) (groupPiece x o) ≡ clausesOf (groupItems oneHotWidth m o)) (sym (k .is))
+      (groups-law m o (wf .vars-le) (wf .clocks-le))
 
   pub initial-piece-of : each (b .groups) (initialPiece m b) ≡ clausesOf (initialItems oneHotWidth m)
   initial-piece-of =
-      subst (λ (x : GroupTable). each (x .groups) (initialPiece m x) ≡ clausesOf (initialItems oneHotWidth m)) (sym (k .is)) (initial-law m (wf .vars-le) (wf .clocks-le))
+      subst (λ (x : GroupTable). each (x .groups) (initialPiece m x) ≡ clausesOf (initialItems oneHotWidth m)) (sym (k .is))
+      (initial-law m (wf .vars-le) (wf .clocks-le))
 
   -- ---- invariants
   pub location-size : sizeAt b 0 ≡ m .locations
@@ -141,9 +145,11 @@ module _ {m : Model} {b : GroupTable} (k : Known m b) where
   pub location-piece-of : (o l : ℕ) → l < m .locations → locationPiece m b o l ≡ clausesOf (invariantOf oneHotWidth m o l)
   location-piece-of o l p =
       let z : o + l ≡ o + 0 + l = omega arith in
-      each-cong 4 (atomPiece b o (o + l) (invariantAt m l)) (λ j. clausesOf (excludeFailing oneHotWidth m o (stateMember oneHotWidth m o loc l ∷ []) (atomAt (invariantAt m l) j)))
+      each-cong 4 (atomPiece b o (o + l) (invariantAt m l))
+      (λ j. clausesOf (excludeFailing oneHotWidth m o (stateMember oneHotWidth m o loc l ∷ []) (atomAt (invariantAt m l) j)))
       (λ j q. ap (λ (x : ℕ). partClauses x (atomPart b o (atomAt (invariantAt m l) j))) z ∙ ap
-      (λ (x : GroupTable). partClauses (o + 0 + l) (atomPart x o (atomAt (invariantAt m l) j))) (k .is) ∙ atom-law m wf o (stateMember oneHotWidth m o loc l) (atomAt (invariantAt m l) j)
+      (λ (x : GroupTable). partClauses (o + 0 + l) (atomPart x o (atomAt (invariantAt m l) j))) (k .is)
+      ∙ atom-law m wf o (stateMember oneHotWidth m o loc l) (atomAt (invariantAt m l) j)
       (wf .invariant-ok l p j q)) ∙ sym (atoms-piece m o (stateMember oneHotWidth m o loc l ∷ []) (invariantAt m l))
 
   pub invariants-piece-of : (o : ℕ) → each (m .locations) (locationPiece m b o) ≡ clausesOf (invariantItems oneHotWidth m o)
@@ -152,7 +158,8 @@ module _ {m : Model} {b : GroupTable} (k : Known m b) where
 
   pub invariant-fits : (o n l : ℕ) → o + stateSize m ≤ n → l < m .locations → (j : ℕ) → j < 4 → Fits (atomPart b o (atomAt (invariantAt m l) j)) n
   invariant-fits o n l h p j q =
-      subst (λ (x : GroupTable). Fits (atomPart x o (atomAt (invariantAt m l) j)) n) (sym (k .is)) (atom-fits m wf o n (atomAt (invariantAt m l) j) h (wf .invariant-ok l p j q))
+      subst (λ (x : GroupTable). Fits (atomPart x o (atomAt (invariantAt m l) j)) n) (sym (k .is))
+      (atom-fits m wf o n (atomAt (invariantAt m l) j) h (wf .invariant-ok l p j q))
 
   pub known-locations : m .locations ≤ stateSize m
   known-locations = locations-in m wf
@@ -174,17 +181,20 @@ module _ {m : Model} {b : GroupTable} (k : Known m b) where
     where
       choice : groupClauses (o + b .state) (b .choices) ≡ clausesOf (choiceItems oneHotWidth m o)
       choice =
-          ap (λ (s : ℕ). groupClauses (o + s) (b .choices)) (known-state ∙ sym (state-width-is m)) ∙ ap (groupClauses (o + stateWidth oneHotWidth m)) known-choices ∙ sym
+          ap (λ (s : ℕ). groupClauses (o + s) (b .choices)) (known-state ∙ sym (state-width-is m))
+          ∙ ap (groupClauses (o + stateWidth oneHotWidth m)) known-choices ∙ sym
           (choice-piece m o)
 
       delay : (d : ℕ) → delayPieces b o d ≡ clausesOf (delayItems oneHotWidth m o d)
       delay d =
           subst (λ (x : GroupTable). delayPieces x o d ≡ clausesOf (delayItems oneHotWidth m o d)) (sym (k .is))
-          (ap (λ (s : ℕ). each (groupTable m .groups) (λ g. partClauses (o + s + d) (delayPart (groupTable m) o d g))) (state-is m ∙ sym (state-width-is m)) ∙ delay-law m wf o d)
+          (ap (λ (s : ℕ). each (groupTable m .groups) (λ g. partClauses (o + s + d) (delayPart (groupTable m) o d g)))
+          (state-is m ∙ sym (state-width-is m)) ∙ delay-law m wf o d)
 
       delays : each (b .top + 1) (delayPieces b o) ≡ clausesOf (delaysItems oneHotWidth m o)
       delays =
-          ap (λ (n : ℕ). each (n + 1) (delayPieces b o)) known-top ∙ each-cong (ceiling m + 1) (delayPieces b o) (λ d. clausesOf (delayItems oneHotWidth m o d)) (λ d l. delay d) ∙ sym
+          ap (λ (n : ℕ). each (n + 1) (delayPieces b o)) known-top
+          ∙ each-cong (ceiling m + 1) (delayPieces b o) (λ d. clausesOf (delayItems oneHotWidth m o d)) (λ d l. delay d) ∙ sym
           (delays-piece m o)
 
   -- a delay has a clause for each member
@@ -229,7 +239,8 @@ module _ {m : Model} {b : GroupTable} (k : Known m b) where
       (subst (λ (y : GroupTable). each (y .groups + 5) (edgePiece (o + stateWidth oneHotWidth m + (ceiling m + 1 + e)) y (edgeAt m e) o)
       ≡ clausesOf (edgeOf oneHotWidth m o e)) (sym (k .is)) (edge-law m wf o (ceiling m + 1 + e) (edgeAt m e) (wf .edge-ok e l)))
 
-  pub edge-fits-of : (o n : ℕ) → o + stateSize m + choices m + stateSize m ≤ n → (e : ℕ) → e < m .used → (j : ℕ) → j < b .groups + 5 → Fits (edgePart b (edgeAt m e) o j) n
+  pub edge-fits-of :
+      (o n : ℕ) → o + stateSize m + choices m + stateSize m ≤ n → (e : ℕ) → e < m .used → (j : ℕ) → j < b .groups + 5 → Fits (edgePart b (edgeAt m e) o j) n
   edge-fits-of o n h e p j l =
       subst (λ (x : GroupTable). Fits (edgePart x (edgeAt m e) o j) n) (sym (k .is))
       (edge-fits m wf o n h (edgeAt m e) (wf .edge-ok e p) j (subst (λ (x : GroupTable). j < x .groups + 5) (k .is) l))

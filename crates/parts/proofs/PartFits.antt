@@ -49,13 +49,15 @@ module _ (m : Model) (ok : WellFormed m) where
   clock-size i l = size-is m (1 + m .vars + i) (omega (arith, ok .vars-le, ok .clocks-le)) ∙ ap (groupSize m) (comp-clock m i)
 
   module _ (o n : ℕ) where
-    exclude-fits : (g : ℕ) (relation : Relation) (constant : ℕ) → o + stateSize m ≤ n → g < 1 + m .vars + m .clocks → Fits (excludePart (groupTable m) o g relation constant) n
+    exclude-fits : (g : ℕ) (relation : Relation) (constant : ℕ) → o + stateSize m ≤ n → g < 1 + m .vars + m .clocks
+        → Fits (excludePart (groupTable m) o g relation constant) n
     exclude-fits g relation constant h l = record { size-le = group-small g l; before-in = omega (arith, group-fits g l); after-in = omega arith }
 
     pub atom-fits : (atom : Atom) → o + stateSize m ≤ n → DeclaredAtom m atom → Fits (atomPart (groupTable m) o atom) n
     atom-fits Blank h d = record { size-le = omega arith; before-in = omega arith; after-in = omega arith }
     atom-fits (OnClock x relation constant) h d =
-        subst (λ (v : ℕ). Fits (excludePart (groupTable m) o (1 + v + x) relation constant) n) (sym (vars-are m)) (exclude-fits (1 + m .vars + x) relation constant h (omega arith))
+        subst (λ (v : ℕ). Fits (excludePart (groupTable m) o (1 + v + x) relation constant) n) (sym (vars-are m))
+        (exclude-fits (1 + m .vars + x) relation constant h (omega arith))
     atom-fits (OnCounter x relation constant) h d = exclude-fits (1 + x) relation constant h (omega arith)
 
     module _ (h : o + stateSize m + choices m + stateSize m ≤ n) where
@@ -77,17 +79,28 @@ module _ (m : Model) (ok : WellFormed m) where
       update-fits i KeepIt l d = leads-fits (1 + i) (1 + i) Keep (omega arith) (omega arith) (omega arith)
       update-fits i (Constant c) l d = by (leb c (greatestAt (groupTable m) i)) refl
         where
-          by : (t : Bool) → leb c (greatestAt (groupTable m) i) ≡ t → Fits (setPart (nextAt (groupTable m) o + firstAt (groupTable m) (1 + i)) (sizeAt (groupTable m) (1 + i)) (cond t (Set c) Forbid)) n
-          by true e = set-fits _ _ (Set c) (omega (arith, leb→le c (greatestAt (groupTable m) i) (subst T (sym e) tt), greatest-is m i, counter-size i l, group-fits (1 + i) (omega arith), next-at))
+          by : (t : Bool) → leb c (greatestAt (groupTable m) i) ≡ t
+              → Fits (setPart (nextAt (groupTable m) o + firstAt (groupTable m) (1 + i)) (sizeAt (groupTable m) (1 + i)) (cond t (Set c) Forbid)) n
+          by true e =
+              set-fits _ _ (Set c) (omega (
+                arith,
+                leb→le c (greatestAt (groupTable m) i) (subst T (sym e) tt),
+                greatest-is m i,
+                counter-size i l,
+                group-fits (1 + i) (omega arith),
+                next-at,
+              ))
           by false e = set-fits _ _ Forbid (omega (arith, group-fits (1 + i) (omega arith), next-at))
-      update-fits i (Sum w z) l d = leads-fits (1 + w) (1 + i) (Shift z (greatestAt (groupTable m) i)) (omega arith) (omega arith) (omega (arith, greatest-is m i, counter-size i l))
+      update-fits i (Sum w z) l d =
+          leads-fits (1 + w) (1 + i) (Shift z (greatestAt (groupTable m) i)) (omega arith) (omega arith) (omega (arith, greatest-is m i, counter-size i l))
 
       pub reset-fits : (i : ℕ) (u : ClockUpdate) → i < m .clocks → Fits (resetPart (groupTable m) o i u) n
       reset-fits i Unchanged l =
           subst (λ (v : ℕ). Fits (leadsPart (groupTable m) o (1 + v + i) (1 + v + i) Keep) n) (sym (vars-are m))
           (leads-fits (1 + m .vars + i) (1 + m .vars + i) Keep (omega arith) (omega arith) (omega arith))
       reset-fits i Reset l =
-          subst (λ (v : ℕ). Fits (setPart (nextAt (groupTable m) o + firstAt (groupTable m) (1 + v + i)) (sizeAt (groupTable m) (1 + v + i)) (Set 0)) n) (sym (vars-are m))
+          subst (λ (v : ℕ). Fits (setPart (nextAt (groupTable m) o + firstAt (groupTable m) (1 + v + i)) (sizeAt (groupTable m) (1 + v + i)) (Set 0)) n)
+          (sym (vars-are m))
           (set-fits _ _ (Set 0) (omega (arith, clock-size i l, group-fits (1 + m .vars + i) (omega arith), next-at)))
 
       pub delay-fits : (d g : ℕ) → g < 1 + m .vars + m .clocks → Fits (delayPart (groupTable m) o d g) n

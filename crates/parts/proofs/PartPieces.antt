@@ -3,7 +3,7 @@ use mathlib.Core.Path.{_≡_, refl, sym, ap, ap₂, subst, _∙_}
 use mathlib.Core.Bool.{Bool, true, false, cond}
 use mathlib.Core.List.{List, [], _∷_, _++_, map}
 use mathlib.Core.Option.{some}
-use Prim.Native.Nat.{ℕ, _+_, _-_, _≤_, _<_}
+use Prim.Native.Nat.{ℕ, _+_, _≤_, _<_}
 use native.Mathlib.Omega.{arith}
 use borrow.Author.Tests.{lt-ltb, le-ltb}
 use lib.Dec.{leb, ltb}
@@ -22,11 +22,13 @@ use Rattle.model.specs.Automaton.{ceiling, Component, loc, counter, clock, grou
 use Rattle.model.proofs.IndexedLaws.{each-zero, each-suc}
 use Rattle.model.proofs.FormLaws.{WellFormed, WellFormedEdge, DeclaredAtom, DeclaredUpdate}
 use Rattle.list.specs.Lists.{toList}
-use Rattle.list.specs.Items.{Member, offset, nextBlock, stateWidth, choiceMember, excludeFailing, groupItems, initialItems, delayItems, updateItems, resetItems, sourceItems, targetItems, guardItems, updatesItems, resetsItems, edgeItems}
+use Rattle.list.specs.Items.{Member, offset, nextBlock, stateWidth, choiceMember, excludeFailing, groupItems, initialItems, delayItems, updateItems, resetItems}
+use Rattle.list.specs.Items.{sourceItems, targetItems, guardItems, updatesItems, resetsItems, edgeItems}
 use Rattle.list.specs.Clauses.{bare, negated, Clause, one, oneHotWidth, variableOf, groupClauses, expand, clausesOf}
 use Rattle.list.proofs.ListLaws.{each-add, each-cong, flat-none}
 use Rattle.list.proofs.OneHot.{next-block-is}
-use Rattle.list.proofs.PieceClauses.{groups-piece, initial-piece, values-piece, delay-piece, leads-piece, puts-piece, edge-piece, source-piece, target-piece, guard-piece, updates-piece, resets-piece}
+use Rattle.list.proofs.PieceClauses.{groups-piece, initial-piece, values-piece, delay-piece, leads-piece, puts-piece, edge-piece, source-piece, target-piece}
+use Rattle.list.proofs.PieceClauses.{guard-piece, updates-piece, resets-piece}
 use Rattle.parts.specs.declared.Rule.{Rule}
 use Rattle.parts.specs.declared.Rule.the-variants.{Exclude, Keep, Rise, Shift, Set, Forbid}
 use Rattle.parts.specs.Rules.{ruleClauses, rowClauses, valueClauses, partClauses}
@@ -101,19 +103,22 @@ module _ (m : Model) where
       over-groups m (λ x. groupClauses (o + at x) (groupSize m x)) ∙ sym (groups-piece m o)
 
   pub initial-law : m .vars ≤ 4 → m .clocks ≤ 4
-      → each (groupTable m .groups) (λ g. one (bare (firstAt (groupTable m) g + initialValue m (componentAt m g)) ∷ [])) ≡ clausesOf (initialItems oneHotWidth m)
+      → each (groupTable m .groups) (λ g. one (bare (firstAt (groupTable m) g + initialValue m (componentAt m g)) ∷ []))
+      ≡ clausesOf (initialItems oneHotWidth m)
   initial-law p q =
       ap (λ (n : ℕ). each n (λ g. one (bare (firstAt (groupTable m) g + initialValue m (componentAt m g)) ∷ []))) groups-are ∙
       each-cong (1 + m .vars + m .clocks) (λ g. one (bare (firstAt (groupTable m) g + initialValue m (componentAt m g)) ∷ []))
       (λ g. one (bare (0 + at (componentAt m g) + initialValue m (componentAt m g)) ∷ []))
       (λ g l. let k : g < 9 = omega arith in
-      let e : firstAt (groupTable m) g + initialValue m (componentAt m g) ≡ 0 + at (componentAt m g) + initialValue m (componentAt m g) = omega (arith, first-is m g k) in
+      let e : firstAt (groupTable m) g + initialValue m (componentAt m g) ≡ 0 + at (componentAt m g) + initialValue m (componentAt m g) = omega
+      (arith, first-is m g k) in
       ap (λ (n : ℕ). one (bare n ∷ [])) e) ∙
       over-groups m (λ x. one (bare (0 + at x + initialValue m x) ∷ [])) ∙ sym (initial-piece m)
 
   -- ---- parts of groups
   leads-is : (x o g h : ℕ) (rule : Rule) → g < 9 → h < 9
-      → partClauses x (leadsPart (groupTable m) o g h rule) ≡ rowClauses x (o + at (componentAt m g)) (after o + at (componentAt m h)) (groupSize m (componentAt m g)) rule
+      → partClauses x (leadsPart (groupTable m) o g h rule)
+      ≡ rowClauses x (o + at (componentAt m g)) (after o + at (componentAt m h)) (groupSize m (componentAt m g)) rule
   leads-is x o g h rule p q =
       let b = groupTable m in
       part-is x (o + firstAt b g) (nextAt b o + firstAt b h) (sizeAt b g) (sizeAt b h) rule ∙
@@ -121,7 +126,8 @@ module _ (m : Model) where
       ap₂ (λ (y z : ℕ). rowClauses x (o + at (componentAt m g)) (y + z) (groupSize m (componentAt m g)) rule) (next-is o) (first-is m h q)
 
   exclude-is : (x o g : ℕ) (relation : Relation) (constant : ℕ) → g < 9
-      → partClauses x (excludePart (groupTable m) o g relation constant) ≡ rowClauses x (o + at (componentAt m g)) 0 (groupSize m (componentAt m g)) (Exclude relation constant)
+      → partClauses x (excludePart (groupTable m) o g relation constant)
+      ≡ rowClauses x (o + at (componentAt m g)) 0 (groupSize m (componentAt m g)) (Exclude relation constant)
   exclude-is x o g relation constant p =
       let b = groupTable m in
       part-is x (o + firstAt b g) 0 (sizeAt b g) 0 (Exclude relation constant) ∙
@@ -148,7 +154,8 @@ module _ (m : Model) where
         exclude-from (variableOf y) o relation constant (omega (arith, ok .vars-le, ok .clocks-le)) (comp-clock m x) ∙ sym
         (values-piece m o y (clock x) relation constant)
     atom-law o y (OnCounter x relation constant) d =
-        exclude-from (variableOf y) o relation constant (omega (arith, ok .vars-le)) (comp-counter m x d) ∙ sym (values-piece m o y (counter x) relation constant)
+        exclude-from (variableOf y) o relation constant (omega (arith, ok .vars-le)) (comp-counter m x d)
+        ∙ sym (values-piece m o y (counter x) relation constant)
 
     -- ---- a delay
     delayRow : ℕ → ℕ → Component → List Clause
@@ -162,7 +169,8 @@ module _ (m : Model) where
         (λ i p e. let z : componentAt m g ≡ counter i = ap (componentAt m) e ∙ comp-counter m i p in
         rule-is Keep (lt-ltb g (1 + m .vars) (omega arith)) refl ∙ leads-from (o + S + d) o Keep k k z z ∙ sym (ap (delayRow o d) z))
         (λ i e. let z : componentAt m g ≡ clock i = ap (componentAt m) e ∙ comp-clock m i in
-        rule-is (Rise d (ceiling m)) (le-ltb g (1 + m .vars) (omega arith)) refl ∙ leads-from (o + S + d) o (Rise d (ceiling m)) k k z z ∙ sym (ap (delayRow o d) z))
+        rule-is (Rise d (ceiling m)) (le-ltb g (1 + m .vars) (omega arith)) refl ∙ leads-from (o + S + d) o (Rise d (ceiling m)) k k z z
+        ∙ sym (ap (delayRow o d) z))
       where
         k : g < 9
         k = omega (arith, ok .vars-le, ok .clocks-le)
@@ -174,13 +182,16 @@ module _ (m : Model) where
             → partClauses (o + S + d) (delayPart (groupTable m) o d g) ≡ partClauses (o + S + d) (leadsPart (groupTable m) o g g rule)
         rule-is {b} rule e f =
             ap₂ (λ (v t : ℕ). partClauses (o + S + d) (leadsPart (groupTable m) o g g (cond (ltb g (1 + v)) Keep (Rise d t)))) vars-are top-is ∙
-            ap (λ (c : Bool). partClauses (o + S + d) (leadsPart (groupTable m) o g g (pick c))) e ∙ ap (λ (r : Rule). partClauses (o + S + d) (leadsPart (groupTable m) o g g r)) f
+            ap (λ (c : Bool). partClauses (o + S + d) (leadsPart (groupTable m) o g g (pick c))) e
+            ∙ ap (λ (r : Rule). partClauses (o + S + d) (leadsPart (groupTable m) o g g r)) f
 
-    pub delay-law : (o d : ℕ) → each (groupTable m .groups) (λ g. partClauses (o + S + d) (delayPart (groupTable m) o d g)) ≡ clausesOf (delayItems oneHotWidth m o d)
+    pub delay-law :
+        (o d : ℕ) → each (groupTable m .groups) (λ g. partClauses (o + S + d) (delayPart (groupTable m) o d g)) ≡ clausesOf (delayItems oneHotWidth m o d)
     unfolding delayRow
     delay-law o d =
         ap (λ (n : ℕ). each n (λ g. partClauses (o + S + d) (delayPart (groupTable m) o d g))) groups-are ∙
-        each-cong (1 + m .vars + m .clocks) (λ g. partClauses (o + S + d) (delayPart (groupTable m) o d g)) (λ g. delayRow o d (componentAt m g)) (delay-at o d) ∙
+        each-cong (1 + m .vars + m .clocks) (λ g. partClauses (o + S + d) (delayPart (groupTable m) o d g)) (λ g. delayRow o d (componentAt m g))
+        (delay-at o d) ∙
         over-groups m (delayRow o d) ∙ sym (delay-piece m o d)
 
     -- ---- an edge
@@ -197,10 +208,12 @@ module _ (m : Model) where
         (puts-piece m o c (counter i) (inRange (counterAt m i .greatest) n))
     update-law o c i (Sum w z) l d =
         ap (λ (g : ℕ). partClauses (o + S + c) (leadsPart (groupTable m) o (1 + w) (1 + i) (Shift z g))) (greatest-is i) ∙
-        leads-from (o + S + c) o (Shift z (counterAt m i .greatest)) (omega (arith, ok .vars-le)) (omega (arith, ok .vars-le)) (comp-counter m w d) (comp-counter m i l) ∙ sym
+        leads-from (o + S + c) o (Shift z (counterAt m i .greatest)) (omega (arith, ok .vars-le)) (omega (arith, ok .vars-le)) (comp-counter m w d)
+        (comp-counter m i l) ∙ sym
         (leads-piece m o o c (counter w) (counter i) (shifted z (counterAt m i .greatest)))
 
-    pub reset-law : (o c i : ℕ) (u : ClockUpdate) → i < m .clocks → partClauses (o + S + c) (resetPart (groupTable m) o i u) ≡ clausesOf (resetItems oneHotWidth m o c i u)
+    pub reset-law : (o c i : ℕ) (u : ClockUpdate) → i < m .clocks
+        → partClauses (o + S + c) (resetPart (groupTable m) o i u) ≡ clausesOf (resetItems oneHotWidth m o c i u)
     reset-law o c i Unchanged l =
         let k : 1 + m .vars + i < 9 = omega (arith, ok .vars-le, ok .clocks-le) in
         ap (λ (v : ℕ). partClauses (o + S + c) (leadsPart (groupTable m) o (1 + v + i) (1 + v + i) Keep)) vars-are ∙
@@ -208,7 +221,8 @@ module _ (m : Model) where
     reset-law o c i Reset l =
         let k : 1 + m .vars + i < 9 = omega (arith, ok .vars-le, ok .clocks-le) in
         let e : nextAt (groupTable m) o + firstAt (groupTable m) (1 + groupTable m .vars + i) ≡ after o + at (clock i) =
-        ap₂ (λ (a b : ℕ). a + b) (next-is o) (ap (λ (v : ℕ). firstAt (groupTable m) (1 + v + i)) vars-are ∙ first-is m (1 + m .vars + i) k ∙ ap at (comp-clock m i)) in
+        ap₂ (λ (a b : ℕ). a + b) (next-is o)
+        (ap (λ (v : ℕ). firstAt (groupTable m) (1 + v + i)) vars-are ∙ first-is m (1 + m .vars + i) k ∙ ap at (comp-clock m i)) in
         set-is (o + S + c) _ _ _ ∙ ap (λ (z : ℕ). ruleClauses (o + S + c) 0 z 0 (Set 0)) e ∙ sym (puts-piece m o c (clock i) (some 0))
 
     module _ (o c : ℕ) (e : Edge) (w : WellFormedEdge m e) where
@@ -221,33 +235,40 @@ module _ (m : Model) where
       source-law : F 0 ≡ clausesOf (sourceItems oneHotWidth m o c e)
       source-law =
           let z : o + e .source ≡ o + at loc + e .source = omega arith in
-          ap (partClauses x) (source-part (groupTable m) e o) ∙ set-is x o _ (Set (e .source)) ∙ ap (λ (n : ℕ). one (negated x ∷ bare n ∷ [])) z ∙ sym (source-piece m o c e)
+          ap (partClauses x) (source-part (groupTable m) e o) ∙ set-is x o _ (Set (e .source)) ∙ ap (λ (n : ℕ). one (negated x ∷ bare n ∷ [])) z
+          ∙ sym (source-piece m o c e)
 
       target-law : F 1 ≡ clausesOf (targetItems oneHotWidth m o c e)
       target-law =
           let z : nextAt (groupTable m) o + e .target ≡ after o + at loc + e .target = omega (arith, next-is o) in
-          ap (partClauses x) (target-part (groupTable m) e o) ∙ set-is x (nextAt (groupTable m) o) _ (Set (e .target)) ∙ ap (λ (n : ℕ). one (negated x ∷ bare n ∷ [])) z ∙ sym
+          ap (partClauses x) (target-part (groupTable m) e o) ∙ set-is x (nextAt (groupTable m) o) _ (Set (e .target))
+          ∙ ap (λ (n : ℕ). one (negated x ∷ bare n ∷ [])) z ∙ sym
           (target-piece m o c e)
 
       guard-law : each 4 (λ k. F (2 + k)) ≡ clausesOf (guardItems oneHotWidth m o c e)
       guard-law =
           each-cong 4 (λ k. F (2 + k)) (λ k. clausesOf (excludeFailing oneHotWidth m o (choiceMember oneHotWidth m o c ∷ []) (atomAt (e .guard) k)))
-          (λ k l. ap (partClauses x) (guard-part (groupTable m) e o k l) ∙ atom-law o (choiceMember oneHotWidth m o c) (atomAt (e .guard) k) (w .guard-ok k l)) ∙ sym (guard-piece m o c e)
+          (λ k l. ap (partClauses x) (guard-part (groupTable m) e o k l) ∙ atom-law o (choiceMember oneHotWidth m o c) (atomAt (e .guard) k)
+          (w .guard-ok k l)) ∙ sym (guard-piece m o c e)
 
       updates-law : each (m .vars) (λ i. F (6 + i)) ≡ clausesOf (updatesItems oneHotWidth m o c e)
       updates-law =
           each-cong (m .vars) (λ i. F (6 + i)) (λ i. clausesOf (updateItems oneHotWidth m o c i (updateAt e i)))
-          (λ i l. ap (partClauses x) (counter-part (groupTable m) e o i (subst (λ (n : ℕ). i < n) (sym vars-are) l)) ∙ update-law o c i (updateAt e i) l (w .sets-ok i l)) ∙ sym
+          (λ i l. ap (partClauses x) (counter-part (groupTable m) e o i (subst (λ (n : ℕ). i < n) (sym vars-are) l)) ∙ update-law o c i (updateAt e i) l
+          (w .sets-ok i l)) ∙ sym
           (updates-piece m o c e)
 
       resets-law : each (m .clocks) (λ i. F (6 + m .vars + i)) ≡ clausesOf (resetsItems oneHotWidth m o c e)
       resets-law =
           each-cong (m .clocks) (λ i. F (6 + m .vars + i)) (λ i. clausesOf (resetItems oneHotWidth m o c i (resetAt e i)))
-          (λ i l. ap (λ (v : ℕ). F (6 + v + i)) (sym vars-are) ∙ ap (partClauses x) (clock-part (groupTable m) e o i) ∙ reset-law o c i (resetAt e i) l) ∙ sym (resets-piece m o c e)
+          (λ i l. ap (λ (v : ℕ). F (6 + v + i)) (sym vars-are) ∙ ap (partClauses x) (clock-part (groupTable m) e o i) ∙ reset-law o c i (resetAt e i) l)
+          ∙ sym (resets-piece m o c e)
 
       pub edge-law : each (groupTable m .groups + 5) F ≡ clausesOf (edgeItems oneHotWidth m o c e)
       edge-law =
           let n : groupTable m .groups + 5 ≡ 6 + m .vars + m .clocks = omega (arith, groups-are) in
           ap (λ (k : ℕ). each k F) n ∙ each-add (6 + m .vars) (m .clocks) F ∙
-          ap₂ (λ (l r : List Clause). l ++ r) (each-add 6 (m .vars) F ∙ ap₂ (λ (l r : List Clause). l ++ r) (each-add 2 4 F ∙ ap₂ (λ (l r : List Clause). l ++ r)
-          (each-suc 1 F ∙ ap₂ (λ (l r : List Clause). l ++ r) (each-one F ∙ source-law) target-law) guard-law) updates-law) resets-law ∙ sym (edge-piece m o c e)
+          ap₂ (λ (l r : List Clause). l ++ r)
+          (each-add 6 (m .vars) F ∙ ap₂ (λ (l r : List Clause). l ++ r) (each-add 2 4 F ∙ ap₂ (λ (l r : List Clause). l ++ r)
+          (each-suc 1 F ∙ ap₂ (λ (l r : List Clause). l ++ r) (each-one F ∙ source-law) target-law)
+          guard-law) updates-law) resets-law ∙ sym (edge-piece m o c e)

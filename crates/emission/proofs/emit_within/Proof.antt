@@ -89,16 +89,5 @@ returns-4 c =
 
 pub emit-within-spec : {M : Type 1} → statement M
 emit-within-spec =
-    tie.close
-    (tie.spec
-    smaller-requires
-    well-formed-requires
-    returns
-    returns-2
-    sizes-requires
-    group-table-requires
-    list-counts-requires
-    returns-3
-    put-list-requires
-    same-length
-    returns-4)
+    tie.close (tie.spec smaller-requires well-formed-requires returns returns-2 sizes-requires group-table-requires list-counts-requires returns-3
+    put-list-requires same-length returns-4)

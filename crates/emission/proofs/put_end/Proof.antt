@@ -10,13 +10,14 @@ cast-variable-number : tie.Need-cast-variable-number
 cast-variable-number c = search needs
 
 variable-number-requires : tie.Need-variable-number-requires
-variable-number-requires c κs = (
-  c .before .pre .0,
-  c .before .pre .1,
-  c .before .pre .2,
-  target-place (c .before .args .m) (c .before .pre .0)
-      (c .before .args .z) (c .before .pre .1),
-)
+variable-number-requires c κs =
+    let pre = c .before .pre in (
+      pre .0,
+      pre .1,
+      pre .2,
+      target-place (c .before .args .m) (pre .0)
+          (c .before .args .z) (pre .1),
+    )
 
 sub-put-unit : tie.Need-sub-put-unit
 sub-put-unit c =
@@ -39,12 +40,4 @@ returns c =
     wrote-as (end-is (start .args .m) (start .args .k) _ (at-variable-number .variable-number .ensures)) (c .before .put-unit .ensures)
 
 pub put-end-spec : {M : Type 1} → statement M
-put-end-spec =
-    tie.close
-    (tie.spec
-    cast-variable-number
-    variable-number-requires
-    sub-put-unit
-    put-unit-requires
-    same-length
-    returns)
+put-end-spec = tie.close (tie.spec cast-variable-number variable-number-requires sub-put-unit put-unit-requires same-length returns)

@@ -113,32 +113,10 @@ returns : tie.Need-returns Inv-loop μ-loop
 returns c =
     let at-before = c .before .before in
     let start = at-before .before .before .before .before .before .before .before .before .before .before in
-    wrote-as (clauses-are (start .args .m) (start .args .bound)) (wrote-tail (steps-done (c .before .before .before)) (c .before .put-end .ensures))
+    wrote-as (clauses-are (start .args .m) (start .args .bound)) (wrote-tail (steps-done (at-before .before)) (c .before .put-end .ensures))
 
 pub put-list-spec : {M : Type 1} → statement M
 put-list-spec =
-    tie.close
-    (tie.spec
-    Inv-loop
-    μ-loop
-    slice-aggregate-first
-    slice-aggregate-size
-    put-start-requires
-    loop-holds
-    mul-put-step
-    sub-put-step
-    part-put-step-start
-    part-put-step-end
-    put-step-requires
-    add-at
-    add-t
-    loop-less
-    loop-again
-    mul-put-end
-    sub-put-end
-    part-put-end-start
-    part-put-end-end
-    put-end-requires
-    add-result
-    same-length
-    returns)
+    tie.close (tie.spec Inv-loop μ-loop slice-aggregate-first slice-aggregate-size put-start-requires loop-holds mul-put-step sub-put-step part-put-step-start
+    part-put-step-end put-step-requires add-at add-t loop-less loop-again mul-put-end sub-put-end part-put-end-start part-put-end-end put-end-requires
+    add-result same-length returns)

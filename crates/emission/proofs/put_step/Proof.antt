@@ -100,14 +100,5 @@ returns c =
 
 pub put-step-spec : {M : Type 1} → statement M
 put-step-spec =
-    tie.close
-    (tie.spec
-    block-start-requires
-    add-block-start
-    block-start-requires-2
-    put-choice-requires
-    put-delays-requires
-    put-edges-requires
-    put-state-requires
-    same-length
-    returns)
+    tie.close (tie.spec block-start-requires add-block-start block-start-requires-2 put-choice-requires put-delays-requires put-edges-requires
+    put-state-requires same-length returns)

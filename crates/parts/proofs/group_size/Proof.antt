@@ -1,3 +1,4 @@
+-- `group_size`: by the group's number the locations, a counter's values or the ceiling's, as `componentAt` says.
 use Rattle.parts.proofs.GroupLaws.{size-loc, size-counter, size-clock}
 use Rattle.model.proofs.FormLaws.{formed}
 use Prim.Native.Nat.{ℕ, _+_}
@@ -32,26 +33,21 @@ add-result : tie.Need-add-result
 add-result c = search needs
 
 returns-2 : tie.Need-returns-2
-returns-2 c = (size-counter (c .before .before .before .before .args .t1) (c .before .before .before .before .args .g) (c .before .before .before .if1 .left) (c .before .before .if2 .taken), omega (arith, formed (c .before .before .before .before .args .t1) (c .before .before .before .before .pre .0) .greatest-le _ (c .before .before .if2 .taken)))
+returns-2 c =
+    let entry = c .before .before .before .before in
+    let if2-taken = c .before .before .if2 .taken in
+    let t1 = entry .args .t1 in
+    (size-counter t1 (entry .args .g) (c .before .before .before .if1 .left) if2-taken, omega (arith, formed t1 (entry .pre .0) .greatest-le _ if2-taken))
 
 add-result-2 : tie.Need-add-result-2
 add-result-2 c = search needs
 
 returns-3 : tie.Need-returns-3
-returns-3 c = (ap (λ (n : ℕ). n + 1) (c .before .before .pre .1) ∙ size-clock (c .before .before .args .t1) (c .before .before .args .g) (c .before .if1 .left) (c .if2 .left), omega (arith, formed (c .before .before .args .t1) (c .before .before .pre .0) .ceiling-le))
+returns-3 c =
+    let entry = c .before .before in
+    let pre = entry .pre in
+    let t1 = entry .args .t1 in
+    (ap (λ (n : ℕ). n + 1) (pre .1) ∙ size-clock t1 (entry .args .g) (c .before .if1 .left) (c .if2 .left), omega (arith, formed t1 (pre .0) .ceiling-le))
 
 pub group-size-spec : {M : Type 1} → statement M
-group-size-spec =
-    tie.close
-    (tie.spec
-    cast-result
-    returns
-    sub-i
-    cast-if2
-    mul-c
-    element-copy-out-c
-    cast-result-2
-    add-result
-    returns-2
-    add-result-2
-    returns-3)
+group-size-spec = tie.close (tie.spec cast-result returns sub-i cast-if2 mul-c element-copy-out-c cast-result-2 add-result returns-2 add-result-2 returns-3)

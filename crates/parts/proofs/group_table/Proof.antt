@@ -117,26 +117,5 @@ returns c =
 
 pub group-table-spec : {M : Type 1} → statement M
 group-table-spec =
-    tie.close
-    (tie.spec
-    Inv-loop
-    μ-loop
-    cast-top
-    loop-holds
-    group-size-requires
-    cast-first
-    mul-first
-    array-write-first
-    cast-size
-    mul-size
-    array-write-size
-    add-sum
-    add-g
-    loop-less
-    loop-again
-    cast-t17
-    add-t18
-    cast-t19
-    add-t20
-    cast-t23
-    returns)
+    tie.close (tie.spec Inv-loop μ-loop cast-top loop-holds group-size-requires cast-first mul-first array-write-first cast-size mul-size array-write-size
+    add-sum add-g loop-less loop-again cast-t17 add-t18 cast-t19 add-t20 cast-t23 returns)

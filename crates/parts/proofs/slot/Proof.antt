@@ -1,3 +1,4 @@
+-- `slot`: the element where the index is in the array, else the default 0.
 use native.Mathlib.Omega.{arith}
 use lib.ListN.{List·getD-eq-default}
 use mathlib.Core.Path.{sym}

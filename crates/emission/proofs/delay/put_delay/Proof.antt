@@ -57,17 +57,4 @@ returns c =
     rw done at (c .before .loop .inv .1)
 
 pub put-delay-spec : {M : Type 1} → statement M
-put-delay-spec =
-    tie.close
-    (tie.spec
-    Inv-loop
-    μ-loop
-    add-x
-    add-x-2
-    loop-holds
-    put-delay-group-requires
-    add-g
-    loop-less
-    loop-again
-    same-length
-    returns)
+put-delay-spec = tie.close (tie.spec Inv-loop μ-loop add-x add-x-2 loop-holds put-delay-group-requires add-g loop-less loop-again same-length returns)

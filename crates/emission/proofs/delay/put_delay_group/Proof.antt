@@ -87,23 +87,5 @@ returns-2 c =
 
 pub put-delay-group-spec : {M : Type 1} → statement M
 put-delay-group-spec =
-    tie.close
-    (tie.spec
-    mul-place
-    shared-slice-read-place
-    cast-place
-    mul-n
-    shared-slice-read-n
-    cast-n
-    add-before
-    add-after
-    add-after-2
-    add-after-3
-    add-if1
-    put-kept-requires
-    same-length
-    returns
-    cast-put-raised
-    put-raised-requires
-    same-length-2
-    returns-2)
+    tie.close (tie.spec mul-place shared-slice-read-place cast-place mul-n shared-slice-read-n cast-n add-before add-after add-after-2 add-after-3 add-if1
+    put-kept-requires same-length returns cast-put-raised put-raised-requires same-length-2 returns-2)

@@ -48,17 +48,4 @@ returns c =
     rw done at (c .before .loop .inv .1)
 
 pub put-delays-spec : {M : Type 1} → statement M
-put-delays-spec =
-    tie.close
-    (tie.spec
-    Inv-loop
-    μ-loop
-    cast-d-end
-    add-d-end
-    loop-holds
-    put-delay-requires
-    add-d
-    loop-less
-    loop-again
-    same-length
-    returns)
+put-delays-spec = tie.close (tie.spec Inv-loop μ-loop cast-d-end add-d-end loop-holds put-delay-requires add-d loop-less loop-again same-length returns)

@@ -11,18 +11,23 @@ add-next : tie.Need-add-next
 add-next c = omega (arith, target-in (c .before .before .before .pre .2) (c .before .before .before .pre .3))
 
 add-next-2 : tie.Need-add-next-2
-add-next-2 c = omega (arith, target-in (c .before .before .before .before .pre .2) (c .before .before .before .before .pre .3))
+add-next-2 c =
+    let pre = c .before .before .before .before .pre in
+    omega (arith, target-in (pre .2) (pre .3))
 
 cast-put-implication : tie.Need-cast-put-implication
 cast-put-implication c = search needs
 
 add-put-implication : tie.Need-add-put-implication
-add-put-implication c = omega (arith, source-in (c .before .before .before .before .before .pre .2) (c .before .before .before .before .before .pre .3))
+add-put-implication c =
+    let pre = c .before .before .before .before .before .pre in
+    omega (arith, source-in (pre .2) (pre .3))
 
 put-implication-requires : tie.Need-put-implication-requires
 put-implication-requires c κs =
-    let a = c .before .before .before .before .before .before .args in
-    let p = c .before .before .before .before .before .before .pre in (
+    let entry = c .before .before .before .before .before .before in
+    let a = entry .args in
+    let p = entry .pre in (
       omega arith,
       source-in (p .2) (p .3),
       room-first _ (room-first _ (room-first _ (room-first _ (room-as (edge-kinds (a .b) (a .x) (a .o) (a .e) (p .2 .vars-in)) (p .4))))),
@@ -38,8 +43,9 @@ add-put-implication-2 c =
 
 put-implication-requires-2 : tie.Need-put-implication-requires-2
 put-implication-requires-2 c κs =
-    let a = c .before .before .before .before .before .before .before .before .before .before .args in
-    let p = c .before .before .before .before .before .before .before .before .before .before .pre in (
+    let entry = c .before .before .before .before .before .before .before .before .before .before in
+    let a = entry .args in
+    let p = entry .pre in (
       omega arith,
       target-in (p .2) (p .3),
       room-then (c .before .before .before .put-implication .ensures)
@@ -111,18 +117,5 @@ returns c =
 
 pub put-edge-spec : {M : Type 1} → statement M
 put-edge-spec =
-    tie.close
-    (tie.spec
-    add-next
-    add-next-2
-    cast-put-implication
-    add-put-implication
-    put-implication-requires
-    cast-put-implication-2
-    add-put-implication-2
-    put-implication-requires-2
-    put-atoms-requires
-    put-updates-requires
-    put-resets-requires
-    same-length
-    returns)
+    tie.close (tie.spec add-next add-next-2 cast-put-implication add-put-implication put-implication-requires cast-put-implication-2 add-put-implication-2
+    put-implication-requires-2 put-atoms-requires put-updates-requires put-resets-requires same-length returns)

@@ -91,22 +91,5 @@ returns c =
 
 pub put-edges-spec : {M : Type 1} → statement M
 put-edges-spec =
-    tie.close
-    (tie.spec
-    Inv-loop
-    μ-loop
-    add-start
-    cast-start
-    add-start-2
-    add-start-3
-    cast-e-end
-    loop-holds
-    mul-edge
-    array-copy-out-edge
-    add-put-edge
-    put-edge-requires
-    add-e
-    loop-less
-    loop-again
-    same-length
-    returns)
+    tie.close (tie.spec Inv-loop μ-loop add-start cast-start add-start-2 add-start-3 cast-e-end loop-holds mul-edge array-copy-out-edge add-put-edge
+    put-edge-requires add-e loop-less loop-again same-length returns)

@@ -103,25 +103,5 @@ returns-2 c =
 
 pub put-reset-spec : {M : Type 1} → statement M
 put-reset-spec =
-    tie.close
-    (tie.spec
-    add-g
-    add-g-2
-    mul-place
-    shared-slice-read-place
-    cast-place
-    add-after
-    add-after-2
-    add-after-3
-    enum-told
-    add-put-kept
-    mul-put-kept
-    shared-slice-read-put-kept
-    cast-put-kept
-    put-kept-requires
-    enum-told-2
-    put-implication-requires
-    same-length
-    returns
-    same-length-2
-    returns-2)
+    tie.close (tie.spec add-g add-g-2 mul-place shared-slice-read-place cast-place add-after add-after-2 add-after-3 enum-told add-put-kept mul-put-kept
+    shared-slice-read-put-kept cast-put-kept put-kept-requires enum-told-2 put-implication-requires same-length returns same-length-2 returns-2)

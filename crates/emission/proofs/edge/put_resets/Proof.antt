@@ -67,17 +67,4 @@ returns c =
 
 pub put-resets-spec : {M : Type 1} → statement M
 put-resets-spec =
-    tie.close
-    (tie.spec
-    Inv-loop
-    μ-loop
-    add-i-end
-    sub-i-end
-    loop-holds
-    array-copy-out-s
-    put-reset-requires
-    add-i
-    loop-less
-    loop-again
-    same-length
-    returns)
+    tie.close (tie.spec Inv-loop μ-loop add-i-end sub-i-end loop-holds array-copy-out-s put-reset-requires add-i loop-less loop-again same-length returns)

@@ -182,37 +182,7 @@ returns-3 c =
 
 pub put-update-spec : {M : Type 1} → statement M
 put-update-spec =
-    tie.close
-    (tie.spec
-    add-g
-    mul-place
-    shared-slice-read-place
-    cast-place
-    add-after
-    add-after-2
-    add-after-3
-    enum-told
-    add-put-kept
-    mul-put-kept
-    shared-slice-read-put-kept
-    cast-put-kept
-    put-kept-requires
-    enum-known-update
-    put-constant-requires
-    enum-known-update-2
-    cast-w
-    add-w
-    mul-before
-    shared-slice-read-before
-    cast-before
-    add-before
-    mul-put-shifted
-    shared-slice-read-put-shifted
-    cast-put-shifted
-    put-shifted-requires
-    same-length
-    returns
-    same-length-2
-    returns-2
-    same-length-3
-    returns-3)
+    tie.close (tie.spec add-g mul-place shared-slice-read-place cast-place add-after add-after-2 add-after-3 enum-told add-put-kept mul-put-kept
+    shared-slice-read-put-kept cast-put-kept put-kept-requires enum-known-update put-constant-requires enum-known-update-2 cast-w add-w mul-before
+    shared-slice-read-before cast-before add-before mul-put-shifted shared-slice-read-put-shifted cast-put-shifted put-shifted-requires same-length returns
+    same-length-2 returns-2 same-length-3 returns-3)

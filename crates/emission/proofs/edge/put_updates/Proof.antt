@@ -67,18 +67,5 @@ returns c =
 
 pub put-updates-spec : {M : Type 1} → statement M
 put-updates-spec =
-    tie.close
-    (tie.spec
-    Inv-loop
-    μ-loop
-    loop-holds
-    mul-s
-    array-copy-out-s
-    mul-c
-    array-copy-out-c
-    put-update-requires
-    add-i
-    loop-less
-    loop-again
-    same-length
+    tie.close (tie.spec Inv-loop μ-loop loop-holds mul-s array-copy-out-s mul-c array-copy-out-c put-update-requires add-i loop-less loop-again same-length
     returns)

@@ -7,11 +7,13 @@ use Rattle.emission.proofs.rules.put_constant.Statement.{statement}
 use Rattle.emission.proofs.rules.put_constant.Tie as tie
 
 add-put-implication : tie.Need-add-put-implication
-add-put-implication c = omega (
-  arith,
-  constant-reach (c .before .args .x) (c .before .args .after) (c .before .args .n) (c .before .args .greatest)
-      (c .if1 .taken),
-)
+add-put-implication c =
+    let args = c .before .args in
+    omega (
+      arith,
+      constant-reach (args .x) (args .after) (args .n) (args .greatest)
+          (c .if1 .taken),
+    )
 
 put-implication-requires : tie.Need-put-implication-requires
 put-implication-requires c κs =
@@ -43,13 +45,4 @@ returns-2 c =
     wrote-as (constant-out (a .x) (a .after) (a .n) (a .greatest) (c .before .before .before .if1 .left)) (c .before .put-negated-unit .ensures)
 
 pub put-constant-spec : {M : Type 1} → statement M
-put-constant-spec =
-    tie.close
-    (tie.spec
-    add-put-implication
-    put-implication-requires
-    same-length
-    returns
-    put-negated-unit-requires
-    same-length-2
-    returns-2)
+put-constant-spec = tie.close (tie.spec add-put-implication put-implication-requires same-length returns put-negated-unit-requires same-length-2 returns-2)

@@ -47,15 +47,4 @@ returns c =
 
 pub put-excluded-spec : {M : Type 1} → statement M
 put-excluded-spec =
-    tie.close
-    (tie.spec
-    Inv-loop
-    μ-loop
-    loop-holds
-    add-put-excluded-value
-    put-excluded-value-requires
-    add-v
-    loop-less
-    loop-again
-    same-length
-    returns)
+    tie.close (tie.spec Inv-loop μ-loop loop-holds add-put-excluded-value put-excluded-value-requires add-v loop-less loop-again same-length returns)

@@ -50,16 +50,5 @@ returns c =
 
 pub put-kept-spec : {M : Type 1} → statement M
 put-kept-spec =
-    tie.close
-    (tie.spec
-    Inv-loop
-    μ-loop
-    loop-holds
-    add-put-joint-implication
-    add-put-joint-implication-2
-    put-joint-implication-requires
-    add-v
-    loop-less
-    loop-again
-    same-length
-    returns)
+    tie.close (tie.spec Inv-loop μ-loop loop-holds add-put-joint-implication add-put-joint-implication-2 put-joint-implication-requires add-v loop-less
+    loop-again same-length returns)

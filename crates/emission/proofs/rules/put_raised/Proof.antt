@@ -35,12 +35,13 @@ add-put-joint-implication-2 c = omega (arith, c .smaller .ensures)
 put-joint-implication-requires : tie.Need-put-joint-implication-requires Inv-loop μ-loop
 put-joint-implication-requires c κs =
     let at-loop-test = c .before .before in
+    let smaller-ensures = c .before .smaller .ensures in
     let turn = at-loop-test .before in
     let start = turn .before in (
       omega arith,
       omega arith,
-      omega (arith, c .before .smaller .ensures),
-      room-as (joint-is _ _ _ _ _ (sym (c .before .smaller .ensures))) (room-each _ _ _ (turn .loop .inv .1) (at-loop-test .loop-test .taken) (start .pre .4)),
+      omega (arith, smaller-ensures),
+      room-as (joint-is _ _ _ _ _ (sym smaller-ensures)) (room-each _ _ _ (turn .loop .inv .1) (at-loop-test .loop-test .taken) (start .pre .4)),
     )
 
 add-v : tie.Need-add-v Inv-loop μ-loop
@@ -68,18 +69,5 @@ returns c =
 
 pub put-raised-spec : {M : Type 1} → statement M
 put-raised-spec =
-    tie.close
-    (tie.spec
-    Inv-loop
-    μ-loop
-    loop-holds
-    add-put-joint-implication
-    add-smaller
-    smaller-requires
-    add-put-joint-implication-2
-    put-joint-implication-requires
-    add-v
-    loop-less
-    loop-again
-    same-length
-    returns)
+    tie.close (tie.spec Inv-loop μ-loop loop-holds add-put-joint-implication add-smaller smaller-requires add-put-joint-implication-2
+    put-joint-implication-requires add-v loop-less loop-again same-length returns)

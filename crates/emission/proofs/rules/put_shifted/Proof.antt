@@ -31,7 +31,7 @@ add-put-shifted-value c = search needs
 put-shifted-value-requires : tie.Need-put-shifted-value-requires Inv-loop μ-loop
 put-shifted-value-requires c κs =
     let a = c .before .before .before .args in
-    let back : toZ w8 (ofZ w8 (c .before .before .before .args .offset)) ≡ c .before .before .before .args .offset = search needs in
+    let back : toZ w8 (ofZ w8 (a .offset)) ≡ a .offset = search needs in
     let row : ℤ → List Clause = λ z. rowClauses (a .x) (a .before) (a .after) (a .n) (Shift z (a .greatest)) in (
       omega arith,
       omega arith,
@@ -55,22 +55,11 @@ same-length c = search needs
 returns : tie.Need-returns Inv-loop μ-loop
 returns c =
     let a = c .before .before .args in
-    let done : c .before .loop .v ≡ c .before .before .args .n = omega arith in
-    let back : toZ w8 (ofZ w8 (c .before .before .args .offset)) ≡ c .before .before .args .offset = search needs in
+    let done : c .before .loop .v ≡ a .n = omega arith in
+    let back : toZ w8 (ofZ w8 (a .offset)) ≡ a .offset = search needs in
     let row : ℤ → List Clause = λ z. rowClauses (a .x) (a .before) (a .after) (a .n) (Shift z (a .greatest)) in
     wrote-as (ap row (sym back)) (rw done at (c .before .loop .inv .1))
 
 pub put-shifted-spec : {M : Type 1} → statement M
 put-shifted-spec =
-    tie.close
-    (tie.spec
-    Inv-loop
-    μ-loop
-    loop-holds
-    add-put-shifted-value
-    put-shifted-value-requires
-    add-v
-    loop-less
-    loop-again
-    same-length
-    returns)
+    tie.close (tie.spec Inv-loop μ-loop loop-holds add-put-shifted-value put-shifted-value-requires add-v loop-less loop-again same-length returns)

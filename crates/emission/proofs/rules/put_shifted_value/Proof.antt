@@ -85,17 +85,5 @@ returns-2 c =
 
 pub put-shifted-value-spec : {M : Type 1} → statement M
 put-shifted-value-spec =
-    tie.close
-    (tie.spec
-    cast-shift
-    shift-requires
-    enum-told
-    put-exclusion-requires
-    enum-known-new
-    cast-put-joint-implication
-    add-put-joint-implication
-    put-joint-implication-requires
-    same-length
-    returns
-    same-length-2
-    returns-2)
+    tie.close (tie.spec cast-shift shift-requires enum-told put-exclusion-requires enum-known-new cast-put-joint-implication add-put-joint-implication
+    put-joint-implication-requires same-length returns same-length-2 returns-2)

@@ -96,19 +96,5 @@ returns c =
 
 pub put-initial-spec : {M : Type 1} → statement M
 put-initial-spec =
-    tie.close
-    (tie.spec
-    Inv-loop
-    μ-loop
-    loop-holds
-    initial-value-requires
-    mul-put-unit
-    shared-slice-read-put-unit
-    cast-put-unit
-    add-put-unit
-    put-unit-requires
-    add-g
-    loop-less
-    loop-again
-    same-length
-    returns)
+    tie.close (tie.spec Inv-loop μ-loop loop-holds initial-value-requires mul-put-unit shared-slice-read-put-unit cast-put-unit add-put-unit put-unit-requires
+    add-g loop-less loop-again same-length returns)

@@ -155,34 +155,6 @@ returns-3 c =
 
 pub put-atom-spec : {M : Type 1} → statement M
 put-atom-spec =
-    tie.close
-    (tie.spec
-    enum-told
-    enum-known-atom
-    add-g
-    cast-g
-    add-g-2
-    mul-before
-    shared-slice-read-before
-    cast-before
-    add-before
-    mul-put-excluded
-    shared-slice-read-put-excluded
-    cast-put-excluded
-    put-excluded-requires
-    enum-known-atom-2
-    cast-h
-    add-h
-    mul-start
-    shared-slice-read-start
-    cast-start
-    add-start
-    mul-put-excluded-2
-    shared-slice-read-put-excluded-2
-    cast-put-excluded-2
-    put-excluded-requires-2
-    returns
-    same-length
-    returns-2
-    same-length-2
-    returns-3)
+    tie.close (tie.spec enum-told enum-known-atom add-g cast-g add-g-2 mul-before shared-slice-read-before cast-before add-before mul-put-excluded
+    shared-slice-read-put-excluded cast-put-excluded put-excluded-requires enum-known-atom-2 cast-h add-h mul-start shared-slice-read-start cast-start add-start
+    mul-put-excluded-2 shared-slice-read-put-excluded-2 cast-put-excluded-2 put-excluded-requires-2 returns same-length returns-2 same-length-2 returns-3)

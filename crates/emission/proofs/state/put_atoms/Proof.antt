@@ -55,17 +55,4 @@ returns c =
     rw done at (c .before .loop .inv .1)
 
 pub put-atoms-spec : {M : Type 1} → statement M
-put-atoms-spec =
-    tie.close
-    (tie.spec
-    Inv-loop
-    μ-loop
-    loop-holds
-    mul-s
-    array-copy-out-s
-    put-atom-requires
-    add-k
-    loop-less
-    loop-again
-    same-length
-    returns)
+put-atoms-spec = tie.close (tie.spec Inv-loop μ-loop loop-holds mul-s array-copy-out-s put-atom-requires add-k loop-less loop-again same-length returns)

@@ -78,21 +78,5 @@ returns c =
 
 pub put-groups-spec : {M : Type 1} → statement M
 put-groups-spec =
-    tie.close
-    (tie.spec
-    Inv-loop
-    μ-loop
-    loop-holds
-    mul-put-group
-    shared-slice-read-put-group
-    cast-put-group
-    add-put-group
-    mul-put-group-2
-    shared-slice-read-put-group-2
-    cast-put-group-2
-    put-group-requires
-    add-g
-    loop-less
-    loop-again
-    same-length
-    returns)
+    tie.close (tie.spec Inv-loop μ-loop loop-holds mul-put-group shared-slice-read-put-group cast-put-group add-put-group mul-put-group-2
+    shared-slice-read-put-group-2 cast-put-group-2 put-group-requires add-g loop-less loop-again same-length returns)

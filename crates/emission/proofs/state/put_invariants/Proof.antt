@@ -28,7 +28,9 @@ loop-holds : tie.Need-loop-holds Inv-loop μ-loop
 loop-holds c = (omega arith, wrote-each-none _ _ _ (omega (arith, c .before .before .before .pre .2 .words .room)))
 
 mul-v : tie.Need-mul-v Inv-loop μ-loop
-mul-v c = omega (arith, size-at (c .before .before .before .before .before .pre .0) 0, c .before .before .before .before .before .pre .1 .locations-le)
+mul-v c =
+    let pre = c .before .before .before .before .before .pre in
+    omega (arith, size-at (pre .0) 0, pre .1 .locations-le)
 
 array-copy-out-v : tie.Need-array-copy-out-v Inv-loop μ-loop
 array-copy-out-v c =
@@ -70,19 +72,5 @@ returns c =
 
 pub put-invariants-spec : {M : Type 1} → statement M
 put-invariants-spec =
-    tie.close
-    (tie.spec
-    Inv-loop
-    μ-loop
-    shared-slice-read-l-end
-    cast-l-end
-    loop-holds
-    mul-v
-    array-copy-out-v
-    add-put-atoms
-    put-atoms-requires
-    add-l
-    loop-less
-    loop-again
-    same-length
-    returns)
+    tie.close (tie.spec Inv-loop μ-loop shared-slice-read-l-end cast-l-end loop-holds mul-v array-copy-out-v add-put-atoms put-atoms-requires add-l loop-less
+    loop-again same-length returns)

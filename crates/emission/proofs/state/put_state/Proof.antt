@@ -5,7 +5,9 @@ use Rattle.emission.proofs.state.put_state.Statement.{statement}
 use Rattle.emission.proofs.state.put_state.Tie as tie
 
 put-groups-requires : tie.Need-put-groups-requires
-put-groups-requires c κs = (c .before .before .before .pre .0, c .before .before .before .pre .1, room-first _ (c .before .before .before .pre .3))
+put-groups-requires c κs =
+    let pre = c .before .before .before .pre in
+    (pre .0, pre .1, room-first _ (pre .3))
 
 put-invariants-requires : tie.Need-put-invariants-requires
 put-invariants-requires c κs =

@@ -54,18 +54,5 @@ returns c = clause-2 _ _ _ _ _ _ (c .before .negative .ensures) (c .negative2 .e
 
 pub put-exclusion-spec : {M : Type 1} → statement M
 put-exclusion-spec =
-    tie.close
-    (tie.spec
-    negative-requires
-    negative-requires-2
-    mul-first
-    slice-set-from-first
-    add-second
-    mul-second
-    slice-set-from-second
-    add-out
-    mul-out
-    slice-set-of-out
-    add-result
-    same-length
-    returns)
+    tie.close (tie.spec negative-requires negative-requires-2 mul-first slice-set-from-first add-second mul-second slice-set-from-second add-out mul-out
+    slice-set-of-out add-result same-length returns)

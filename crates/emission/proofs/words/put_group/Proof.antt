@@ -55,16 +55,4 @@ returns c =
     wrote-then (c .before .before .before .put-members .ensures) (rw done at (c .before .loop .inv .1))
 
 pub put-group-spec : {M : Type 1} → statement M
-put-group-spec =
-    tie.close
-    (tie.spec
-    Inv-loop
-    μ-loop
-    put-members-requires
-    loop-holds
-    put-pairs-of-requires
-    add-i
-    loop-less
-    loop-again
-    same-length
-    returns)
+put-group-spec = tie.close (tie.spec Inv-loop μ-loop put-members-requires loop-holds put-pairs-of-requires add-i loop-less loop-again same-length returns)

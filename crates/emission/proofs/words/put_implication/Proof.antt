@@ -54,18 +54,5 @@ returns c = clause-2 _ _ _ _ _ _ (c .before .negative .ensures) (c .positive .en
 
 pub put-implication-spec : {M : Type 1} → statement M
 put-implication-spec =
-    tie.close
-    (tie.spec
-    negative-requires
-    positive-requires
-    mul-x
-    slice-set-from-x
-    add-y
-    mul-y
-    slice-set-from-y
-    add-out
-    mul-out
-    slice-set-of-out
-    add-result
-    same-length
-    returns)
+    tie.close (tie.spec negative-requires positive-requires mul-x slice-set-from-x add-y mul-y slice-set-from-y add-out mul-out slice-set-of-out add-result
+    same-length returns)

@@ -70,22 +70,5 @@ returns c =
 
 pub put-joint-implication-spec : {M : Type 1} → statement M
 put-joint-implication-spec =
-    tie.close
-    (tie.spec
-    negative-requires
-    negative-requires-2
-    positive-requires
-    mul-x
-    slice-set-from-x
-    add-y
-    mul-y
-    slice-set-from-y
-    add-z
-    mul-z
-    slice-set-from-z
-    add-out
-    mul-out
-    slice-set-of-out
-    add-result
-    same-length
-    returns)
+    tie.close (tie.spec negative-requires negative-requires-2 positive-requires mul-x slice-set-from-x add-y mul-y slice-set-from-y add-z mul-z slice-set-from-z
+    add-out mul-out slice-set-of-out add-result same-length returns)

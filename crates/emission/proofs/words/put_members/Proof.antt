@@ -76,21 +76,5 @@ returns c =
 
 pub put-members-spec : {M : Type 1} → statement M
 put-members-spec =
-    tie.close
-    (tie.spec
-    Inv-loop
-    μ-loop
-    loop-holds
-    add-positive
-    positive-requires
-    mul-w
-    slice-set-from-w
-    add-end
-    add-v
-    loop-less
-    loop-again
-    mul-out
-    slice-set-of-out
-    add-result
-    same-length
-    returns)
+    tie.close (tie.spec Inv-loop μ-loop loop-holds add-positive positive-requires mul-w slice-set-from-w add-end add-v loop-less loop-again mul-out
+    slice-set-of-out add-result same-length returns)

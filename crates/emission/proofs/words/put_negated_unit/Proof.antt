@@ -41,15 +41,4 @@ returns : tie.Need-returns
 returns c = clause-1 _ _ _ _ (c .negative .ensures) (search needs) (c .before .pre .1)
 
 pub put-negated-unit-spec : {M : Type 1} → statement M
-put-negated-unit-spec =
-    tie.close
-    (tie.spec
-    negative-requires
-    mul-only
-    slice-set-from-only
-    add-out
-    mul-out
-    slice-set-of-out
-    add-result
-    same-length
-    returns)
+put-negated-unit-spec = tie.close (tie.spec negative-requires mul-only slice-set-from-only add-out mul-out slice-set-of-out add-result same-length returns)

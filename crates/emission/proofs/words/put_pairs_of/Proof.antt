@@ -62,20 +62,5 @@ returns c =
 
 pub put-pairs-of-spec : {M : Type 1} → statement M
 put-pairs-of-spec =
-    tie.close
-    (tie.spec
-    Inv-loop
-    μ-loop
-    add-j-end
-    sub-j-end
-    loop-holds
-    add-put-exclusion
-    add-put-exclusion-2
-    add-put-exclusion-3
-    add-put-exclusion-4
-    put-exclusion-requires
-    add-j
-    loop-less
-    loop-again
-    same-length
-    returns)
+    tie.close (tie.spec Inv-loop μ-loop add-j-end sub-j-end loop-holds add-put-exclusion add-put-exclusion-2 add-put-exclusion-3 add-put-exclusion-4
+    put-exclusion-requires add-j loop-less loop-again same-length returns)

@@ -41,15 +41,4 @@ returns : tie.Need-returns
 returns c = clause-1 _ _ _ _ (c .positive .ensures) (search needs) (c .before .pre .1)
 
 pub put-unit-spec : {M : Type 1} → statement M
-put-unit-spec =
-    tie.close
-    (tie.spec
-    positive-requires
-    mul-x
-    slice-set-from-x
-    add-out
-    mul-out
-    slice-set-of-out
-    add-result
-    same-length
-    returns)
+put-unit-spec = tie.close (tie.spec positive-requires mul-x slice-set-from-x add-out mul-out slice-set-of-out add-result same-length returns)

@@ -1,3 +1,4 @@
+-- `atom_part`: each kind of atom is its row of the definition; the group is 1 + counter, or 1 + vars + clock.
 use borrow.Author.Needs.{needs}
 use Rattle.parts.proofs.GroupTable.atom_part.Statement.{statement}
 use Rattle.parts.proofs.GroupTable.atom_part.Tie as tie
@@ -43,18 +44,5 @@ returns-3 c = rw (c .before .before .atom2 .given .1) (c .exclude-part2 .ensures
 
 pub atom-part-spec : {M : Type 1} → statement M
 atom-part-spec =
-    tie.close
-    (tie.spec
-    enum-told
-    enum-known-atom
-    add-exclude-part
-    cast-exclude-part
-    add-exclude-part-2
-    exclude-part-requires
-    enum-known-atom-2
-    cast-exclude-part-2
-    add-exclude-part-3
-    exclude-part-requires-2
-    returns
-    returns-2
-    returns-3)
+    tie.close (tie.spec enum-told enum-known-atom add-exclude-part cast-exclude-part add-exclude-part-2 exclude-part-requires enum-known-atom-2
+    cast-exclude-part-2 add-exclude-part-3 exclude-part-requires-2 returns returns-2 returns-3)

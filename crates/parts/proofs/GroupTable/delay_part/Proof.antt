@@ -1,3 +1,4 @@
+-- `delay_part`: groups up to the last counter are kept, the others rise: the definition's test.
 use borrow.Author.Tests.{lt-ltb, le-ltb}
 use Prim.Native.Nat.{_+_}
 use borrow.Author.Needs.{needs}
@@ -17,7 +18,8 @@ returns : tie.Need-returns
 returns c = rw (lt-ltb (c .before .before .before .args .g) (1 + c .before .before .before .args .self .vars) (c .before .if1 .taken)) (c .leads-part .ensures)
 
 returns-2 : tie.Need-returns-2
-returns-2 c = rw (le-ltb (c .before .before .before .args .g) (1 + c .before .before .before .args .self .vars) (c .before .if1 .left)) (c .leads-part2 .ensures)
+returns-2 c =
+    rw (le-ltb (c .before .before .before .args .g) (1 + c .before .before .before .args .self .vars) (c .before .if1 .left)) (c .leads-part2 .ensures)
 
 pub delay-part-spec : {M : Type 1} → statement M
 delay-part-spec =

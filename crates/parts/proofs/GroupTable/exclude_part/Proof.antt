@@ -1,3 +1,4 @@
+-- `exclude_part`: the table's slots for the group, field by field; the sum stays small by `Bounded`.
 use Rattle.parts.specs.declared.Rule.the-variants.{Exclude}
 use Prim.Native.Nat.{_+_}
 use native.Mathlib.Omega.{arith}
@@ -15,7 +16,10 @@ slot-requires-2 : tie.Need-slot-requires-2
 slot-requires-2 c κs = search needs
 
 returns : tie.Need-returns
-returns c = λ k. record { rule = Exclude (c .before .before .before .before .args .relation) (c .before .before .before .before .args .constant); before = c .before .before .before .before .args .o + c .before .slot .ensures k; size = c .slot2 .ensures k; after = 0; into = 0 }
+returns c =
+    let args = c .before .before .before .before .args in
+    λ k. record
+    { rule = Exclude (args .relation) (args .constant); before = args .o + c .before .slot .ensures k; size = c .slot2 .ensures k; after = 0; into = 0 }
 
 pub exclude-part-spec : {M : Type 1} → statement M
 exclude-part-spec = tie.close (tie.spec slot-requires add-t10 slot-requires-2 returns)

@@ -1,3 +1,4 @@
+-- `reset_part`: each clock update is its row of the definition.
 use borrow.Author.Needs.{needs}
 use Rattle.parts.proofs.GroupTable.reset_part.Statement.{statement}
 use Rattle.parts.proofs.GroupTable.reset_part.Tie as tie
@@ -27,14 +28,4 @@ returns-2 : tie.Need-returns-2
 returns-2 c = rw (c .before .enum-told2 .given .1) (c .set-part .ensures)
 
 pub reset-part-spec : {M : Type 1} → statement M
-reset-part-spec =
-    tie.close
-    (tie.spec
-    add-g
-    add-g-2
-    enum-told
-    leads-part-requires
-    enum-told-2
-    set-part-requires
-    returns
-    returns-2)
+reset-part-spec = tie.close (tie.spec add-g add-g-2 enum-told leads-part-requires enum-told-2 set-part-requires returns returns-2)

@@ -1,3 +1,4 @@
+-- `update_part`: each kind of update is its row of the definition.
 use Rattle.parts.specs.PartsOf.{nextAt, setPart, leadsPart, greatestAt}
 use Rattle.parts.specs.StateBlock.{firstAt, sizeAt}
 use Rattle.parts.specs.declared.Rule.the-variants.{Shift}
@@ -56,32 +57,24 @@ returns : tie.Need-returns
 returns c = rw (c .before .enum-told .given .1) (c .leads-part .ensures)
 
 returns-2 : tie.Need-returns-2
-returns-2 c = rw (c .before .before .before .update .given .1) (c .set-part .ensures ∙ ap (setPart (nextAt (c .before .before .before .before .before .args .self) (c .before .before .before .before .before .args .o) + firstAt (c .before .before .before .before .before .args .self) (1 + c .before .before .before .before .before .args .i)) (sizeAt (c .before .before .before .before .before .args .self) (1 + c .before .before .before .before .before .args .i))) (c .before .constant-rule .ensures))
+returns-2 c =
+    let args = c .before .before .before .before .before .args in
+    let self = args .self in
+    let i = args .i in
+    rw (c .before .before .before .update .given .1)
+    (c .set-part .ensures ∙ ap (setPart (nextAt self (args .o) + firstAt self (1 + i)) (sizeAt self (1 + i))) (c .before .constant-rule .ensures))
 
 returns-3 : tie.Need-returns-3
 returns-3 c =
     let v = c .before .before .before .update2 .given .0 in
+    let args = c .before .before .before .before .before .args in
+    let self = args .self in
+    let i = args .i in
     let back : toZ w8 (ofZ w8 (v .1 .0)) ≡ v .1 .0 = search needs in
-    rw (c .before .before .before .update2 .given .1) (c .leads-part2 .ensures ∙ ap (leadsPart (c .before .before .before .before .before .args .self) (c .before .before .before .before .before .args .o) (1 + v .0) (1 + c .before .before .before .before .before .args .i)) (c .before .shift-rule .ensures ∙ ap (λ (z : ℤ). Shift z (greatestAt (c .before .before .before .before .before .args .self) (c .before .before .before .before .before .args .i))) back))
+    rw (c .before .before .before .update2 .given .1) (c .leads-part2 .ensures
+    ∙ ap (leadsPart self (args .o) (1 + v .0) (1 + i)) (c .before .shift-rule .ensures ∙ ap (λ (z : ℤ). Shift z (greatestAt self i)) back))
 
 pub update-part-spec : {M : Type 1} → statement M
 update-part-spec =
-    tie.close
-    (tie.spec
-    enum-told
-    add-leads-part
-    add-leads-part-2
-    leads-part-requires
-    enum-known-update
-    add-set-part
-    constant-rule-requires
-    set-part-requires
-    enum-known-update-2
-    cast-leads-part
-    add-leads-part-3
-    add-leads-part-4
-    shift-rule-requires
-    leads-part-requires-2
-    returns
-    returns-2
-    returns-3)
+    tie.close (tie.spec enum-told add-leads-part add-leads-part-2 leads-part-requires enum-known-update add-set-part constant-rule-requires set-part-requires
+    enum-known-update-2 cast-leads-part add-leads-part-3 add-leads-part-4 shift-rule-requires leads-part-requires-2 returns returns-2 returns-3)

@@ -2,7 +2,7 @@
 use Rattle.model.proofs.FormLaws.{state-of-sizes, choices-of-sizes}
 use Rattle.parts.specs.Numbering.{variableNumber}
 use mathlib.Core.Path.{refl}
-use Prim.Native.Nat.{_+_, _≤_, _-_}
+use Prim.Native.Nat.{_+_, _≤_}
 use native.Mathlib.Omega.{arith}
 use native.Mathlib.Nat.{mul-le-mul}
 use borrow.Author.Needs.{needs}
@@ -14,17 +14,20 @@ add-result c = search needs
 
 mul-result : tie.Need-mul-result
 mul-result c =
-    let w : c .before .args .z .state + c .before .args .z .choices ≤ 131582 = omega (arith, c .before .pre .1 .state-most, c .before .pre .1 .choices-most) in
+    let z = c .before .args .z in
+    let w : z .state + z .choices ≤ 131582 = omega (arith, c .before .pre .1 .state-most, c .before .pre .1 .choices-most) in
     record { fits = omega (arith, mul-le-mul (c .before .pre .2) w) }
 
 add-result-2 : tie.Need-add-result-2
 add-result-2 c =
-    let w : c .before .args .z .state + c .before .args .z .choices ≤ 131582 = omega (arith, c .before .pre .1 .state-most, c .before .pre .1 .choices-most) in
+    let z = c .before .args .z in
+    let w : z .state + z .choices ≤ 131582 = omega (arith, c .before .pre .1 .state-most, c .before .pre .1 .choices-most) in
     record { fits = omega (arith, mul-le-mul (c .before .pre .2) w) }
 
 add-result-3 : tie.Need-add-result-3
 add-result-3 c =
-    let w : c .before .args .z .state + c .before .args .z .choices ≤ 131582 = omega (arith, c .before .pre .1 .state-most, c .before .pre .1 .choices-most) in
+    let z = c .before .args .z in
+    let w : z .state + z .choices ≤ 131582 = omega (arith, c .before .pre .1 .state-most, c .before .pre .1 .choices-most) in
     record { fits = omega (arith, mul-le-mul (c .before .pre .2) w) }
 
 returns : tie.Need-returns
