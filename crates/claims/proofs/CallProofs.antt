@@ -23,10 +23,10 @@ use Rattle.encode.proofs.Reports.{encode-accepts}
 use Rattle.decode.specs.DecodeCall.{decodeReport, decodeLeft}
 use Rattle.decode.proofs.Reports.{decode-accepts}
 use Rattle.decode.proofs.Claims.{decoded, decodes-to-run, run-and-back, assignment-and-back}
-use Rattle.claims.specs.Words.{clausesIn, joined, lessLastClause, wordsTrue}
+use Rattle.claims.specs.Words.{clausesIn, joined, readBack, lessLastClause, wordsTrue}
 use Rattle.claims.specs.Calls.{Calls, callsWith, Accepts, Emitted, variablesTold, wordsLeft, SolvesList, ListSolvable, WalkedRun, runLeft}
 use Rattle.claims.specs.Calls.{assignmentLeft, EmittedWords, EmittedDemand2, EmittedDemand3, EmittedShortest}
-use Rattle.claims.proofs.ReadBack.{read-list, true-list, less-last, closed-list}
+use Rattle.claims.proofs.ReadBack.{read-list, list-back, true-list, less-last, closed-list}
 use Rattle.claims.proofs.Within.{words-within}
 use Rattle.claims.proofs.Accepted.{accepts-accepted, walk-accepted, decode-accepted, Facts, facts}
 
@@ -35,9 +35,13 @@ pub words-true : (m : Model) (k : ℕ) (a : List ℕ) → wordsTrue a (words m k
 unfolding words
 words-true m k a = true-list a (clauses m k)
 
-pub words-read : (m : Model) (k : ℕ) → clausesIn (words m k) ≡ map (map word) (clauses m k)
+words-read : (m : Model) (k : ℕ) → clausesIn (words m k) ≡ map (map word) (clauses m k)
 unfolding words
 words-read m k = read-list (clauses m k)
+
+pub words-back : (m : Model) (k : ℕ) → readBack (words m k) ≡ clauses m k
+unfolding words
+words-back m k = list-back (clauses m k)
 
 words-closed : (m : Model) (k : ℕ) → joined (clausesIn (words m k)) ≡ words m k
 unfolding words
@@ -96,6 +100,7 @@ module _ (room : ℕ → ℕ) (m : Model) (k : ℕ) (e : Emitted (callsWith room
   words-are =
       let f = known in
       record {
+        clauses-are = rw (f .words-are) (words-back m k);
         closed = rw (f .words-are) (words-closed m k);
         counted = rw (f .words-are, words-read m k) (length-map (clauses m k) (map word) ∙ sym (f .clauses-are));
         within = rw (f .words-are, f .variables-are) (words-within m (f .model-formed) k);

@@ -2,7 +2,7 @@
 -- lent buffer, of any solver's assignment to them, and of what the conversions and the walker answer and leave; the same of the calls for C on a text;
 -- and the rows. specs/Words.antt, Calls.antt, Texts.antt and Cases.antt say what the statements mean; each proof is cited.
 use mathlib.Core.Path.{_≡_}
-use mathlib.Core.List.{List, map}
+use mathlib.Core.List.{List}
 use Prim.Native.Nat.{ℕ, _≤_}
 use lib.Dec.{T}
 use lib.IntN.{ℤ}
@@ -11,11 +11,11 @@ use Rattle.model.specs.declared.Model.{Model}
 use Rattle.model.specs.Automaton.{variables}
 use Rattle.model.specs.Form.{wellFormed}
 use Rattle.list.specs.Lists.{All}
-use Rattle.list.specs.Clauses.{word, clauses, words}
+use Rattle.list.specs.Clauses.{clauses, words}
 use Rattle.list.specs.Assignments.{satisfied}
 use Rattle.emission.specs.EmitCall.{EmitReport}
 use Rattle.samples.specs.Models.{modelB}
-use Rattle.claims.specs.Words.{clausesIn, wordsTrue}
+use Rattle.claims.specs.Words.{clausesIn, readBack, wordsTrue}
 use Rattle.claims.specs.Calls.{Calls, callsWith, recordCalls, Emitted, variablesTold, clausesTold, wordsLeft, ListSolvable, NamesVariable}
 use Rattle.claims.specs.Calls.{EmittedWords, EmittedDemand2, EmittedDemand3, EmittedShortest}
 use Rattle.claims.specs.Texts.{textModel, textCalls, IsRead, Never20, RowTexts}
@@ -28,9 +28,9 @@ use Rattle.claims.proofs.Rows
 use Rattle.claims.proofs.Sample
 
 -- ---- the words of the list
--- Split at 0, they are the list's clauses, literal by literal: the words decide the list.
-pub read-back : (m : Model) (k : ℕ) → clausesIn (words m k) ≡ map (map word) (clauses m k)
-read-back = CallProofs.words-read
+-- Split at 0, each word its literal, they are the list's clauses: the words decide the list.
+pub read-back : (m : Model) (k : ℕ) → readBack (words m k) ≡ clauses m k
+read-back = CallProofs.words-back
 
 -- So bytes make them true exactly if they satisfy the list.
 pub words-true : (m : Model) (k : ℕ) (a : List ℕ) → wordsTrue a (words m k) ≡ satisfied a (clauses m k)

@@ -11,11 +11,12 @@ use Rattle.model.specs.declared.Model.{Model}
 use Rattle.model.specs.Refusal.{Refusal}
 use Rattle.model.specs.Run.{isRun}
 use Rattle.list.specs.Lists.{All}
+use Rattle.list.specs.Clauses.{clauses}
 use Rattle.walk.specs.Walker.{walkReport}
 use Rattle.encode.specs.EncodeCall.{encodeReport, encodeLeft}
 use Rattle.decode.specs.DecodeCall.{decodeReport, decodeLeft}
 use Rattle.emission.specs.EmitCall.{EmitReport, emitReport, emitLeft}
-use Rattle.claims.specs.Words.{clausesIn, joined, lessLastClause, Solves, Solvable}
+use Rattle.claims.specs.Words.{clausesIn, joined, readBack, lessLastClause, Solves, Solvable}
 
 -- ---- the calls
 -- What four calls answer and what they leave in the buffers lent to them: the right-hand sides of their contracts, for one model. The demands are said
@@ -105,6 +106,8 @@ NamesVariable n w = (1 ≤ natAbs w) × (natAbs w ≤ n)
 
 -- What the words of an accepted emission are.
 pub record EmittedWords (c : Calls) (k : ℕ) (e : Emitted c k) : Type 0 where
+  -- read back, they are the list's clauses
+  pub clauses-are : readBack (wordsLeft e) ≡ clauses (c .model) k
   -- every clause is closed by a 0
   pub closed : joined (clausesIn (wordsLeft e)) ≡ wordsLeft e
   -- there are as many clauses as told
