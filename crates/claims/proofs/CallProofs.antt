@@ -1,5 +1,5 @@
 -- Demands 2 and 3 of the calls on a record, from those of the list: the emitted words are the list's, so that what solves them satisfies it.
-use mathlib.Core.Path.{_≡_, sym, ap, subst, _∙_}
+use mathlib.Core.Path.{_≡_, refl, sym, ap, subst, _∙_}
 use mathlib.Core.Logic.{_↔_}
 use mathlib.Core.List.{List, map, dropLast, IsPrefix}
 use Prim.Native.Nat.{ℕ, _≤_}
@@ -169,6 +169,13 @@ module _ (room : ℕ → ℕ) (m : Model) (k : ℕ) (e : Emitted (callsWith room
     decodes = calls-decodes;
     writes = calls-writes;
     only = calls-only;
+    accepted-decodes = λ a run out h p q.
+        let s = accepted-solved a run h in
+        let r = calls-decodes a run s p in
+        (r, calls-writes (runLeft c k a run) out run r q p .0, sym (calls-only a (runLeft c k a run) out run s q p refl));
+    accepted-writes = λ r out run h q p.
+        let x = calls-writes r out run h q p in
+        (x .0, accepts-accepted (solved-accepted (assignmentLeft c (variablesTold e) r out) run (x .1) p), x .2);
   }
 
 -- ---- demand 3

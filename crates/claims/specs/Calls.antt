@@ -135,6 +135,16 @@ pub record EmittedDemand2 (c : Calls) (k : ℕ) (e : Emitted c k) : Type 0 where
   -- and any satisfying assignment with that run is that one, byte for byte
   pub only : (a r out run : List ℕ) → SolvesList e a → variablesTold e ≤ length out → k ≤ length run → runLeft c k a run ≡ r
       → a ≡ assignmentLeft c (variablesTold e) r out
+  -- of the calls: each accepted assignment's run is accepted by the walker, and encodes to that assignment
+  pub accepted-decodes : (a run out : List ℕ) → Accepts (c .decodes k a run) → k ≤ length run → variablesTold e ≤ length out
+      → WalkedRun c k (runLeft c k a run)
+      × Accepts (c .encodes (runLeft c k a run) out)
+      × (assignmentLeft c (variablesTold e) (runLeft c k a run) out ≡ a)
+  -- of the calls: each accepted run's assignment is accepted, and decodes to that run
+  pub accepted-writes : (r out run : List ℕ) → WalkedRun c k r → variablesTold e ≤ length out → k ≤ length run
+      → Accepts (c .encodes r out)
+      × Accepts (c .decodes k (assignmentLeft c (variablesTold e) r out) run)
+      × (runLeft c k (assignmentLeft c (variablesTold e) r out) run ≡ r)
 
 -- ---- demand 3 for accepted emissions for j and k
 pub record EmittedDemand3 (c : Calls) (j k : ℕ) (d : Emitted c j) (e : Emitted c k) : Type 0 where
