@@ -15,7 +15,7 @@ use Rattle.model.specs.Run.{isRun}
 use Rattle.list.specs.Clauses.{word, wordsOf, clauses, words}
 use Rattle.list.specs.Assignments.{satisfied, runOf}
 use Rattle.list.specs.Demands.{Satisfies, RunOfSteps, Demand2, Demand3, Shortest}
-use Rattle.list.proofs.Claims as List
+use Rattle.list.proofs.Claims as ListClaims
 use Rattle.walk.specs.Walker.{walkReport}
 use Rattle.walk.proofs.Accepts.{accepts-iff}
 use Rattle.encode.specs.EncodeCall.{encodeLeft}
@@ -108,7 +108,7 @@ module _ (room : ℕ → ℕ) (m : Model) (k : ℕ) (e : Emitted (callsWith room
 
   -- ---- demand 2
   list-2 : Demand2 m k
-  list-2 = List.demand-2 m (known .model-formed) k
+  list-2 = ListClaims.demand-2 m (known .model-formed) k
 
   calls-exactly : ListSolvable e ↔ ((r : List ℕ) × WalkedRun c k r)
   calls-exactly = (
@@ -181,7 +181,7 @@ module _ (room : ℕ → ℕ) (m : Model) (k : ℕ) (e : Emitted (callsWith room
 -- ---- demand 3
 module _ (room : ℕ → ℕ) (m : Model) (j k : ℕ) (d : Emitted (callsWith room m) j) (e : Emitted (callsWith room m) k) (l : j ≤ k) where
   list-3 : Demand3 m j k
-  list-3 = List.demand-3 m (facts room m j d .model-formed) j k l
+  list-3 = ListClaims.demand-3 m (facts room m j d .model-formed) j k l
 
   calls-begins : IsPrefix (lessLastClause (wordsLeft d)) (wordsLeft e)
   calls-begins = rw (facts room m j d .words-are, facts room m k e .words-are, words-less-last m j) (list-3 .begins)
@@ -246,7 +246,7 @@ shortest room m e = record {
 }
   where
     s : Shortest m
-    s = List.shortest-run m (facts room m 0 (e 0 (omega arith)) .model-formed)
+    s = ListClaims.shortest-run m (facts room m 0 (e 0 (omega arith)) .model-formed)
 
     runs : (r : List ℕ) → Accepts (walkReport m r) → T (wellFormed m) × (length r ≤ 64) × T (isRun m r)
     runs r w = accepts-iff m r .0 (walk-accepted m r w)
