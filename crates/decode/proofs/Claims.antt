@@ -19,13 +19,13 @@ use Rattle.decode.proofs.Reports.{left-accepted, decode-accepts}
 
 -- ---- what an accepted call leaves
 -- the first k bytes of the run buffer are the assignment's run
-decoded : (m : Model) (k : ℕ) (a buffer : List ℕ) → decodeReport m k a (length buffer) ≡ accepted → take k (decodeLeft m k a buffer) ≡ runOf m k a
+pub decoded : (m : Model) (k : ℕ) (a buffer : List ℕ) → decodeReport m k a (length buffer) ≡ accepted → take k (decodeLeft m k a buffer) ≡ runOf m k a
 decoded m k a buffer h =
     let x = decode-accepts m k a (length buffer) .0 h in
     ap (take k) (left-accepted m k a buffer h) ∙ take-at (runOf m k a) (drop k buffer) k (demand-2 m (x .0) k .decodes a (x .3) .long)
 
 -- the first N bytes of the buffer are the run's assignment
-encoded :
+pub encoded :
     (m : Model) (r buffer : List ℕ) → encodeReport m r (length buffer) ≡ accepted → take (variables m (length r)) (encodeLeft m r buffer) ≡ assignmentOf m r
 encoded m r buffer h =
     let x = encode-accepts m r (length buffer) .0 h in

@@ -48,7 +48,7 @@ steps-honest m (b ∷ r) t s = go (leb (choices m) b) (step m s b) (λ u. steps-
     go false none ih h = never h
     go false (some u) ih h = ih u h
 
-walk-honest : (m : Model) (r : List ℕ) → Honest (walkReport m r)
+pub walk-honest : (m : Model) (r : List ℕ) → Honest (walkReport m r)
 unfolding walkReport
 walk-honest m r = go (wellFormed m) (ltb 64 (length r)) (start m)
   where

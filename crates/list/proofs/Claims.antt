@@ -1,17 +1,11 @@
--- What is claimed of the clause list: demands 2 and 3, the corollary on the shortest run, and the P cases of document 01. specs/Demands.antt and
--- specs/Cases.antt say what the statements mean; each proof is cited. No bound is asked of j and k, so all this holds up to 64 and beyond.
-use mathlib.Core.List.{[], _∷_}
+-- What is claimed of the clause list: demands 2 and 3, and the corollary on the shortest run. specs/Demands.antt says what the statements mean; each
+-- proof is cited. No bound is asked of j and k, so all this holds up to 64 and beyond. What is claimed of the calls stands in the crate claims.
 use Prim.Native.Nat.{ℕ, _≤_}
 use lib.Dec.{T}
 use Rattle.model.specs.declared.Model.{Model}
 use Rattle.model.specs.Form.{wellFormed}
-use Rattle.list.specs.Assignments.{assignmentOf}
-use Rattle.list.specs.Demands.{Satisfies, Demand2, Demand3, Shortest}
-use Rattle.list.specs.Cases.{allRowsHold}
-use Rattle.samples.specs.Models.{modelB}
+use Rattle.list.specs.Demands.{Demand2, Demand3, Shortest}
 use Rattle.list.proofs.DemandProofs
-use Rattle.list.proofs.Rows
-use Rattle.list.proofs.Sample
 
 -- For every accepted model and bound the list can be satisfied exactly if the automaton has a run of k steps that ends in the target location. Each
 -- satisfying assignment, from whichever solver, decodes to such a run; each such run has exactly one satisfying assignment, and we can write it.
@@ -28,14 +22,3 @@ demand-3 = DemandProofs.demand-3
 -- steps; if there is none up to 64, every run has more than 64.
 pub shortest-run : (m : Model) → T (wellFormed m) → Shortest m
 shortest-run = DemandProofs.shortest
-
--- P1 to P10: every row holds.
-pub all-rows : T allRowsHold
-all-rows = Rows.all-rows
-
--- The theorems are not empty: logger model B is well formed, and by demand 2 the assignment of its run 5 3 7 satisfies its list for 3 steps.
-pub B-formed : T (wellFormed modelB)
-B-formed = Sample.B-formed
-
-pub B-satisfied : Satisfies modelB 3 (assignmentOf modelB (5 ∷ 3 ∷ 7 ∷ []))
-B-satisfied = Sample.B-satisfied

@@ -10,6 +10,4 @@ pub mod OneHot
 pub mod DemandProofs
 pub mod PieceClauses
 pub mod Searching
-pub mod Rows
-pub mod Sample
 pub mod Claims

@@ -3,4 +3,3 @@ pub mod Items
 pub mod Clauses
 pub mod Assignments
 pub mod Demands
-pub mod Cases

@@ -1,44 +1,50 @@
--- The cases that document 01 marks P: a list of rows over the worked models. proofs/Rows.antt has the one claim that covers all rows.
+-- The cases that document 01 marks P, and rows that pin the definitions: a list of rows over the worked models and the small models.
+-- proofs/Claims.antt has the one claim that covers all rows.
 use mathlib.Core.Bool.{Bool, true, false, _&&_, cond}
 use mathlib.Core.List.{List, [], _∷_, map}
-use mathlib.Core.Option.{Option, none, some}
 use Prim.Native.Nat.{ℕ, zero, suc}
 use lib.Dec.{eqb}
-use lib.ListN.{length}
-use lib.IntN.{ℤ, pos, negsuc, negℤ}
+use lib.ListN.{length, replicate}
+use lib.IntN.{ℤ, pos, negsuc}
 use Rattle.model.specs.declared.Model.{Model}
 use Rattle.model.specs.Indexed.{each}
 use Rattle.model.specs.Automaton.{ceiling, stateSize, choices, variables}
 use Rattle.model.specs.Form.{wellFormed}
+use Rattle.model.specs.Refusal.{Refusal}
 use Rattle.model.specs.Run.{isRun}
 use Rattle.list.specs.Lists.{allOf}
-use Rattle.list.specs.Clauses.{clauses, words}
-use Rattle.list.specs.Assignments.{satisfied, firstFalse, runOf, assignmentOf}
+use Rattle.list.specs.Clauses.{clauses}
+use Rattle.list.specs.Assignments.{satisfied}
 use Rattle.walk.specs.Walker.{walkReport}
+use Rattle.encode.specs.EncodeCall.{isAccepted, encodeReport, encodeLeft}
+use Rattle.decode.specs.DecodeCall.{decodeReport, decodeLeft}
+use Rattle.emission.specs.EmitCall.{EmitReport, emitReport, emitLeft}
 use Rattle.samples.specs.Models.{modelA, waitingA, modelB}
+use Rattle.claims.specs.RowModels.{clockRelations, counterRelations, counterUpdates, twoOfEach}
+use Rattle.claims.specs.RowWords.{neg, end, clockRelationsWords, counterRelationsWords, counterUpdatesWords, twoOfEachWords}
 
 -- ---- what a row may say
 pub data Fact : Type 0 where
   -- the records are well formed
   areFormed : List Model → Fact
-  -- for k, the list has so many variables, clauses and words
+  -- emission for k is accepted in a buffer of so many words, and tells so many variables, clauses and words
   totals : Model → ℕ → ℕ → ℕ → ℕ → Fact
   -- M, S and H
   sizesAre : Model → ℕ → ℕ → ℕ → Fact
   -- N for k
   variablesAre : Model → ℕ → ℕ → Fact
-  -- the words for k are these, in order
+  -- emission for k leaves these words, in order, in a buffer of as many
   wordsAre : Model → ℕ → List ℤ → Fact
   -- of all assignments for k, exactly these satisfy the list
   satisfiedBy : Model → ℕ → List (List ℕ) → Fact
-  -- the assignment for k has this run, and the run this assignment
+  -- the assignment for k has this run, and the run this assignment: both calls accept, and leave the one and the other
   decodesTo : Model → ℕ → List ℕ → List ℕ → Fact
-  -- the first clause of the list for k that the assignment makes false
-  failsAt : Model → ℕ → List ℕ → ℕ → Fact
+  -- the call from assignment to run refuses the assignment for k with this number and place
+  assignmentRefused : Model → ℕ → List ℕ → ℕ → ℕ → Fact
   -- of all lists of k choices, exactly these are runs
   runsAre : Model → ℕ → List (List ℕ) → Fact
   -- the walker refuses the run with this number and place
-  refusedWith : Model → List ℕ → ℕ → ℕ → Fact
+  runRefused : Model → List ℕ → ℕ → ℕ → Fact
 
 -- ---- how it is checked: by evaluation
 -- All lists of k numbers below n, in order.
@@ -59,9 +65,11 @@ equalLists same [] (y ∷ ys) = false
 equalLists same (x ∷ xs) [] = false
 equalLists same (x ∷ xs) (y ∷ ys) = same x y && equalLists same xs ys
 
-abbrev equalIndex : Option ℕ → ℕ → Bool
-equalIndex none n = false
-equalIndex (some i) n = eqb i n
+abbrev equalTotals : EmitReport → ℕ → ℕ → ℕ → Bool
+equalTotals r v c w = eqb (r .number) 0 && eqb (r .variables) v && eqb (r .clauses) c && eqb (r .words) w
+
+abbrev equalRefusal : Refusal → ℕ → ℕ → Bool
+equalRefusal x number place = eqb (x .number) number && eqb (x .place) place
 
 -- Those that pass the test, in order.
 abbrev keepIf : (List ℕ → Bool) → List (List ℕ) → List (List ℕ)
@@ -71,18 +79,20 @@ keepIf p (x ∷ xs) = cond (p x) (x ∷ keepIf p xs) (keepIf p xs)
 -- The fact holds.
 unfoldable pub holds : Fact → Bool
 holds (areFormed ms) = allOf wellFormed ms
-holds (totals m k v c w) = eqb (variables m k) v && eqb (length (clauses m k)) c && eqb (length (words m k)) w
+holds (totals m k v c w) = equalTotals (emitReport m k w) v c w
 holds (sizesAre m top s h) = eqb (ceiling m) top && eqb (stateSize m) s && eqb (choices m) h
 holds (variablesAre m k n) = eqb (variables m k) n
-holds (wordsAre m k ws) = equalLists equalIntegers (words m k) ws
+holds (wordsAre m k ws) = equalLists equalIntegers (emitLeft m k (length ws) (replicate (length ws) (pos 0))) ws
 holds (satisfiedBy m k found) = equalLists (equalLists eqb) (keepIf (λ a. satisfied a (clauses m k)) (strings 2 (variables m k))) found
-holds (decodesTo m k a r) = equalLists eqb (runOf m k a) r && equalLists eqb (assignmentOf m r) a
-holds (failsAt m k a i) = equalIndex (firstFalse a (clauses m k)) i
+holds (decodesTo m k a r) =
+    isAccepted (decodeReport m k a k) && equalLists eqb (decodeLeft m k a (replicate k 0)) r &&
+    isAccepted (encodeReport m r (length a)) && equalLists eqb (encodeLeft m r (replicate (length a) 0)) a
+holds (assignmentRefused m k a number place) = equalRefusal (decodeReport m k a k) number place
 holds (runsAre m k rs) = equalLists (equalLists eqb) (keepIf (isRun m) (strings (choices m) k)) rs
-holds (refusedWith m r number place) = eqb (walkReport m r .number) number && eqb (walkReport m r .place) place
+holds (runRefused m r number place) = equalRefusal (walkReport m r) number place
 
 -- ---- the rows
--- A row: the number of its case P1 to P10 and what it says; 0 for what the cases take for granted.
+-- A row: the number of its case P1 to P10 and what it says; 0 for what the cases take for granted and for the small models.
 pub record Row : Type 0 where
   pub number : ℕ
   pub says : Fact
@@ -90,17 +100,10 @@ pub record Row : Type 0 where
 abbrev P : ℕ → Fact → Row
 P n f = record { number = n; says = f }
 
--- Words as document 01 writes them: a number, its negative, and 0 where a clause ends.
-abbrev neg : ℕ → ℤ
-neg n = negℤ (pos n)
-
-abbrev end : ℤ
-end = pos 0
-
--- P1 to P10.
+-- P1 to P10, and the lists of the small models for one step.
 unfoldable pub rows : List Row
 rows =
-    P 0 (areFormed (modelA ∷ waitingA ∷ modelB ∷ [])) ∷
+    P 0 (areFormed (modelA ∷ waitingA ∷ modelB ∷ clockRelations ∷ counterRelations ∷ counterUpdates ∷ twoOfEach ∷ [])) ∷
     P 1 (totals modelA 0 2 4 10) ∷
     P 1 (satisfiedBy modelA 0 []) ∷
     P 2 (wordsAre modelA 1 (
@@ -111,16 +114,20 @@ rows =
     P 2 (totals modelA 1 7 16 51) ∷
     P 3 (satisfiedBy modelA 1 ((1 ∷ 0 ∷ 0 ∷ 0 ∷ 1 ∷ 0 ∷ 1 ∷ []) ∷ [])) ∷
     P 3 (decodesTo modelA 1 (1 ∷ 0 ∷ 0 ∷ 0 ∷ 1 ∷ 0 ∷ 1 ∷ []) (2 ∷ [])) ∷
-    P 4 (failsAt modelA 1 (1 ∷ 0 ∷ 1 ∷ 0 ∷ 0 ∷ 1 ∷ 0 ∷ []) 15) ∷
+    P 4 (assignmentRefused modelA 1 (1 ∷ 0 ∷ 1 ∷ 0 ∷ 0 ∷ 1 ∷ 0 ∷ []) 26 15) ∷
     P 5 (totals modelA 2 12 28 92) ∷
     P 5 (runsAre modelA 2 ((0 ∷ 2 ∷ []) ∷ (1 ∷ 2 ∷ []) ∷ (2 ∷ 0 ∷ []) ∷ (2 ∷ 1 ∷ []) ∷ [])) ∷
     P 6 (sizesAre modelB 4 11 8) ∷
     P 6 (variablesAre modelB 3 68) ∷
     P 6 (runsAre modelB 3 ((5 ∷ 3 ∷ 7 ∷ []) ∷ [])) ∷
-    P 7 (refusedWith modelB (5 ∷ 4 ∷ 7 ∷ []) 28 2) ∷
-    P 8 (refusedWith modelB (5 ∷ 3 ∷ []) 30 0) ∷
-    P 9 (refusedWith modelB (5 ∷ 3 ∷ 8 ∷ []) 27 3) ∷
-    P 10 (refusedWith waitingA [] 29 0) ∷ []
+    P 7 (runRefused modelB (5 ∷ 4 ∷ 7 ∷ []) 28 2) ∷
+    P 8 (runRefused modelB (5 ∷ 3 ∷ []) 30 0) ∷
+    P 9 (runRefused modelB (5 ∷ 3 ∷ 8 ∷ []) 27 3) ∷
+    P 10 (runRefused waitingA [] 29 0) ∷
+    P 0 (wordsAre clockRelations 1 clockRelationsWords) ∷
+    P 0 (wordsAre counterRelations 1 counterRelationsWords) ∷
+    P 0 (wordsAre counterUpdates 1 counterUpdatesWords) ∷
+    P 0 (wordsAre twoOfEach 1 twoOfEachWords) ∷ []
 
 -- Every row holds.
 unfoldable pub allRowsHold : Bool

@@ -1,0 +1,120 @@
+-- What is claimed of the calls, the page to read first: demands 2 and 3 and the corollary on the shortest run, of the words that emission leaves in the
+-- lent buffer, of any solver's assignment to them, and of what the conversions and the walker answer and leave; the same of the calls for C on a text;
+-- and the rows. specs/Words.antt, Calls.antt, Texts.antt and Cases.antt say what the statements mean; each proof is cited.
+use mathlib.Core.Path.{_≡_}
+use mathlib.Core.List.{List}
+use Prim.Native.Nat.{ℕ, _≤_}
+use lib.Dec.{T}
+use lib.IntN.{ℤ}
+use lib.ListN.{length, take}
+use Rattle.model.specs.declared.Model.{Model}
+use Rattle.model.specs.Automaton.{variables}
+use Rattle.model.specs.Form.{wellFormed}
+use Rattle.list.specs.Lists.{All}
+use Rattle.list.specs.Clauses.{clauses, words}
+use Rattle.list.specs.Assignments.{satisfied}
+use Rattle.emission.specs.EmitCall.{EmitReport}
+use Rattle.samples.specs.Models.{modelB}
+use Rattle.claims.specs.Words.{clausesIn, readBack, wordsTrue}
+use Rattle.claims.specs.Calls.{Calls, callsWith, recordCalls, Emitted, variablesTold, clausesTold, wordsLeft, ListSolvable, NamesVariable}
+use Rattle.claims.specs.Calls.{EmittedWords, EmittedDemand2, EmittedDemand3, EmittedShortest}
+use Rattle.claims.specs.Texts.{textModel, textCalls, IsRead, Never20, RowTexts}
+use Rattle.claims.specs.Cases.{allRowsHold}
+use Rattle.claims.proofs.Within
+use Rattle.claims.proofs.Accepted
+use Rattle.claims.proofs.CallProofs
+use Rattle.claims.proofs.Texts
+use Rattle.claims.proofs.Rows
+use Rattle.claims.proofs.Sample
+
+-- ---- the words of the list
+-- Split at 0, each word its literal, they are the list's clauses: the words decide the list.
+pub read-back : (m : Model) (k : ℕ) → readBack (words m k) ≡ clauses m k
+read-back = CallProofs.words-back
+
+-- So bytes make them true exactly if they satisfy the list.
+pub words-true : (m : Model) (k : ℕ) (a : List ℕ) → wordsTrue a (words m k) ≡ satisfied a (clauses m k)
+words-true = CallProofs.words-true
+
+-- Every word of a clause names a variable from 1 to N.
+pub words-within : (m : Model) → T (wellFormed m) → (k : ℕ) → All (λ c. All (NamesVariable (variables m k)) c) (clausesIn (words m k))
+words-within = Within.words-within
+
+-- ---- accepted emissions of the calls on a record; `room n` is the number of words that may be written into a buffer of n
+-- A well-formed model, a bound up to 64 and room for the list's words give one: what follows is not empty.
+pub emits : (room : ℕ → ℕ) (m : Model) → T (wellFormed m) → (k : ℕ) → k ≤ 64 → (old : List ℤ) → length (words m k) ≤ room (length old)
+    → Emitted (callsWith room m) k
+emits = Accepted.emits
+
+-- What a contract of emission promises of an answer with the number 0 is one, where x is the answer and new is what the buffer holds after the call.
+pub from-call : (c : Calls) (k : ℕ) (old new : List ℤ) (x : EmitReport) → x ≡ c .emits k old → new ≡ c .emitted k old → x .number ≡ 0
+    → (e : Emitted c k) × (variablesTold e ≡ x .variables) × (clausesTold e ≡ x .clauses) × (wordsLeft e ≡ take (x .words) new)
+from-call = Accepted.from-call
+
+-- The words left are whole clauses, as many as told, of the variables told.
+pub emitted-words : (room : ℕ → ℕ) (m : Model) (k : ℕ) (e : Emitted (callsWith room m) k) → EmittedWords (callsWith room m) k e
+emitted-words = CallProofs.words-are
+
+-- For every accepted model and bound the emitted list can be satisfied exactly if the automaton has a run of k steps that ends in the target location.
+-- Each satisfying assignment, from whichever solver, decodes to such a run; each such run has exactly one satisfying assignment, and we can write it.
+-- (That the call from assignment to run accepts every satisfying assignment is decode's `decode-accepts`.)
+pub emitted-demand-2 : (room : ℕ → ℕ) (m : Model) (k : ℕ) (e : Emitted (callsWith room m) k) → EmittedDemand2 (callsWith room m) k e
+emitted-demand-2 = CallProofs.demand-2
+
+-- For every accepted model and all bounds j and k with j at most k at most 64: the list emitted for k begins, word for word, with the list for j less its
+-- last clause; every assignment that satisfies the list for j, from whichever solver, goes on, no value changed, to one that satisfies the list for k;
+-- and every assignment that satisfies the list for k, cut after step j's state, satisfies the list for j exactly when its run stands in the target after
+-- j steps. (That j and k are at most 64 is part of their emissions having been accepted.)
+pub emitted-demand-3 : (room : ℕ → ℕ) (m : Model) (j k : ℕ) (d : Emitted (callsWith room m) j) (e : Emitted (callsWith room m) k) → j ≤ k
+    → EmittedDemand3 (callsWith room m) j k d e
+emitted-demand-3 = CallProofs.demand-3
+
+-- So the smallest bound whose list can be satisfied, if there is one, is the length of a run, and every other run of the model has at least as many
+-- steps; if there is none, every run has more than 64.
+pub emitted-shortest : (room : ℕ → ℕ) (m : Model) (e : (k : ℕ) → k ≤ 64 → Emitted (callsWith room m) k) → EmittedShortest (callsWith room m) e
+emitted-shortest = CallProofs.shortest
+
+-- ---- the calls for C on a text
+-- On a text that is read they answer and leave what the calls on the record read answer and leave.
+pub text-calls : (t : List ℕ) → IsRead t → textCalls t ≡ recordCalls (textModel t)
+text-calls = Texts.read-calls
+
+-- A text that is read, a bound up to 64 and a buffer for the list's words give an accepted emission, and only a text that is read gives one.
+pub text-emits : (t : List ℕ) → IsRead t → (k : ℕ) → k ≤ 64 → (old : List ℤ) → length (words (textModel t) k) ≤ length old → Emitted (textCalls t) k
+text-emits = Texts.text-emits
+
+pub text-read : (t : List ℕ) (k : ℕ) → Emitted (textCalls t) k → IsRead t
+text-read = Texts.emitted-read
+
+-- So all of this holds of every text.
+pub text-words : (t : List ℕ) (k : ℕ) (e : Emitted (textCalls t) k) → EmittedWords (textCalls t) k e
+text-words = Texts.text-words
+
+pub text-demand-2 : (t : List ℕ) (k : ℕ) (e : Emitted (textCalls t) k) → EmittedDemand2 (textCalls t) k e
+text-demand-2 = Texts.text-2
+
+pub text-demand-3 : (t : List ℕ) (j k : ℕ) (d : Emitted (textCalls t) j) (e : Emitted (textCalls t) k) → j ≤ k → EmittedDemand3 (textCalls t) j k d e
+text-demand-3 = Texts.text-3
+
+pub text-shortest : (t : List ℕ) (e : (k : ℕ) → k ≤ 64 → Emitted (textCalls t) k) → EmittedShortest (textCalls t) e
+text-shortest = Texts.text-shortest
+
+-- No call for C answers 20.
+pub never-20 : Never20
+never-20 = Texts.never-20
+
+-- ---- the rows
+-- P1 to P10, and the lists of the small models: every row holds.
+pub all-rows : T allRowsHold
+all-rows = Rows.all-rows
+
+-- The small models are what their texts say.
+pub row-texts : RowTexts
+row-texts = Texts.row-texts
+
+-- The theorems are not empty: logger model B is well formed, its list for 3 steps is emitted, and by demand 2 the emitted words can be satisfied.
+pub B-formed : T (wellFormed modelB)
+B-formed = Sample.B-formed
+
+pub B-solvable : (e : Emitted (recordCalls modelB) 3) × ListSolvable e
+B-solvable = (Sample.B-emitted, Sample.B-solvable)

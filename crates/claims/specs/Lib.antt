@@ -1,0 +1,6 @@
+pub mod Words
+pub mod Calls
+pub mod RowModels
+pub mod RowWords
+pub mod Texts
+pub mod Cases
