@@ -1,12 +1,10 @@
+-- `counted`, by the kind of answer: what `sizes` says at its numbers.
 use mathlib.Core.Path.{ap}
 use Rattle.sizing.specs.SizeCall.{sizeTold}
 use Rattle.capi.proofs.CallLaws.{counted-is}
 use borrow.Author.Needs.{needs}
 use Rattle.capi.proofs.counted.Statement.{statement}
 use Rattle.capi.proofs.counted.Tie as tie
-use Rattle.capi.proofs.counted.Reads as reads
-use Rattle.capi.proofs.counted.Lts as lts
-use Rattle.capi.proofs.sizes.Reads as sizes-reads
 
 enum-told : tie.Need-enum-told
 enum-told c = search needs
@@ -36,15 +34,4 @@ returns-3 : tie.Need-returns-3
 returns-3 c = counted-is (c .before .before .c .given .1) (ap sizeTold (c .sizes3 .ensures))
 
 pub counted-spec : {M : Type 1} → statement M
-counted-spec =
-    tie.close
-    (tie.spec
-    enum-told
-    sizes-requires
-    enum-told-2
-    sizes-requires-2
-    enum-known-c
-    sizes-requires-3
-    returns
-    returns-2
-    returns-3)
+counted-spec = tie.close (tie.spec enum-told sizes-requires enum-told-2 sizes-requires-2 enum-known-c sizes-requires-3 returns returns-2 returns-3)

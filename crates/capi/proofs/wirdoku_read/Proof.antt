@@ -1,15 +1,10 @@
+-- `wirdoku_read`: number and line of the reader's outcome.
 use Rattle.capi.specs.TextCall.{textReport, answerTold}
 use Rattle.model.specs.Refusal.{refusal}
 use mathlib.Core.Path.{ap, _∙_}
 use borrow.Author.Needs.{needs}
 use Rattle.capi.proofs.wirdoku_read.Statement.{statement}
 use Rattle.capi.proofs.wirdoku_read.Tie as tie
-use Rattle.capi.proofs.wirdoku_read.Reads as reads
-use Rattle.capi.proofs.wirdoku_read.Lts as lts
-use Rattle.capi.proofs.told.Reads as told-reads
-use Rattle.text.proofs.ReadOutcome.line.Reads as line-reads
-use Rattle.text.proofs.ReadOutcome.number.Reads as number-reads
-use Rattle.text.proofs.read_model.Reads as read-model-reads
 
 read-model-requires : tie.Need-read-model-requires
 read-model-requires c κs = search needs
@@ -24,7 +19,9 @@ told-requires : tie.Need-told-requires
 told-requires c κs = search needs
 
 returns : tie.Need-returns
-returns c = ap answerTold (c .told .ensures) ∙ (λ i. refusal (c .before .before .number .ensures i) (c .before .line .ensures i)) ∙ ap textReport (c .before .before .before .read-model .ensures)
+returns c =
+    ap answerTold (c .told .ensures) ∙ (λ i. refusal (c .before .before .number .ensures i) (c .before .line .ensures i))
+    ∙ ap textReport (c .before .before .before .read-model .ensures)
 
 pub wirdoku-read-spec : {M : Type 1} → statement M
 wirdoku-read-spec =

@@ -1,3 +1,4 @@
+-- `wirdoku_run_to_assignment`: the reader's refusal with the buffer unchanged, or what `run_to_assignment` answers and leaves.
 use Rattle.encode.specs.EncodeCall.{encodeReport, encodeLeft}
 use Rattle.capi.specs.TextCall.{answerTold}
 use Rattle.model.specs.Refusal.{refusal}
@@ -10,15 +11,6 @@ use Rattle.text.proofs.Calls.{refused-text, read-text}
 use borrow.Author.Needs.{needs}
 use Rattle.capi.proofs.wirdoku_run_to_assignment.Statement.{statement}
 use Rattle.capi.proofs.wirdoku_run_to_assignment.Tie as tie
-use Rattle.capi.proofs.wirdoku_run_to_assignment.Reads as reads
-use Rattle.capi.proofs.wirdoku_run_to_assignment.Lts as lts
-use Rattle.capi.proofs.told.Reads as told-reads
-use Rattle.encode.proofs.EncodeAnswer.number.Reads as EncodeAnswer-number-reads
-use Rattle.encode.proofs.EncodeAnswer.place.Reads as place-reads
-use Rattle.encode.proofs.run_to_assignment.Reads as run-to-assignment-reads
-use Rattle.text.proofs.ReadOutcome.line.Reads as line-reads
-use Rattle.text.proofs.ReadOutcome.number.Reads as ReadOutcome-number-reads
-use Rattle.text.proofs.read_model.Reads as read-model-reads
 
 read-model-requires : tie.Need-read-model-requires
 read-model-requires c κs = search needs
@@ -33,7 +25,24 @@ told-requires : tie.Need-told-requires
 told-requires c κs = search needs
 
 returns : tie.Need-returns
-returns c = (ap answerTold (c .told .ensures) ∙ refused-text (λ (m : Model). encodeReport m (now (c .before .before .before .before .before .before .before .before .args .run)) (length (now (c .before .before .before .before .before .before .before .before .args .assignment)))) refusal (now (c .before .before .before .before .before .before .before .before .args .text)) (c .before .before .before .before .read-model .result) (c .before .before .before .before .read-model .ensures) (c .before .before .before .number .result) (c .before .before .before .number .ensures) (c .before .before .if1 .taken) _ (c .before .line .ensures), refused-text (λ (m : Model). encodeLeft m (now (c .before .before .before .before .before .before .before .before .args .run)) (now (c .before .before .before .before .before .before .before .before .args .assignment))) (λ (n l : ℕ). now (c .before .before .before .before .before .before .before .before .args .assignment)) (now (c .before .before .before .before .before .before .before .before .args .text)) (c .before .before .before .before .read-model .result) (c .before .before .before .before .read-model .ensures) (c .before .before .before .number .result) (c .before .before .before .number .ensures) (c .before .before .if1 .taken) _ (c .before .line .ensures))
+returns c =
+    let at-number = c .before .before .before in
+    let line-ensures = c .before .line .ensures in
+    let number = at-number .number in
+    let if1-taken = c .before .before .if1 .taken in
+    let read-model = at-number .before .read-model in
+    let number-result = number .result in
+    let number-ensures = number .ensures in
+    let args = at-number .before .before .before .before .before .args in
+    let assignment = args .assignment in
+    let run = args .run in
+    let text = args .text in (
+      ap answerTold (c .told .ensures)
+          ∙ refused-text (λ (m : Model). encodeReport m (now run) (length (now assignment))) refusal (now text) (read-model .result) (read-model .ensures)
+          number-result number-ensures if1-taken _ line-ensures,
+      refused-text (λ (m : Model). encodeLeft m (now run) (now assignment)) (λ (n l : ℕ). now assignment) (now text) (read-model .result)
+          (read-model .ensures) number-result number-ensures if1-taken _ line-ensures,
+    )
 
 run-to-assignment-requires : tie.Need-run-to-assignment-requires
 run-to-assignment-requires c κs = search needs
@@ -54,21 +63,28 @@ same-length : tie.Need-same-length
 same-length c = search needs
 
 returns-2 : tie.Need-returns-2
-returns-2 c = (ap answerTold (c .told2 .ensures) ∙ (λ i. refusal (c .before .before .number2 .ensures i) (c .before .place .ensures i)) ∙ (c .before .before .before .before .before .run-to-assignment .ensures .0) ∙ read-text (λ (m : Model). encodeReport m (now (c .before .before .before .before .before .before .before .before .before .before .before .before .before .before .args .run)) (length (now (c .before .before .before .before .before .before .before .before .before .before .before .before .before .before .args .assignment)))) refusal (now (c .before .before .before .before .before .before .before .before .before .before .before .before .before .before .args .text)) (c .before .before .before .before .before .before .before .before .before .before .read-model .result) (c .before .before .before .before .before .before .before .before .before .before .read-model .ensures) (c .before .before .before .before .before .before .before .before .before .number .result) (c .before .before .before .before .before .before .before .before .before .number .ensures) (c .before .before .before .before .before .before .before .before .if1 .left), (c .before .before .before .before .before .run-to-assignment .ensures .1) ∙ read-text (λ (m : Model). encodeLeft m (now (c .before .before .before .before .before .before .before .before .before .before .before .before .before .before .args .run)) (now (c .before .before .before .before .before .before .before .before .before .before .before .before .before .before .args .assignment))) (λ (n l : ℕ). now (c .before .before .before .before .before .before .before .before .before .before .before .before .before .before .args .assignment)) (now (c .before .before .before .before .before .before .before .before .before .before .before .before .before .before .args .text)) (c .before .before .before .before .before .before .before .before .before .before .read-model .result) (c .before .before .before .before .before .before .before .before .before .before .read-model .ensures) (c .before .before .before .before .before .before .before .before .before .number .result) (c .before .before .before .before .before .before .before .before .before .number .ensures) (c .before .before .before .before .before .before .before .before .if1 .left))
+returns-2 c =
+    let run-to-assignment-ensures = c .before .before .before .before .before .run-to-assignment .ensures in
+    let at-if1 = c .before .before .before .before .before .before .before .before in
+    let number = at-if1 .before .number in
+    let if1-left = at-if1 .if1 .left in
+    let read-model = at-if1 .before .before .read-model in
+    let number-result = number .result in
+    let number-ensures = number .ensures in
+    let args = at-if1 .before .before .before .before .before .before .args in
+    let assignment = args .assignment in
+    let run = args .run in
+    let text = args .text in (
+      ap answerTold (c .told2 .ensures) ∙ (λ i. refusal (c .before .before .number2 .ensures i) (c .before .place .ensures i))
+          ∙ (run-to-assignment-ensures .0)
+          ∙ read-text (λ (m : Model). encodeReport m (now run) (length (now assignment))) refusal (now text) (read-model .result) (read-model .ensures)
+          number-result number-ensures if1-left,
+      (run-to-assignment-ensures .1)
+          ∙ read-text (λ (m : Model). encodeLeft m (now run) (now assignment)) (λ (n l : ℕ). now assignment) (now text) (read-model .result)
+          (read-model .ensures) number-result number-ensures if1-left,
+    )
 
 pub wirdoku-run-to-assignment-spec : {M : Type 1} → statement M
 wirdoku-run-to-assignment-spec =
-    tie.close
-    (tie.spec
-    read-model-requires
-    number-requires
-    line-requires
-    told-requires
-    returns
-    run-to-assignment-requires
-    number-requires-2
-    place-requires
-    cast-told
-    told-requires-2
-    same-length
-    returns-2)
+    tie.close (tie.spec read-model-requires number-requires line-requires told-requires returns run-to-assignment-requires number-requires-2 place-requires
+    cast-told told-requires-2 same-length returns-2)

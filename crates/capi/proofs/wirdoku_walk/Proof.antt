@@ -1,3 +1,4 @@
+-- `wirdoku_walk`: the reader's refusal, or the walker's verdict.
 use Rattle.walk.specs.Walker.{walkReport}
 use Rattle.capi.specs.TextCall.{answerTold}
 use Rattle.model.specs.Refusal.{refusal}
@@ -8,15 +9,6 @@ use Rattle.text.proofs.Calls.{refused-text, read-text}
 use borrow.Author.Needs.{needs}
 use Rattle.capi.proofs.wirdoku_walk.Statement.{statement}
 use Rattle.capi.proofs.wirdoku_walk.Tie as tie
-use Rattle.capi.proofs.wirdoku_walk.Reads as reads
-use Rattle.capi.proofs.wirdoku_walk.Lts as lts
-use Rattle.capi.proofs.told.Reads as told-reads
-use Rattle.text.proofs.ReadOutcome.line.Reads as line-reads
-use Rattle.text.proofs.ReadOutcome.number.Reads as ReadOutcome-number-reads
-use Rattle.text.proofs.read_model.Reads as read-model-reads
-use Rattle.walk.proofs.Verdict.number.Reads as Verdict-number-reads
-use Rattle.walk.proofs.Verdict.place.Reads as place-reads
-use Rattle.walk.proofs.walk.Reads as walk-reads
 
 read-model-requires : tie.Need-read-model-requires
 read-model-requires c κs = search needs
@@ -31,7 +23,14 @@ told-requires : tie.Need-told-requires
 told-requires c κs = search needs
 
 returns : tie.Need-returns
-returns c = ap answerTold (c .told .ensures) ∙ refused-text (λ (m : Model). walkReport m (now (c .before .before .before .before .before .before .before .args .run))) refusal (now (c .before .before .before .before .before .before .before .args .text)) (c .before .before .before .before .read-model .result) (c .before .before .before .before .read-model .ensures) (c .before .before .before .number .result) (c .before .before .before .number .ensures) (c .before .before .if1 .taken) _ (c .before .line .ensures)
+returns c =
+    let at-number = c .before .before .before in
+    let number = at-number .number in
+    let read-model = at-number .before .read-model in
+    let args = at-number .before .before .before .before .args in
+    ap answerTold (c .told .ensures)
+    ∙ refused-text (λ (m : Model). walkReport m (now (args .run))) refusal (now (args .text)) (read-model .result) (read-model .ensures) (number .result)
+    (number .ensures) (c .before .before .if1 .taken) _ (c .before .line .ensures)
 
 walk-requires : tie.Need-walk-requires
 walk-requires c κs = search needs
@@ -49,20 +48,17 @@ told-requires-2 : tie.Need-told-requires-2
 told-requires-2 c κs = search needs
 
 returns-2 : tie.Need-returns-2
-returns-2 c = ap answerTold (c .told2 .ensures) ∙ (λ i. refusal (c .before .before .number2 .ensures i) (c .before .place .ensures i)) ∙ (c .before .before .before .walk .ensures) ∙ read-text (λ (m : Model). walkReport m (now (c .before .before .before .before .before .before .before .before .before .before .args .run))) refusal (now (c .before .before .before .before .before .before .before .before .before .before .args .text)) (c .before .before .before .before .before .before .before .read-model .result) (c .before .before .before .before .before .before .before .read-model .ensures) (c .before .before .before .before .before .before .number .result) (c .before .before .before .before .before .before .number .ensures) (c .before .before .before .before .before .if1 .left)
+returns-2 c =
+    let at-if1 = c .before .before .before .before .before in
+    let number = at-if1 .before .number in
+    let read-model = at-if1 .before .before .read-model in
+    let args = at-if1 .before .before .before .before .before .args in
+    ap answerTold (c .told2 .ensures) ∙ (λ i. refusal (c .before .before .number2 .ensures i) (c .before .place .ensures i))
+    ∙ (c .before .before .before .walk .ensures)
+    ∙ read-text (λ (m : Model). walkReport m (now (args .run))) refusal (now (args .text)) (read-model .result) (read-model .ensures) (number .result)
+    (number .ensures) (at-if1 .if1 .left)
 
 pub wirdoku-walk-spec : {M : Type 1} → statement M
 wirdoku-walk-spec =
-    tie.close
-    (tie.spec
-    read-model-requires
-    number-requires
-    line-requires
-    told-requires
-    returns
-    walk-requires
-    number-requires-2
-    place-requires
-    cast-told
-    told-requires-2
-    returns-2)
+    tie.close (tie.spec read-model-requires number-requires line-requires told-requires returns walk-requires number-requires-2 place-requires cast-told
+    told-requires-2 returns-2)
