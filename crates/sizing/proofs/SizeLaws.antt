@@ -19,13 +19,16 @@ use Rattle.text.specs.declared.ReadAnswer.{ReadAnswer}
 use Rattle.text.proofs.Calls.{refused-text, read-text}
 use Rattle.text.specs.declared.BoundRead.{BoundRead}
 use Rattle.text.specs.declared.BoundRead.the-variants.{NotABound, Bound}
-use Rattle.emission.specs.EmitCall.{emitReport, emitLeft, emitTold}
+use Rattle.emission.specs.EmitCall.{emitReport, emitLeft, emitTold, emitReported}
 use Rattle.emission.specs.declared.Emission.{Emission}
 use Rattle.sizing.specs.SizeCall.{SizeReport, refusedSizes, emittedSizes, textSizes, textLeft, boundSizes, boundLeft, sizeReport, sizeLeft}
 
--- ---- emission's answer
-pub told-is : {e f : Emission} → e ≡ f → {r : SizeReport} → r ≡ emittedSizes (emitTold f) → r ≡ emittedSizes (emitTold e)
-told-is q p = p ∙ ap (λ (x : Emission). emittedSizes (emitTold x)) (sym q)
+-- ---- emission's answer e, of the case f, with the number that it was asked for
+pub told-is : {e f : Emission} → e ≡ f → {n v c w : ℕ} → n ≡ emitTold e .number → emitReported (emitTold f .number) v c w ≡ emitTold f → {r : SizeReport}
+    → r ≡ emittedSizes (emitReported n v c w) → r ≡ emittedSizes (emitTold e)
+told-is q {v} {c} {w} h s p =
+    p ∙ ap (λ (k : ℕ). emittedSizes (emitReported k v c w)) (h ∙ ap (λ (x : Emission). emitTold x .number) q) ∙ ap emittedSizes s
+    ∙ ap (λ (x : Emission). emittedSizes (emitTold x)) (sym q)
 
 -- ---- the text
 module _ (t : List ℕ) (a : ReadAnswer) (is : readTold a ≡ readReport t) (k : ℕ) (out : List ℤ) (n : ℕ) (number : n ≡ outcomeNumber (a .outcome)) where

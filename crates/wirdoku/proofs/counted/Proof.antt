@@ -1,10 +1,13 @@
 -- `counted`, by the kind of answer: what `sizes` says at its numbers.
-use mathlib.Core.Path.{ap}
+use mathlib.Core.Path.{refl, ap}
 use Rattle.sizing.specs.SizeCall.{sizeTold}
 use Rattle.wirdoku.proofs.CallLaws.{counted-is}
 use borrow.Author.Needs.{needs}
 use Rattle.wirdoku.proofs.counted.Statement.{statement}
 use Rattle.wirdoku.proofs.counted.Tie as tie
+
+number-requires : tie.Need-number-requires
+number-requires c κs = search needs
 
 enum-told : tie.Need-enum-told
 enum-told c = search needs
@@ -25,13 +28,13 @@ sizes-requires-3 : tie.Need-sizes-requires-3
 sizes-requires-3 c κs = search needs
 
 returns : tie.Need-returns
-returns c = counted-is (c .before .enum-told .given .1) (ap sizeTold (c .sizes .ensures))
+returns c = counted-is (c .before .enum-told .given .1) (c .before .before .before .number .ensures) refl (ap sizeTold (c .sizes .ensures))
 
 returns-2 : tie.Need-returns-2
-returns-2 c = counted-is (c .before .enum-told2 .given .1) (ap sizeTold (c .sizes2 .ensures))
+returns-2 c = counted-is (c .before .enum-told2 .given .1) (c .before .before .before .number .ensures) refl (ap sizeTold (c .sizes2 .ensures))
 
 returns-3 : tie.Need-returns-3
-returns-3 c = counted-is (c .before .before .c .given .1) (ap sizeTold (c .sizes3 .ensures))
+returns-3 c = counted-is (c .before .before .c .given .1) (c .before .before .before .before .number .ensures) refl (ap sizeTold (c .sizes3 .ensures))
 
 pub counted-spec : {M : Type 1} → statement M
-counted-spec = tie.close (tie.spec enum-told sizes-requires enum-told-2 sizes-requires-2 enum-known-c sizes-requires-3 returns returns-2 returns-3)
+counted-spec = tie.close (tie.spec number-requires enum-told sizes-requires enum-told-2 sizes-requires-2 enum-known-c sizes-requires-3 returns returns-2 returns-3)
