@@ -29,10 +29,10 @@ use Rattle.counts.specs.CountsCall.{listReport, listReported}
 use Rattle.emission.specs.EmitCall.{emitReport, emitReported, emitLeft}
 use Rattle.text.specs.bytes.Ascii.{ascii}
 use Rattle.text.specs.bytes.Bytes.{firstAt, startsWith, isDue, valueOf, numberOf, digitsOf, splitOn, isHyphen, itemsOf}
-use Rattle.text.specs.bytes.declared.NumberRead.{NumberRead}
-use Rattle.text.specs.bytes.declared.NumberRead.the-variants.{Malformed, Number}
+use Rattle.text.specs.declared.bytes.NumberRead.{NumberRead}
+use Rattle.text.specs.declared.bytes.NumberRead.the-variants.{Malformed, Number}
 use Rattle.text.specs.bytes.Faulty.{faultNumber, lineNumber, anyOf, risesFrom}
-use Rattle.text.specs.bytes.declared.Faults.{Faults}
+use Rattle.text.specs.declared.bytes.Faults.{Faults}
 use Rattle.text.specs.atoms.Atoms.{relationAt, atomOf, atomFaults, atomSlots, invItems, whenItems}
 use Rattle.text.specs.updates.Sets.{sumOf, setTo, setOf, setFaults, updateSlots, setItems}
 use Rattle.text.specs.resets.Resets.{resetOf, resetFaults, resetSlots, resetItems}
