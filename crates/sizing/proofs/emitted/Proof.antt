@@ -46,5 +46,7 @@ returns-4 c = told-is (c .before .before .e2 .given .1) (c .before .before .befo
 
 pub emitted-spec : {M : Type 1} → statement M
 emitted-spec =
-    tie.close (tie.spec number-requires enum-told told-requires enum-told-2 told-requires-2 enum-known-e told-requires-3 enum-known-e-2 told-requires-4 returns returns-2
+    tie.close
+    (tie.spec number-requires enum-told told-requires enum-told-2 told-requires-2 enum-known-e told-requires-3 enum-known-e-2 told-requires-4 returns
+    returns-2
     returns-3 returns-4)

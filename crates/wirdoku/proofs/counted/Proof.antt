@@ -37,4 +37,5 @@ returns-3 : tie.Need-returns-3
 returns-3 c = counted-is (c .before .before .c .given .1) (c .before .before .before .before .number .ensures) refl (ap sizeTold (c .sizes3 .ensures))
 
 pub counted-spec : {M : Type 1} → statement M
-counted-spec = tie.close (tie.spec number-requires enum-told sizes-requires enum-told-2 sizes-requires-2 enum-known-c sizes-requires-3 returns returns-2 returns-3)
+counted-spec =
+    tie.close (tie.spec number-requires enum-told sizes-requires enum-told-2 sizes-requires-2 enum-known-c sizes-requires-3 returns returns-2 returns-3)
