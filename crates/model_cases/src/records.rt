@@ -68,8 +68,8 @@ fn atom(sort: u8, index: u8, relate: u8, constant: u8) -> AtomSlot {
     }
 }
 
-// -32 to 32.
-const OFFSETS: [i8; 65] = [
+// -32 to 32, then numbers far outside the range of an offset.
+const OFFSETS: [i8; 69] = [
     -32,
     -31,
     -30,
@@ -135,11 +135,15 @@ const OFFSETS: [i8; 65] = [
     30,
     31,
     32,
+    -128,
+    -33,
+    33,
+    127,
 ];
 
-// sort number offset: keep, a constant, or a source plus an offset, written 32 above.
+// sort number offset: keep, a constant, or a source plus an offset, by its index.
 fn update(sort: u8, n: u8, raised: u8) -> UpdateSlot {
-    let offset = OFFSETS[(raised % 65) as usize];
+    let offset = OFFSETS[(raised % 69) as usize];
     match sort {
         0 => UpdateSlot {
             update: Update::Keep,

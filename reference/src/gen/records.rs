@@ -100,7 +100,7 @@ fn update(rng: &mut Rng) -> Update {
     match rng.below(3) {
         0 => Update::Keep,
         1 => Update::Constant(number(rng)),
-        _ => Update::Sum { source: number(rng), offset: rng.pick(&[-128, -32, -31, -1, 0, 1, 31, 32, 127]) },
+        _ => Update::Sum { source: number(rng), offset: rng.pick(&[-128, -33, -32, -31, -1, 0, 1, 31, 32, 33, 127]) },
     }
 }
 

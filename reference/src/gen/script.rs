@@ -6,7 +6,8 @@
 //! `3 L K ATOM` an atom of an invariant; `4 E FROM TO` an edge's ends; `5 E K ATOM`
 //! an atom of a guard; `6 E K UPDATE` an update; `7 E K R` a reset. An atom is
 //! its sort (0 none, 1 clock, 2 counter), index, relation and constant; an update
-//! its sort (0 keep, 1 constant, 2 sum), number and offset plus 32. Questions:
+//! its sort (0 keep, 1 constant, 2 sum), number and offset plus 32, where 65 to 68
+//! stand for the offsets -128, -33, 33 and 127. Questions:
 //! `10` refusal; `11` refusal and ceiling; `12 BOUND` refusal, S, H, N; `13 RUN`
 //! refusal and place; `14 STATE BYTE` refusal and state; `15 BOUND` refusal and
 //! totals of the list; `16 BOUND HIGH LOW` the same for an emission of at most
@@ -76,7 +77,7 @@ fn push_line(text: &mut String, numbers: &[u32]) {
 }
 
 /// The script of a seed; nothing but its first line where an update's offset
-/// lies outside -32 to 32.
+/// cannot be written.
 pub fn script(seed: u64) -> Script {
     let mut rng = Rng::new(seed);
     let mut script = Script::default();
@@ -194,12 +195,12 @@ fn ask_decoding(rng: &mut Rng, script: &mut Script) {
 /// The lines that make the record from the blank model; tells whether all of it
 /// can be written.
 fn build(model: &Model, script: &mut Script) -> bool {
-    let offsets = model.edge.iter().flat_map(|edge| edge.updates);
+    let mut updates = model.edge.iter().flat_map(|edge| edge.updates);
     let written = |update: Update| match update {
-        Update::Sum { offset, .. } => (-32..=32).contains(&offset),
+        Update::Sum { offset, .. } => raised(offset).is_some(),
         Update::Keep | Update::Constant(_) => true,
     };
-    if !offsets.into_iter().all(written) {
+    if !updates.all(written) {
         return false;
     }
     script.tell(&[0, 0]);
@@ -241,6 +242,15 @@ fn build_atoms(line: u32, index: usize, atoms: &[Atom], script: &mut Script) {
     }
 }
 
+/// The number that stands for an offset; none for one that cannot be written.
+fn raised(offset: i8) -> Option<u32> {
+    const FAR: [i8; 4] = [-128, -33, 33, 127];
+    match offset {
+        -32..=32 => Some((i32::from(offset) + 32) as u32),
+        _ => FAR.iter().position(|far| *far == offset).map(|index| 65 + index as u32),
+    }
+}
+
 fn build_edge(e: usize, edge: &Edge, script: &mut Script) {
     if *edge == Edge::BLANK {
         return;
@@ -252,7 +262,7 @@ fn build_edge(e: usize, edge: &Edge, script: &mut Script) {
         let (sort, number, raised) = match *update {
             Update::Keep => continue,
             Update::Constant(constant) => (1, constant, 0),
-            Update::Sum { source, offset } => (2, source, (i32::from(offset) + 32) as u32),
+            Update::Sum { source, offset } => (2, source, raised(offset).unwrap_or_default()),
         };
         script.tell(&[6, e32, k as u32, sort, u32::from(number), raised]);
     }
