@@ -61,12 +61,12 @@ fn put_group(n: usize, d: usize, out: &mut [u8], at: usize) -> usize
     requires { ⌜ Room (oneHot n d) (now out) at ⌝ }
     ensures { λ r. ⌜ Wrote (oneHot n d) (now (out .entry)) (now (out .exit)) at r ⌝ }
 {
-    let mut o = at;
+    let mut end = at;
     for v in 0..n {
-        out[o] = mark(v, d);
-        o += 1;
+        out[end] = mark(v, d);
+        end += 1;
     }
-    o
+    end
 }
 
 // The groups of the counters that show `values`.
@@ -80,12 +80,12 @@ fn put_counters(
     requires { ⌜ (vars ≤ 4) × Room (each vars (counterBytes counters values)) (now out) at ⌝ }
     ensures { λ r. ⌜ Wrote (each vars (counterBytes counters values)) (now (out .entry)) (now (out .exit)) at r ⌝ }
 {
-    let mut o = at;
+    let mut end = at;
     for i in 0..vars as usize {
         let c = counters[i];
-        o = put_group(c.greatest as usize + 1, values[i] as usize, out, o);
+        end = put_group(c.greatest as usize + 1, values[i] as usize, out, end);
     }
-    o
+    end
 }
 
 // The groups of the clocks that show `values` under the ceiling `top`.
@@ -99,11 +99,11 @@ fn put_clocks(
     requires { ⌜ (clocks ≤ 4) × (top ≤ 256) × Room (each clocks (clockBytes top values)) (now out) at ⌝ }
     ensures { λ r. ⌜ Wrote (each clocks (clockBytes top values)) (now (out .entry)) (now (out .exit)) at r ⌝ }
 {
-    let mut o = at;
+    let mut end = at;
     for i in 0..clocks as usize {
-        o = put_group(top + 1, values[i] as usize, out, o);
+        end = put_group(top + 1, values[i] as usize, out, end);
     }
-    o
+    end
 }
 
 // The block of a state.
@@ -136,15 +136,15 @@ fn put_steps(m: Model, first: State, run: &[u8], out: &mut [u8], at: usize) -> u
     let z = m.sizes();
     let top = z.ceiling as u8;
     let mut s = first;
-    let mut o = at;
+    let mut end = at;
     for t in 0..run.len() {
         let byte = run[t];
         let stepped = advance(m, top, s, byte);
         let next = stepped.state;
-        o = put_step(m, z, byte, next, out, o);
+        end = put_step(m, z, byte, next, out, end);
         s = next;
     }
-    o
+    end
 }
 
 // The assignment of a run that can be walked from the initial state.

@@ -46,7 +46,7 @@ pub struct GroupTable {
     pub groups: usize,
     pub first: [u16; 9],
     pub size: [u16; 9],
-    pub counters: [Counter; 4],
+    pub counters: [Counter; Model::COUNTERS],
     pub vars: usize,
     pub top: u8,
     pub state: usize,

@@ -11,10 +11,10 @@ use Rattle.encode.proofs.put_clocks.Statement.{statement}
 use Rattle.encode.proofs.put_clocks.Tie as tie
 
 abbrev Inv-loop : tie.InvT-loop
-Inv-loop clocks top out₀ at values o₀ i₀ i-end out o i = (i ≤ i-end) × (i-end ≡ clocks) × Wrote (each i (clockBytes top values)) out₀ out at o
+Inv-loop clocks top out₀ at values end₀ i₀ i-end out end i = (i ≤ i-end) × (i-end ≡ clocks) × Wrote (each i (clockBytes top values)) out₀ out at end
 
 abbrev μ-loop : tie.MeasureT-loop
-μ-loop clocks top out₀ at values o₀ i₀ i-end out o i = i-end - i
+μ-loop clocks top out₀ at values end₀ i₀ i-end out end i = i-end - i
 
 loop-holds : tie.Need-loop-holds Inv-loop μ-loop
 loop-holds c = (search needs, refl, wrote-each-none _ _ _ (omega (arith, c .before .pre .2 .room)))

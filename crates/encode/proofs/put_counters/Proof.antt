@@ -11,10 +11,10 @@ use Rattle.encode.proofs.put_counters.Statement.{statement}
 use Rattle.encode.proofs.put_counters.Tie as tie
 
 abbrev Inv-loop : tie.InvT-loop
-Inv-loop vars out₀ at counters values o₀ i₀ i-end out o i = (i ≤ i-end) × (i-end ≡ vars) × Wrote (each i (counterBytes counters values)) out₀ out at o
+Inv-loop vars out₀ at counters values end₀ i₀ i-end out end i = (i ≤ i-end) × (i-end ≡ vars) × Wrote (each i (counterBytes counters values)) out₀ out at end
 
 abbrev μ-loop : tie.MeasureT-loop
-μ-loop vars out₀ at counters values o₀ i₀ i-end out o i = i-end - i
+μ-loop vars out₀ at counters values end₀ i₀ i-end out end i = i-end - i
 
 loop-holds : tie.Need-loop-holds Inv-loop μ-loop
 loop-holds c = (search needs, refl, wrote-each-none _ _ _ (omega (arith, c .before .pre .1 .room)))

@@ -12,10 +12,10 @@ use Rattle.encode.proofs.put_group.Statement.{statement}
 use Rattle.encode.proofs.put_group.Tie as tie
 
 abbrev Inv-loop : tie.InvT-loop
-Inv-loop n d out₀ at o₀ v₀ out o v = (v ≤ n) × (o ≡ at + v) × (at + n ≤ length out₀) × Wrote (oneHot v d) out₀ out at o
+Inv-loop n d out₀ at end₀ v₀ out end v = (v ≤ n) × (end ≡ at + v) × (at + n ≤ length out₀) × Wrote (oneHot v d) out₀ out at end
 
 abbrev μ-loop : tie.MeasureT-loop
-μ-loop n d out₀ at o₀ v₀ out o v = n - v
+μ-loop n d out₀ at end₀ v₀ out end v = n - v
 
 loop-holds : tie.Need-loop-holds Inv-loop μ-loop
 loop-holds c =
@@ -29,8 +29,8 @@ mark-requires c κs = search needs
 slice-write-out : tie.Need-slice-write-out Inv-loop μ-loop
 slice-write-out c = search needs
 
-add-o : tie.Need-add-o Inv-loop μ-loop
-add-o c = search needs
+add-end : tie.Need-add-end Inv-loop μ-loop
+add-end c = search needs
 
 add-v : tie.Need-add-v Inv-loop μ-loop
 add-v c = search needs
@@ -51,4 +51,4 @@ returns c =
     rw done at (c .before .loop .inv .3)
 
 pub put-group-spec : {M : Type 1} → statement M
-put-group-spec = tie.close (tie.spec Inv-loop μ-loop loop-holds mark-requires slice-write-out add-o add-v loop-less loop-again same-length returns)
+put-group-spec = tie.close (tie.spec Inv-loop μ-loop loop-holds mark-requires slice-write-out add-end add-v loop-less loop-again same-length returns)

@@ -19,12 +19,12 @@ use Rattle.encode.proofs.put_steps.Statement.{statement}
 use Rattle.encode.proofs.put_steps.Tie as tie
 
 abbrev Inv-loop : tie.InvT-loop
-Inv-loop m run out₀ at z top s₀ o₀ t₀ t-end out s o t =
+Inv-loop m run out₀ at z top s₀ end₀ t₀ t-end out s end t =
     (t ≤ t-end) × (t-end ≡ length run) × KnownSizes m z × (top ≡ ceiling m) × (walk m s₀ (take t run) ≡ some s)
-    × Wrote (stepsBytes oneHot m s₀ (take t run)) out₀ out at o
+    × Wrote (stepsBytes oneHot m s₀ (take t run)) out₀ out at end
 
 abbrev μ-loop : tie.MeasureT-loop
-μ-loop m run out₀ at z top s₀ o₀ t₀ t-end out s o t = t-end - t
+μ-loop m run out₀ at z top s₀ end₀ t₀ t-end out s end t = t-end - t
 
 sizes-requires : tie.Need-sizes-requires Inv-loop μ-loop
 sizes-requires c κs = search needs
