@@ -3,9 +3,6 @@
 // 8,192 bytes is refused whatever it holds.
 use sizing::SizeAnswer;
 
-// The words that are lent.
-const WORDS: usize = 16384;
-
 fn line(key: &[u8], n: u64) {
     io::write_all(1, key);
     io::print_decimal(1, n);
@@ -23,6 +20,5 @@ fn show(a: SizeAnswer) {
 fn main() {
     let mut input = io::large_buffer();
     let n = io::read_full(0, &mut input);
-    let mut words = [0i32; WORDS];
-    show(sizing::sizes_of(&input[..n], &mut words));
+    show(sizing::program_sizes(&input[..n]));
 }

@@ -15,7 +15,7 @@ use Rattle.text.specs.declared.bytes.NumberRead.the-variants.{Malformed, Number
 use Rattle.text.proofs.Laws.Bytewise.{firstAt-le, numberOf-none}
 use Rattle.text.specs.Bound.{BoundReport, boundRefused, boundIn, boundReport, ifBound}
 use Rattle.text.specs.Text.{ReadReport, readReport, readRefused}
-use Rattle.sizing.specs.SizeCall.{refusedSizes, textSizes, boundSizes, sizeReport}
+use Rattle.sizing.specs.SizeCall.{refusedSizes, textSizes, boundSizes, sizeReport, programWords, programReport}
 
 -- ---- the first line of a cut input
 firstAt-cut : (b n : ℕ) (l : List ℕ) → firstAt b l < n → firstAt b (take n l) ≡ firstAt b l
@@ -150,3 +150,8 @@ cutting n t room enough = go (ltb n (length t)) refl
     go : (b : Bool) → ltb n (length t) ≡ b → sizeReport (take n t) room ≡ sizeReport t room
     go true e = cut-same n t room enough (ltb-true n (length t) e)
     go false e = ap (λ (l : List ℕ). sizeReport l room) (take-all n t (ltb-false n (length t) e))
+
+-- the same of the program's words
+pub program-cutting : (n : ℕ) (t : List ℕ) → 8202 < n → programReport (take n t) ≡ programReport t
+unfolding programReport
+program-cutting n t enough = cutting n t programWords enough

@@ -35,6 +35,13 @@ boundSizes b input room = ifBound b (λ bound next. textSizes (readReport (drop 
 unfoldable pub sizeReport : List ℕ → ℕ → SizeReport
 sizeReport input room = boundSizes (boundReport input) input room
 
+-- the program lends 16,384 words
+abbrev pub programWords : ℕ
+programWords = 16384
+
+unfoldable pub programReport : List ℕ → SizeReport
+programReport input = sizeReport input programWords
+
 -- the lent words: the list where it is written, else unchanged
 abbrev pub textLeft : ReadReport → ℕ → List ℤ → List ℤ
 textLeft t bound out = ifRead t (λ m. emitLeft m bound (length out) out) (λ number line. out)

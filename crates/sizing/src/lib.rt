@@ -2,15 +2,16 @@
 use emission::Emission;
 use emission::emit;
 use text::BoundRead;
-use text::read_bound;
+use text::ReadAnswer;
+use text::read_item;
 use text::read_model;
 ghost use mathlib.Core.Path.{_≡_};
 ghost use lib.ListN.{length};
 ghost use Rattle.emission.specs.EmitCall.{emitReported, emitTold};
-ghost use Rattle.text.specs.Text.{readReport};
-ghost use Rattle.sizing.specs.SizeCall.{refusedSizes, emittedSizes, textSizes, textLeft, sizeReport, sizeLeft, sizeTold};
+ghost use Rattle.text.specs.Text.{readReport, readTold};
+ghost use Rattle.sizing.specs.SizeCall.{refusedSizes, emittedSizes, textSizes, textLeft, sizeReport, sizeLeft, sizeTold, programReport};
 
-// The number of the refusal, or 0; the line of the model text, or 0; the totals of the list.
+// The number of the refusal, or 0; the line of the model text, or 0; the counts of the list.
 #[repr(C)]
 pub struct SizeAnswer {
     pub number: u8,
@@ -18,6 +19,11 @@ pub struct SizeAnswer {
     pub variables: usize,
     pub clauses: usize,
     pub words: usize,
+}
+
+impl SizeAnswer {
+    // The words that the size program lends.
+    pub const WORDS: usize = 16384;
 }
 
 fn refused(number: u8, line: usize) -> SizeAnswer
@@ -60,11 +66,10 @@ fn emitted(e: Emission) -> SizeAnswer
     }
 }
 
-// The text, then 21, then 22.
-pub fn text_sizes(text: &[u8], bound: usize, out: &mut [i32]) -> SizeAnswer
-    ensures { λ r. ⌜ (sizeTold r ≡ textSizes (readReport (now (text .entry))) bound (length (now (out .entry)))) × (now (out .exit) ≡ textLeft (readReport (now (text .entry))) bound (now (out .entry))) ⌝ }
+// What was read of a text, then 21, then 22.
+fn read_sizes(read: ReadAnswer, bound: usize, out: &mut [i32]) -> SizeAnswer
+    ensures { λ r. ⌜ (sizeTold r ≡ textSizes (readTold read) bound (length (now (out .entry)))) × (now (out .exit) ≡ textLeft (readTold read) bound (now (out .entry))) ⌝ }
 {
-    let read = read_model(text);
     let outcome = read.outcome;
     let number = outcome.number();
     if number != 0 {
@@ -74,14 +79,30 @@ pub fn text_sizes(text: &[u8], bound: usize, out: &mut [i32]) -> SizeAnswer
     emitted(emit(model, bound, out))
 }
 
+// The text, then 21, then 22.
+pub fn text_sizes(text: &[u8], bound: usize, out: &mut [i32]) -> SizeAnswer
+    ensures { λ r. ⌜ (sizeTold r ≡ textSizes (readReport (now (text .entry))) bound (length (now (out .entry)))) × (now (out .exit) ≡ textLeft (readReport (now (text .entry))) bound (now (out .entry))) ⌝ }
+{
+    read_sizes(read_model(text), bound, out)
+}
+
 // The bound line and the model text of `input`: 9, then the text, then 21, then 22.
 pub fn sizes_of(input: &[u8], out: &mut [i32]) -> SizeAnswer
     ensures { λ r. ⌜ sizeTold r ≡ sizeReport (now (input .entry)) (length (now (out .entry))) ⌝ }
     ensures { λ r. ⌜ now (out .exit) ≡ sizeLeft (now (input .entry)) (now (out .entry)) ⌝ }
 {
-    let first = read_bound(input);
+    let item = read_item(input);
+    let first = item.bound;
     match first {
         BoundRead::NotABound => refused(first.number(), 0),
-        BoundRead::Bound { bound, next } => text_sizes(&input[next..], bound as usize, out),
+        BoundRead::Bound { bound, next: _ } => read_sizes(item.text, bound as usize, out),
     }
+}
+
+// The size program's answer: `sizes_of`, with the program's words lent.
+pub fn program_sizes(input: &[u8]) -> SizeAnswer
+    ensures { λ r. ⌜ sizeTold r ≡ programReport (now (input .entry)) ⌝ }
+{
+    let mut words = [0i32; SizeAnswer::WORDS];
+    sizes_of(input, &mut words)
 }

@@ -1,4 +1,4 @@
--- A call on a text: a refused text, and a text that is read.
+-- A call on a text: a refused text, and a text that is read; the same of the answer alone.
 use Prim.Native.Nat.{ℕ}
 use mathlib.Core.Path.{_≡_, sym, ap, _∙_}
 use mathlib.Core.List.{List}
@@ -9,11 +9,7 @@ use Rattle.model.specs.declared.Model.{Model}
 use Rattle.text.specs.Text.{ReadReport, readReport, readTold, ifRead, outcomeNumber, outcomeLine}
 use Rattle.text.specs.declared.ReadAnswer.{ReadAnswer}
 
-module _ {A : Type 0} (call : Model → A) (refused : ℕ → ℕ → A) (t : List ℕ) (a : ReadAnswer) (is : readTold a ≡ readReport t) (n : ℕ)
-    (number : n ≡ outcomeNumber (a .outcome)) where
-  as-read : ifRead (readTold a) call refused ≡ ifRead (readReport t) call refused
-  as-read = ap (λ (x : ReadReport). ifRead x call refused) is
-
+module _ {A : Type 0} (call : Model → A) (refused : ℕ → ℕ → A) (a : ReadAnswer) (n : ℕ) (number : n ≡ outcomeNumber (a .outcome)) where
   if-refused : eqb (outcomeNumber (a .outcome)) 0 ≡ false → refused (outcomeNumber (a .outcome)) (outcomeLine (a .outcome)) ≡ ifRead (readTold a) call refused
   unfolding ifRead
   if-refused f = rw f
@@ -22,8 +18,21 @@ module _ {A : Type 0} (call : Model → A) (refused : ℕ → ℕ → A) (t : Li
   unfolding ifRead
   if-read f = rw f
 
+  -- of the answer
+  pub refused-told : (n ≡ 0 → ⊥) → (l : ℕ) → l ≡ outcomeLine (a .outcome) → refused n l ≡ ifRead (readTold a) call refused
+  refused-told ne l line = (λ i. refused (number i) (line i)) ∙ if-refused (ap (λ (x : ℕ). eqb x 0) (sym number) ∙ ne-eqb n 0 ne)
+
+  pub read-told : n ≡ 0 → call (a .model) ≡ ifRead (readTold a) call refused
+  read-told z = if-read (ap (λ (x : ℕ). eqb x 0) (sym number) ∙ eq-eqb n 0 z)
+
+-- of the text that it is the answer to
+module _ {A : Type 0} (call : Model → A) (refused : ℕ → ℕ → A) (t : List ℕ) (a : ReadAnswer) (is : readTold a ≡ readReport t) (n : ℕ)
+    (number : n ≡ outcomeNumber (a .outcome)) where
+  as-read : ifRead (readTold a) call refused ≡ ifRead (readReport t) call refused
+  as-read = ap (λ (x : ReadReport). ifRead x call refused) is
+
   pub refused-text : (n ≡ 0 → ⊥) → (l : ℕ) → l ≡ outcomeLine (a .outcome) → refused n l ≡ ifRead (readReport t) call refused
-  refused-text ne l line = (λ i. refused (number i) (line i)) ∙ if-refused (ap (λ (x : ℕ). eqb x 0) (sym number) ∙ ne-eqb n 0 ne) ∙ as-read
+  refused-text ne l line = refused-told call refused a n number ne l line ∙ as-read
 
   pub read-text : n ≡ 0 → call (a .model) ≡ ifRead (readReport t) call refused
-  read-text z = if-read (ap (λ (x : ℕ). eqb x 0) (sym number) ∙ eq-eqb n 0 z) ∙ as-read
+  read-text z = read-told call refused a n number z ∙ as-read

@@ -1,3 +1,4 @@
 pub mod Ends
+pub mod ItemLaws
 pub mod Calls
 pub mod Laws

@@ -6,3 +6,4 @@ pub mod resets
 pub mod lines
 pub mod Text
 pub mod Bound
+pub mod Item

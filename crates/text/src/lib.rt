@@ -4,10 +4,13 @@ use crate::bytes::NumberRead;
 use crate::lines::Reading;
 use model::Model;
 ghost use mathlib.Core.Path.{_≡_};
+ghost use Prim.Native.Nat.{_≤_};
+ghost use lib.ListN.{length, drop};
 ghost use Rattle.model.specs.Record.{blankModel};
-ghost use Rattle.text.specs.lines.Readings.{progress};
+ghost use Rattle.text.specs.lines.Readings.{progress, ReadsFrom};
 ghost use Rattle.text.specs.Text.{readEnded, readReport, readTold, Outcome, outcomeNumber, outcomeLine};
 ghost use Rattle.text.specs.Bound.{boundIn, boundReport, boundTold};
+ghost use Rattle.text.specs.Item.{itemReport, itemTold};
 
 mod atoms;
 mod bytes;
@@ -39,10 +42,16 @@ pub struct ReadAnswer {
     pub model: Model,
 }
 
-// The bound of the program's first line, and where the model text begins.
+// The bound of a bound line, and how many bytes after the line's start the model text begins.
 pub enum BoundRead {
     NotABound,
     Bound { bound: u16, next: usize },
+}
+
+// A bound line, and the model text that follows it.
+pub struct ItemRead {
+    pub bound: BoundRead,
+    pub text: ReadAnswer,
 }
 
 fn outcome(fault: LineFault, line: usize) -> ReadOutcome
@@ -142,6 +151,16 @@ impl BoundRead {
             BoundRead::Bound { bound: _, next: _ } => 0,
         }
     }
+
+    // How many bytes the line takes: 0 where there is none.
+    fn next(self) -> usize
+        ensures { λ n. ⌜ n ≡ boundTold self .next ⌝ }
+    {
+        match self {
+            BoundRead::NotABound => 0,
+            BoundRead::Bound { bound: _, next } => next,
+        }
+    }
 }
 
 fn bound_in(n: NumberRead, next: usize) -> BoundRead
@@ -153,15 +172,45 @@ fn bound_in(n: NumberRead, next: usize) -> BoundRead
     }
 }
 
-// The first line of a program's input: 9.
-pub fn read_bound(text: &[u8]) -> BoundRead
-    ensures { λ b. ⌜ boundTold b ≡ boundReport (now (text .entry)) ⌝ }
+// The bound line at a place of the text: 9.
+fn bound_at(text: &[u8], at: usize) -> BoundRead
+    ensures { λ b. ⌜ boundTold b ≡ boundReport (drop at (now (text .entry))) ⌝ }
 {
-    let d = line::due_at(text, 0, b"bound=");
+    let from = sequence::within(text, at);
+    let d = line::due_at(text, from, b"bound=");
     if !d.found {
         return BoundRead::NotABound;
     }
     let start = d.start;
     let end = d.end;
-    bound_in(bytes::number(&text[start..end]), end + 1)
+    bound_in(bytes::number(&text[start..end]), end + 1 - from)
+}
+
+// The first line of a program's input: 9.
+pub fn read_bound(text: &[u8]) -> BoundRead
+    ensures { λ b. ⌜ boundTold b ≡ boundReport (now (text .entry)) ⌝ }
+{
+    bound_at(text, 0)
+}
+
+// What the reading `r` from the place `at` on comes to: 1, then its lines, then 8.
+fn answered(text: &[u8], at: usize, r: Reading) -> ReadAnswer
+    requires { ⌜ (at ≤ length (now text)) × ReadsFrom (now text) at r ⌝ }
+    ensures { λ a. ⌜ readTold a ≡ readReport (drop at (now (text .entry))) ⌝ }
+{
+    if ReadAnswer::BYTES < text.len() - at {
+        return refused(ReadOutcome::TooLong);
+    }
+    ended(text, r)
+}
+
+// A bound line and the model text that follows it, read by one reader.
+pub fn read_item(input: &[u8]) -> ItemRead
+    ensures { λ r. ⌜ itemTold r ≡ itemReport (now (input .entry)) ⌝ }
+{
+    let item = reader::item_at(input, 0);
+    let bound = item.bound;
+    let reading = item.reading;
+    let text = answered(input, bound.next(), reading);
+    ItemRead { bound, text }
 }

@@ -23,7 +23,8 @@ fn unread(at: usize) -> Reading
     }
 }
 
-fn within(text: &[u8], at: usize) -> usize
+// The place, or the end for a place past it.
+pub fn within(text: &[u8], at: usize) -> usize
     ensures { λ r. ⌜ r ≡ min at (length (now (text .entry))) ⌝ }
 {
     let n = text.len();

@@ -18,7 +18,7 @@ use Rattle.text.specs.lines.Readings.{ReadsFrom}
 
 module _ (t : List ℕ) where
   -- a place past the end is the end
-  drop-within : (at : ℕ) → drop (min at (length t)) t ≡ drop at t
+  pub drop-within : (at : ℕ) → drop (min at (length t)) t ≡ drop at t
   drop-within at =
       ⊎-elim (λ l. let e : min at (length t) ≡ at = omega arith in rw e)
       (λ l. let e : min at (length t) ≡ length t = omega arith in ap (λ (n : ℕ). drop n t) e ∙ drop-length t ∙ sym (drop-of-length-le t l))
