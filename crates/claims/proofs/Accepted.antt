@@ -19,7 +19,7 @@ use Rattle.model.proofs.IndexedLaws.{T-true}
 use Rattle.list.specs.Clauses.{clauses, words}
 use Rattle.list.specs.Assignments.{firstFalse}
 use Rattle.walk.specs.Walker.{walkReport}
-use Rattle.encode.proofs.Reports.{walk-honest}
+use Rattle.walk.proofs.Accepts.{zero-accepted}
 use Rattle.decode.specs.DecodeCall.{firstWrongByte, decodeReport}
 use Rattle.emission.specs.EmitCall.{EmitReport, emitReported, emitReport, emitLeft}
 use Rattle.claims.specs.Calls.{Calls, callsWith, Accepts, Emitted, variablesTold, clausesTold, wordsLeft}
@@ -28,7 +28,7 @@ pub accepts-accepted : {x : Refusal} → x ≡ accepted → Accepts x
 accepts-accepted h = ap (λ (y : Refusal). y .number) h
 
 pub walk-accepted : (m : Model) (r : List ℕ) → Accepts (walkReport m r) → walkReport m r ≡ accepted
-walk-accepted m r h = walk-honest m r (eq-eqb (walkReport m r .number) 0 h)
+walk-accepted m r h = zero-accepted m r (eq-eqb (walkReport m r .number) 0 h)
 
 pub decode-accepted : (m : Model) (k : ℕ) (a : List ℕ) (n : ℕ) → Accepts (decodeReport m k a n) → decodeReport m k a n ≡ accepted
 unfolding decodeReport

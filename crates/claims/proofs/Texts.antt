@@ -16,14 +16,14 @@ use Rattle.model.specs.Indexed.{maybe}
 use Rattle.model.specs.Record.{blankModel}
 use Rattle.model.specs.Automaton.{choices, variables, initialState, step}
 use Rattle.model.specs.Form.{wellFormed, stateFormed}
-use Rattle.model.specs.Refusal.{Refusal, refusal, accepted}
+use Rattle.model.specs.Refusal.{Refusal, refusal, accepted, isAccepted}
 use Rattle.model.specs.Run.{start}
 use Rattle.model.proofs.IndexedLaws.{T-true}
 use Rattle.list.specs.Clauses.{clauses, words}
 use Rattle.list.specs.Assignments.{firstFalse}
 use Rattle.walk.specs.StepCall.{stepReport, stepReported}
 use Rattle.walk.specs.Walker.{walkSteps, walkReport}
-use Rattle.encode.specs.EncodeCall.{isAccepted, encodeReport, encodeLeft}
+use Rattle.encode.specs.EncodeCall.{encodeReport, encodeLeft}
 use Rattle.decode.specs.DecodeCall.{firstWrongByte, decodeReport, decodeLeft}
 use Rattle.counts.specs.CountsCall.{listReport, listReported}
 use Rattle.emission.specs.EmitCall.{emitReport, emitReported, emitLeft}
@@ -51,7 +51,7 @@ use Rattle.wirdoku.specs.TextCall.{countedSizes, shapeOf, refusedShape, stateAn
 use Rattle.wirdoku.specs.declared.Shape.{Shape}
 use Rattle.wirdoku.specs.declared.StateAnswer.{StateAnswer}
 use Rattle.claims.specs.Calls.{Calls, recordCalls, Emitted, EmittedWords, EmittedDemand2, EmittedDemand3, EmittedShortest}
-use Rattle.claims.specs.Texts.{totalsIn, textCalls, IsRead, Not20, Never20, RowTexts}
+use Rattle.claims.specs.Texts.{countsIn, textCalls, IsRead, Not20, Never20, RowTexts}
 use Rattle.claims.specs.RowModels.{clockRelations, counterRelations, counterUpdates, twoOfEach}
 use Rattle.claims.proofs.Accepted.{emits}
 use Rattle.claims.proofs.CallProofs.{words-are, demand-2, demand-3, shortest}
@@ -65,7 +65,7 @@ callsIf b t =
     let l : ℕ = readReport t .line in
     record {
       model = m;
-      emits = λ k out. totalsIn (cond b (emittedSizes (emitReport m k (length out))) (refusedSizes n l));
+      emits = λ k out. countsIn (cond b (emittedSizes (emitReport m k (length out))) (refusedSizes n l));
       emitted = λ k out. cond b (emitLeft m k (length out) out) out;
       walks = λ r. cond b (walkReport m r) (refusal n l);
       decodes = λ k a run. cond b (decodeReport m k a (length run)) (refusal n l);

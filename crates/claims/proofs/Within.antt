@@ -30,7 +30,7 @@ use Rattle.model.proofs.StepLaws.{initial-lt, delayed-lt, in-range-lt, shifted-
 use Rattle.list.specs.Lists.{All, toList}
 use Rattle.list.specs.Items.{Member, Item, group, rule, overComponents, offset, stateWidth, blockAt, nextBlock, stateMember, choiceMember}
 use Rattle.list.specs.Items.{excludeValues, excludeFailing, excludeAllFailing, groupItems, invariantOf, invariantItems, stateItems}
-use Rattle.list.specs.Items.{initialItems, startItems, choiceItems, leads, puts, delayItems, delaysItems, sourceItems, targetItems, guardItems}
+use Rattle.list.specs.Items.{initialItems, startItems, choiceItems, leads, setsTo, delayItems, delaysItems, sourceItems, targetItems, guardItems}
 use Rattle.list.specs.Items.{updateItems, updatesItems, resetItems, resetsItems, edgeItems, edgeOf, edgesItems, stepItems, endItems, bodyItems, items}
 use Rattle.list.specs.Clauses.{Literal, bare, negated, Clause, word, one, oneHotWidth, variableOf, members, pairs, groupClauses, expand, clauses, words}
 use Rattle.list.proofs.ListLaws.{all-app, all-app₄, all-app₅, all-each, all-flat, all-imp}
@@ -178,22 +178,22 @@ module _ (m : Model) where
         leads-inside x y p q f g = all-each (ItemInside N) (groupSize m x) _ .1 (λ v l.
             (((choice-inside c hc, (state-inside o here x p v l, tt)), after-inside y q (f v) (λ u e. g v u l e)), tt))
 
-        puts-inside : (y : Component) → Declared m y → (v : Option ℕ) → ((u : ℕ) → v ≡ some u → u < groupSize m y)
-            → All (ItemInside N) (puts oneHotWidth m o c y v)
-        puts-inside y q v g = (((choice-inside c hc, tt), after-inside y q v g), tt)
+        sets-inside : (y : Component) → Declared m y → (v : Option ℕ) → ((u : ℕ) → v ≡ some u → u < groupSize m y)
+            → All (ItemInside N) (setsTo oneHotWidth m o c y v)
+        sets-inside y q v g = (((choice-inside c hc, tt), after-inside y q v g), tt)
 
         update-inside : (i : ℕ) → i < m .vars → (u : Update) → DeclaredUpdate m u → All (ItemInside N) (updateItems oneHotWidth m o c i u)
         update-inside i p Keep q = leads-inside (counter i) (counter i) p p some (λ v u a b. rw (← some-inj b) a)
         update-inside i p (Constant n) q =
             let greatest = counterAt m i .greatest in
-            puts-inside (counter i) p (inRange greatest n) (in-range-lt greatest n)
+            sets-inside (counter i) p (inRange greatest n) (in-range-lt greatest n)
         update-inside i p (Sum w z) q =
             let greatest = counterAt m i .greatest in
             leads-inside (counter w) (counter i) q p (shifted z greatest) (λ v u a b. shifted-lt z greatest v u b)
 
         reset-inside : (i : ℕ) → i < m .clocks → (u : ClockUpdate) → All (ItemInside N) (resetItems oneHotWidth m o c i u)
         reset-inside i p Unchanged = leads-inside (clock i) (clock i) p p some (λ v u a b. rw (← some-inj b) a)
-        reset-inside i p Reset = puts-inside (clock i) p (some 0) (λ u e. rw (← some-inj e) (omega arith))
+        reset-inside i p Reset = sets-inside (clock i) p (some 0) (λ u e. rw (← some-inj e) (omega arith))
 
         edge-inside : (e : Edge) → WellFormedEdge m e → All (ItemInside N) (edgeItems oneHotWidth m o c e)
         unfolding edgeItems sourceItems targetItems guardItems updatesItems resetsItems

@@ -10,13 +10,13 @@ use Rattle.model.specs.declared.Model.{Model}
 use Rattle.model.specs.Indexed.{each}
 use Rattle.model.specs.Automaton.{ceiling, stateSize, choices, variables}
 use Rattle.model.specs.Form.{wellFormed}
-use Rattle.model.specs.Refusal.{Refusal}
+use Rattle.model.specs.Refusal.{Refusal, isAccepted}
 use Rattle.model.specs.Run.{isRun}
 use Rattle.list.specs.Lists.{allOf}
 use Rattle.list.specs.Clauses.{clauses}
 use Rattle.list.specs.Assignments.{satisfied}
 use Rattle.walk.specs.Walker.{walkReport}
-use Rattle.encode.specs.EncodeCall.{isAccepted, encodeReport, encodeLeft}
+use Rattle.encode.specs.EncodeCall.{encodeReport, encodeLeft}
 use Rattle.decode.specs.DecodeCall.{decodeReport, decodeLeft}
 use Rattle.emission.specs.EmitCall.{EmitReport, emitReport, emitLeft}
 use Rattle.samples.specs.Models.{modelA, waitingA, modelB}
@@ -28,9 +28,9 @@ pub data Fact : Type 0 where
   -- the records are well formed
   areFormed : List Model → Fact
   -- emission for k is accepted in a buffer of so many words, and tells so many variables, clauses and words
-  totals : Model → ℕ → ℕ → ℕ → ℕ → Fact
+  countsAre : Model → ℕ → ℕ → ℕ → ℕ → Fact
   -- M, S and H
-  sizesAre : Model → ℕ → ℕ → ℕ → Fact
+  totalsAre : Model → ℕ → ℕ → ℕ → Fact
   -- N for k
   variablesAre : Model → ℕ → ℕ → Fact
   -- emission for k leaves these words, in order, in a buffer of as many
@@ -65,8 +65,8 @@ equalLists same [] (y ∷ ys) = false
 equalLists same (x ∷ xs) [] = false
 equalLists same (x ∷ xs) (y ∷ ys) = same x y && equalLists same xs ys
 
-abbrev equalTotals : EmitReport → ℕ → ℕ → ℕ → Bool
-equalTotals r v c w = eqb (r .number) 0 && eqb (r .variables) v && eqb (r .clauses) c && eqb (r .words) w
+abbrev equalCounts : EmitReport → ℕ → ℕ → ℕ → Bool
+equalCounts r v c w = eqb (r .number) 0 && eqb (r .variables) v && eqb (r .clauses) c && eqb (r .words) w
 
 abbrev equalRefusal : Refusal → ℕ → ℕ → Bool
 equalRefusal x number place = eqb (x .number) number && eqb (x .place) place
@@ -79,8 +79,8 @@ keepIf p (x ∷ xs) = cond (p x) (x ∷ keepIf p xs) (keepIf p xs)
 -- The fact holds.
 unfoldable pub holds : Fact → Bool
 holds (areFormed ms) = allOf wellFormed ms
-holds (totals m k v c w) = equalTotals (emitReport m k w) v c w
-holds (sizesAre m top s h) = eqb (ceiling m) top && eqb (stateSize m) s && eqb (choices m) h
+holds (countsAre m k v c w) = equalCounts (emitReport m k w) v c w
+holds (totalsAre m top s h) = eqb (ceiling m) top && eqb (stateSize m) s && eqb (choices m) h
 holds (variablesAre m k n) = eqb (variables m k) n
 holds (wordsAre m k ws) = equalLists equalIntegers (emitLeft m k (length ws) (replicate (length ws) (pos 0))) ws
 holds (satisfiedBy m k found) = equalLists (equalLists eqb) (keepIf (λ a. satisfied a (clauses m k)) (strings 2 (variables m k))) found
@@ -104,20 +104,20 @@ P n f = record { number = n; says = f }
 unfoldable pub rows : List Row
 rows =
     P 0 (areFormed (modelA ∷ waitingA ∷ modelB ∷ clockRelations ∷ counterRelations ∷ counterUpdates ∷ twoOfEach ∷ [])) ∷
-    P 1 (totals modelA 0 2 4 10) ∷
+    P 1 (countsAre modelA 0 2 4 10) ∷
     P 1 (satisfiedBy modelA 0 []) ∷
     P 2 (wordsAre modelA 1 (
     pos 1 ∷ pos 2 ∷ end ∷ neg 1 ∷ neg 2 ∷ end ∷ pos 1 ∷ end ∷
     pos 3 ∷ pos 4 ∷ pos 5 ∷ end ∷ neg 3 ∷ neg 4 ∷ end ∷ neg 3 ∷ neg 5 ∷ end ∷ neg 4 ∷ neg 5 ∷ end ∷
     neg 3 ∷ neg 1 ∷ pos 6 ∷ end ∷ neg 3 ∷ neg 2 ∷ pos 7 ∷ end ∷ neg 4 ∷ neg 1 ∷ pos 6 ∷ end ∷ neg 4 ∷ neg 2 ∷ pos 7 ∷ end ∷
     neg 5 ∷ pos 1 ∷ end ∷ neg 5 ∷ pos 7 ∷ end ∷ pos 6 ∷ pos 7 ∷ end ∷ neg 6 ∷ neg 7 ∷ end ∷ pos 7 ∷ end ∷ [])) ∷
-    P 2 (totals modelA 1 7 16 51) ∷
+    P 2 (countsAre modelA 1 7 16 51) ∷
     P 3 (satisfiedBy modelA 1 ((1 ∷ 0 ∷ 0 ∷ 0 ∷ 1 ∷ 0 ∷ 1 ∷ []) ∷ [])) ∷
     P 3 (decodesTo modelA 1 (1 ∷ 0 ∷ 0 ∷ 0 ∷ 1 ∷ 0 ∷ 1 ∷ []) (2 ∷ [])) ∷
     P 4 (assignmentRefused modelA 1 (1 ∷ 0 ∷ 1 ∷ 0 ∷ 0 ∷ 1 ∷ 0 ∷ []) 26 15) ∷
-    P 5 (totals modelA 2 12 28 92) ∷
+    P 5 (countsAre modelA 2 12 28 92) ∷
     P 5 (runsAre modelA 2 ((0 ∷ 2 ∷ []) ∷ (1 ∷ 2 ∷ []) ∷ (2 ∷ 0 ∷ []) ∷ (2 ∷ 1 ∷ []) ∷ [])) ∷
-    P 6 (sizesAre modelB 4 11 8) ∷
+    P 6 (totalsAre modelB 4 11 8) ∷
     P 6 (variablesAre modelB 3 68) ∷
     P 6 (runsAre modelB 3 ((5 ∷ 3 ∷ 7 ∷ []) ∷ [])) ∷
     P 7 (runRefused modelB (5 ∷ 4 ∷ 7 ∷ []) 28 2) ∷

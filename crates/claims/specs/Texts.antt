@@ -33,14 +33,14 @@ abbrev pub textModel : List ℕ → Model
 textModel t = readReport t .model
 
 -- Emission's numbers in the five of its answer to C.
-abbrev pub totalsIn : SizeReport → EmitReport
-totalsIn s = emitReported (s .number) (s .variables) (s .clauses) (s .words)
+abbrev pub countsIn : SizeReport → EmitReport
+countsIn s = emitReported (s .number) (s .variables) (s .clauses) (s .words)
 
 -- The right-hand sides of the contracts of wirdoku_emit, wirdoku_walk, wirdoku_assignment_to_run and wirdoku_run_to_assignment.
 abbrev pub textCalls : List ℕ → Calls
 textCalls t = record {
   model = textModel t;
-  emits = λ k out. totalsIn (textSizes (readReport t) k (length out));
+  emits = λ k out. countsIn (textSizes (readReport t) k (length out));
   emitted = λ k out. textLeft (readReport t) k out;
   walks = λ r. ifRead (readReport t) (λ m. walkReport m r) refusal;
   decodes = λ k a run. ifRead (readReport t) (λ m. decodeReport m k a (length run)) refusal;

@@ -2,6 +2,6 @@ pub mod CountLaws
 pub mod GroupLaws
 pub mod PartLaws
 pub mod EdgeLaws
-pub mod ListTotals
+pub mod CountedList
 pub mod PieceBounds
 pub mod TableLaws

@@ -15,7 +15,7 @@ use Rattle.model.specs.declared.Relation.{Relation}
 use Rattle.model.specs.declared.Relation.the-variants.{Less, LessEqual, Equal, GreaterEqual, Greater, NotEqual}
 use Rattle.model.specs.Indexed.{each, sumBelow, onlyIf, isSome}
 use Rattle.model.specs.Automaton.{meets, inRange, moved, shifted}
-use Rattle.model.proofs.IndexedLaws.{length-each, sum-below, lt-or-le}
+use Rattle.model.proofs.IndexedLaws.{length-each, sum-below, sum-none, sum-suc, sum-closed, lt-or-le}
 use Rattle.new_values.proofs.Signed.{negative-test}
 use Rattle.list.specs.Clauses.{Clause, bare, negated, one, clauseWords, wordsOf}
 use Rattle.list.specs.Lists.{toList}
@@ -118,11 +118,6 @@ pub part-most : (x : ℕ) (p : Part) → p .size ≤ 32 → Most (partClauses x 
 part-most x p l = most-part x p 4 128 (rule-words-le (p .rule)) (omega arith) l
 
 -- ---- sums over the values
-pub sum-closed : (f g : ℕ → ℕ) → g 0 ≡ 0 → ((n : ℕ) → g (suc n) ≡ g n + f n) → (n : ℕ) → sumBelow f n ≡ g n
-unfolding sumBelow
-sum-closed f g a h zero = sym a
-sum-closed f g a h (suc n) = omega (arith, sum-closed f g a h n, h n)
-
 -- how many of n values fail a comparison with k
 module _ (k : ℕ) where
   abbrev fails : Relation → ℕ → ℕ
@@ -167,9 +162,9 @@ module _ (k : ℕ) where
 
 -- the clauses of an atom have two literals
 pub exclude-words : (relation : Relation) (k n : ℕ) → sumBelow (ruleWords (Exclude relation k)) n ≡ sumBelow (ruleCount (Exclude relation k)) n * 3
-unfolding sumBelow
 exclude-words relation k =
-    sum-closed (ruleWords (Exclude relation k)) (λ n. sumBelow (ruleCount (Exclude relation k)) n * 3) refl (λ n. omega (arith, three (meets relation n k)))
+    sum-closed (ruleWords (Exclude relation k)) (λ n. sumBelow (ruleCount (Exclude relation k)) n * 3)
+    (omega (arith, sum-none (ruleCount (Exclude relation k)))) (λ n. omega (arith, sum-suc (ruleCount (Exclude relation k)) n, three (meets relation n k)))
   where
     three : (b : Bool) → cond b 0 3 ≡ cond b 0 1 * 3
     three true = refl

@@ -34,7 +34,7 @@ use Rattle.counts.proofs.CountLaws.{counted-one, Most, by-count, most-a
 use Rattle.counts.proofs.GroupLaws.{counted-group, group-16, group-32, group-64}
 use Rattle.counts.proofs.PartLaws.{part-most}
 use Rattle.counts.proofs.EdgeLaws.{edge-small, atom-most, atoms-most}
-use Rattle.counts.proofs.ListTotals.{initial-counted, delay-counted}
+use Rattle.counts.proofs.CountedList.{initial-counted, delay-counted}
 
 -- ---- the pieces of a well-formed model
 module _ (m : Model) (h : T (wellFormed m)) where

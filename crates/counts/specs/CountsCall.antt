@@ -1,4 +1,4 @@
--- What the question for the totals of the clause list answers.
+-- What the question for the counts of the clause list answers.
 use Prim.Native.Nat.{ℕ}
 use mathlib.Core.Bool.{not, cond}
 use lib.Dec.{ltb}
@@ -10,7 +10,7 @@ use Rattle.list.specs.Clauses.{clauses, words}
 use Rattle.counts.specs.declared.CountsAnswer.{CountsAnswer}
 use Rattle.counts.specs.declared.CountsAnswer.the-variants.{NotWellFormed, BoundTooLarge, Counts}
 
--- a number of the table of refusals, or 0, and the totals of the list, or 0 after a refusal
+-- a number of the table of refusals, or 0, and the counts of the list, or 0 after a refusal
 pub record ListReport : Type 0 where
   pub number : ℕ
   pub variables : ℕ

@@ -1,4 +1,4 @@
--- The totals of the clause list: what those who ask for them within the library are told.
+-- The counts of the clause list: what those who ask for them within the library are told.
 use Prim.Native.Nat.{ℕ, _≤_}
 use mathlib.Core.Path.{_≡_}
 use lib.ListN.{length}

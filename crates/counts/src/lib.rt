@@ -1,17 +1,17 @@
-// The totals of the clause list, by formula: start, the bound times one step, end.
+// The counts of the clause list, by formula: start, the bound times one step, end.
 use edge::atoms_count;
 use edge::edge_count;
 use form::well_formed;
 use group::group_count;
 use group::groups_count;
 use model::Model;
-use model::Sizes;
+use model::Totals;
 use parts::GroupTable;
 use parts::group_table;
 ghost use mathlib.Core.Path.{_≡_};
 ghost use mathlib.Core.List.{_++_};
 ghost use Prim.Native.Nat.{ℕ, _≤_};
-ghost use Rattle.model.specs.Bounds.{KnownSizes};
+ghost use Rattle.model.specs.Bounds.{KnownTotals};
 ghost use Rattle.list.specs.Items.{invariantItems, stateItems, choiceItems, delaysItems, edgesItems};
 ghost use Rattle.list.specs.Clauses.{oneHotWidth, clausesOf};
 ghost use Rattle.parts.specs.Pieces.{Known};
@@ -122,9 +122,9 @@ fn moves_count(m: Model, b: GroupTable) -> Count
     }
 }
 
-// The totals of the list for an accepted record and bound. `z` are the sizes of `m`, `b` its table.
-pub fn list_counts(m: Model, z: Sizes, b: GroupTable, bound: usize) -> ListCounts
-    requires { ⌜ KnownSizes m z × Known m b × (bound ≤ 64) ⌝ }
+// The counts of the list for an accepted record and bound. `z` are the totals of `m`, `b` its table.
+pub fn list_counts(m: Model, z: Totals, b: GroupTable, bound: usize) -> ListCounts
+    requires { ⌜ KnownTotals m z × Known m b × (bound ≤ 64) ⌝ }
     ensures { λ r. ⌜ KnownCounts m bound r ⌝ }
 {
     let s = state_count(m, b);
@@ -137,7 +137,7 @@ pub fn list_counts(m: Model, z: Sizes, b: GroupTable, bound: usize) -> ListCount
     }
 }
 
-// The totals of the list: 20, 21.
+// The counts of the list: 20, 21.
 pub fn counts_of(m: Model, bound: usize) -> CountsAnswer
     ensures { λ r. ⌜ listTold r ≡ listReport m bound ⌝ }
 {
@@ -147,7 +147,7 @@ pub fn counts_of(m: Model, bound: usize) -> CountsAnswer
     if Model::STEPS < bound {
         return CountsAnswer::BoundTooLarge;
     }
-    let z = m.sizes();
+    let z = m.totals();
     let b = group_table(m, z);
     let n = list_counts(m, z, b, bound);
     CountsAnswer::Counts {

@@ -13,12 +13,12 @@ use lib.ListN.{length, getD, take, drop, set, take-append-drop}
 use lib.Seq.{drop-cons, drop-set-lt, drop-drop}
 use borrow.Author.Tests.{ltb-true, ltb-false}
 use Rattle.model.specs.declared.Model.{Model}
-use Rattle.model.specs.declared.Sizes.{Sizes}
-use Rattle.model.specs.Bounds.{KnownSizes}
+use Rattle.model.specs.declared.Totals.{Totals}
+use Rattle.model.specs.Bounds.{KnownTotals}
 use Rattle.model.specs.Indexed.{listBelow}
 use Rattle.model.specs.Automaton.{choices, variables}
 use Rattle.model.proofs.IndexedLaws.{some-none}
-use Rattle.model.proofs.FormLaws.{variables-is, state-of-sizes, choices-of-sizes}
+use Rattle.model.proofs.FormLaws.{variables-is, state-of-totals, choices-of-totals}
 use Rattle.list.specs.Assignments.{Binary, bit, placeOfTrue, runOf}
 use Rattle.list.proofs.OneHot.{state-width-is}
 use Rattle.list.specs.Items.{stateWidth}
@@ -86,18 +86,18 @@ pub step-byte : (a : List ℕ) (S H t b x : ℕ) → b ≡ t * (S + H) + S → x
 unfolding stepByte
 step-byte a S H t b x p q = q ∙ ap (λ (i : ℕ). placeOfTrue a i H) p
 
-pub run-is : (m : Model) (k : ℕ) (a : List ℕ) (z : Sizes) → KnownSizes m z → listBelow (stepByte a (z .state) (z .choices)) k ≡ runOf m k a
+pub run-is : (m : Model) (k : ℕ) (a : List ℕ) (z : Totals) → KnownTotals m z → listBelow (stepByte a (z .state) (z .choices)) k ≡ runOf m k a
 unfolding runOf stepByte
 run-is m k a z h =
-    ap (λ (S : ℕ). listBelow (stepByte a S (z .choices)) k) (state-of-sizes m z h ∙ sym (state-width-is m)) ∙
-    ap (λ (H : ℕ). listBelow (stepByte a (stateWidth oneHotWidth m) H) k) (choices-of-sizes m z h)
+    ap (λ (S : ℕ). listBelow (stepByte a S (z .choices)) k) (state-of-totals m z h ∙ sym (state-width-is m)) ∙
+    ap (λ (H : ℕ). listBelow (stepByte a (stateWidth oneHotWidth m) H) k) (choices-of-totals m z h)
 
 -- step t + 1 of k lies within an assignment for k, and so does the state block after it
 pub step-fits :
-    (m : Model) (k t n : ℕ) (z : Sizes) → KnownSizes m z → n ≡ variables m k → t < k → t * (z .state + z .choices) + z .state + (z .choices + z .state) ≤ n
+    (m : Model) (k t n : ℕ) (z : Totals) → KnownTotals m z → n ≡ variables m k → t < k → t * (z .state + z .choices) + z .state + (z .choices + z .state) ≤ n
 step-fits m k t n z h l p =
-    let S = state-of-sizes m z h in
-    let H = choices-of-sizes m z h in
+    let S = state-of-totals m z h in
+    let H = choices-of-totals m z h in
     let e : variables m k ≡ z .state + k * (z .state + z .choices) = variables-is m k ∙ ap (λ (x : ℕ). x + k * (x + choices m)) (sym S)
     ∙ ap (λ (x : ℕ). z .state + k * (z .state + x)) (sym H) in
     let q : t + 1 ≤ k = omega arith in
@@ -107,7 +107,7 @@ step-fits m k t n z h l p =
 pub beyond : (old new : List ℕ) (t x : ℕ) → drop t new ≡ drop t old → drop (t + 1) (set new t x) ≡ drop (t + 1) old
 beyond old new t x h = drop-set-lt (t + 1) new t x (omega arith) ∙ sym (drop-drop 1 t new) ∙ ap (drop 1) h ∙ drop-drop 1 t old
 
-pub run-written : (m : Model) (k : ℕ) (a old new : List ℕ) (z : Sizes) → KnownSizes m z → take k new ≡ listBelow (stepByte a (z .state) (z .choices)) k
+pub run-written : (m : Model) (k : ℕ) (a old new : List ℕ) (z : Totals) → KnownTotals m z → take k new ≡ listBelow (stepByte a (z .state) (z .choices)) k
     → drop k new ≡ drop k old → new ≡ runOf m k a ++ drop k old
 run-written m k a old new z h p q =
     sym (take-append-drop k new) ∙ ap (λ (l : List ℕ). l ++ drop k new) (p ∙ run-is m k a z h) ∙ ap (λ (l : List ℕ). runOf m k a ++ l) q

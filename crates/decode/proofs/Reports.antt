@@ -13,13 +13,12 @@ use Rattle.model.specs.declared.Model.{Model}
 use Rattle.model.specs.Indexed.{maybe}
 use Rattle.model.specs.Automaton.{variables}
 use Rattle.model.specs.Form.{wellFormed}
-use Rattle.model.specs.Refusal.{Refusal, refusal, accepted}
+use Rattle.model.specs.Refusal.{Refusal, refusal, accepted, isAccepted}
 use Rattle.model.proofs.IndexedLaws.{T-true, eq-T}
 use Rattle.list.specs.Clauses.{clauses}
 use Rattle.list.specs.Assignments.{firstFalse, runOf}
 use Rattle.list.specs.Demands.{Satisfies}
 use Rattle.list.proofs.Searching.{first-false-none}
-use Rattle.encode.specs.EncodeCall.{isAccepted}
 use Rattle.decode.specs.DecodeCall.{firstWrongByte, decodeReport, decodeLeft}
 use Rattle.decode.proofs.Bytes.{wrong-iff}
 

@@ -10,10 +10,9 @@ use Rattle.model.specs.declared.Model.{Model}
 use Rattle.model.specs.Indexed.{maybe}
 use Rattle.model.specs.Automaton.{variables}
 use Rattle.model.specs.Form.{wellFormed}
-use Rattle.model.specs.Refusal.{Refusal, refusal, accepted}
+use Rattle.model.specs.Refusal.{Refusal, refusal, accepted, isAccepted}
 use Rattle.list.specs.Clauses.{clauses}
 use Rattle.list.specs.Assignments.{placeOfTrue, firstFalse, runOf}
-use Rattle.encode.specs.EncodeCall.{isAccepted}
 use Rattle.decode.specs.declared.DecodeAnswer.{DecodeAnswer}
 use Rattle.decode.specs.declared.DecodeAnswer.the-variants.{Written, NotWellFormed, BoundTooLarge, WrongLength, WrongByte, RunBufferTooShort, FalseClause}
 

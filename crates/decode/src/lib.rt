@@ -86,7 +86,7 @@ fn put_run(m: Model, bound: usize, a: &[u8], run: &mut [u8])
     requires { ⌜ T (wellFormed m) × (bound ≤ 64) × (length (now a) ≡ variables m bound) × (bound ≤ length (now run)) ⌝ }
     ensures { λ r. ⌜ now (run .exit) ≡ runOf m bound (now (a .entry)) ++ drop bound (now (run .entry)) ⌝ }
 {
-    let z = m.sizes();
+    let z = m.totals();
     for t in 0..bound {
         let choice = variable_number(m, z, t, z.state) - 1;
         run[t] = place_of_true(a, choice, z.choices) as u8;

@@ -7,23 +7,24 @@ use native.Mathlib.Omega.{arith}
 use lib.Dec.{T}
 use lib.ListN.{length}
 use Rattle.model.specs.declared.Model.{Model}
-use Rattle.model.specs.declared.Sizes.{Sizes}
+use Rattle.model.specs.declared.Totals.{Totals}
 use Rattle.model.specs.Indexed.{each}
 use Rattle.model.specs.Record.{atomAt, invariantAt, updateAt, edgeAt}
 use Rattle.model.specs.Automaton.{groupSize, stateSize, choices}
-use Rattle.model.specs.Bounds.{KnownSizes}
+use Rattle.model.specs.Bounds.{KnownTotals}
 use Rattle.model.specs.Form.{wellFormed}
 use Rattle.model.proofs.IndexedLaws.{length-list}
-use Rattle.model.proofs.FormLaws.{formed, state-of-sizes, stateSize-le, choices-is}
+use Rattle.model.proofs.FormLaws.{formed, state-of-totals, stateSize-le, choices-is}
 use Rattle.list.specs.Items.{offset, blockAt, startItems, initialItems, stateItems, endItems, edgesItems, edgeOf}
 use Rattle.list.specs.Clauses.{Clause, bare, one, oneHotWidth, clausesOf, clauses}
 use Rattle.list.proofs.ListLaws.{each-cong}
 use Rattle.list.proofs.PieceClauses.{start-piece, end-piece, edges-piece, clauses-pieces}
+use Rattle.list.proofs.OneHot.{block-is}
 use Rattle.parts.specs.declared.GroupTable.{GroupTable}
 use Rattle.parts.specs.StateBlock.{componentAt, groupTable, sizeAt}
 use Rattle.parts.specs.Numbering.{variableNumber, mostVariables}
 use Rattle.parts.specs.Pieces.{Known, groupPiece, locationPiece, frontPiece, edgePiece, edgeClauses, stepClauses}
-use Rattle.parts.proofs.NumberingLaws.{block-at, variable-number, block-most}
+use Rattle.parts.proofs.NumberingLaws.{variable-number, block-most}
 use Rattle.parts.proofs.PartFits.{locations-in}
 use Rattle.parts.proofs.KnownLaws.{wf, known-vars, known-state, known-top, known-locations, location-size}
 use Rattle.parts.proofs.KnownLaws.{atom-in, update-in, invariant-fits, edge-fits-of, edge-piece-of, state-piece-of, step-piece-of}
@@ -36,8 +37,8 @@ end-is m k n e =
     end-piece m k ∙ ap (λ (n : ℕ). one (bare n ∷ [])) q
 
 module _ (m : Model) (ok : T (wellFormed m)) where
-  pub target-place : (z : Sizes) → KnownSizes m z → m .target < z .state + z .choices
-  target-place z known = omega (arith, formed m ok .target-ok, locations-in m (formed m ok), state-of-sizes m z known)
+  pub target-place : (z : Totals) → KnownTotals m z → m .target < z .state + z .choices
+  target-place z known = omega (arith, formed m ok .target-ok, locations-in m (formed m ok), state-of-totals m z known)
 
   pub target-number : (k n : ℕ) → k ≤ 64 → n ≡ variableNumber m k (m .target) → (1 ≤ n) × (n ≤ mostVariables)
   target-number k n h e =
@@ -60,7 +61,7 @@ module _ {m : Model} {b : GroupTable} (k : Known m b) where
   block-below t h = omega (arith, block-most m (wf k) t h, stateSize-le m (wf k))
 
   pub next-block : (t : ℕ) → blockAt oneHotWidth m (t + 1) ≡ blockAt oneHotWidth m t + stateSize m + choices m
-  next-block t = omega (arith, block-at m (t + 1), block-at m t, suc-mul t (stateSize m + choices m))
+  next-block t = omega (arith, block-is m (t + 1), block-is m t, suc-mul t (stateSize m + choices m))
 
   pub step-below : (t : ℕ) → t < 64 → blockAt oneHotWidth m t + stateSize m + choices m + stateSize m ≤ mostVariables
   step-below t h = omega (arith, block-below (t + 1) (omega arith), next-block t)

@@ -12,7 +12,7 @@ use Rattle.list.specs.Clauses.{clauses, words}
 use Rattle.emission.specs.declared.Emission.{Emission}
 use Rattle.emission.specs.declared.Emission.the-variants.{NotWellFormed, BoundTooLarge, BufferTooShort, Written}
 
--- a number of the table of refusals, or 0, and the totals of the list
+-- a number of the table of refusals, or 0, and the counts of the list
 pub record EmitReport : Type 0 where
   pub number : ℕ
   pub variables : ℕ

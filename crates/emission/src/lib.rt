@@ -8,7 +8,7 @@ use crate::words::put_unit;
 use counts::list_counts;
 use form::well_formed;
 use model::Model;
-use model::Sizes;
+use model::Totals;
 use parts::GroupTable;
 use parts::group_table;
 use parts::numbering::block_start;
@@ -18,7 +18,7 @@ ghost use mathlib.Core.Path.{_≡_};
 ghost use Prim.Native.Nat.{ℕ, _+_, _<_, _≤_, min};
 ghost use lib.Dec.{T};
 ghost use lib.ListN.{length};
-ghost use Rattle.model.specs.Bounds.{KnownSizes};
+ghost use Rattle.model.specs.Bounds.{KnownTotals};
 ghost use Rattle.model.specs.Form.{wellFormed};
 ghost use Rattle.list.specs.Items.{startItems, endItems};
 ghost use Rattle.list.specs.Clauses.{oneHotWidth, clausesOf, clauses};
@@ -69,13 +69,13 @@ impl Emission {
 // Start: state clauses of state 0, then the initial values.
 fn put_start(
     m: Model,
-    z: Sizes,
+    z: Totals,
     b: GroupTable,
     first: &[u16],
     size: &[u16],
     out: &mut [i32],
 ) -> usize
-    requires { ⌜ Known m b × KnownSizes m z × Lent b (now first) (now size) × RoomFor (clausesOf (startItems oneHotWidth m)) (now out) 0 ⌝ }
+    requires { ⌜ Known m b × KnownTotals m z × Lent b (now first) (now size) × RoomFor (clausesOf (startItems oneHotWidth m)) (now out) 0 ⌝ }
     ensures { λ r. ⌜ WroteClauses (clausesOf (startItems oneHotWidth m)) (now (out .entry)) (now (out .exit)) 0 r ⌝ }
 {
     let o = block_start(m, z, 0);
@@ -87,14 +87,14 @@ fn put_start(
 // Step t + 1, from state `t`: the choice, each delay, each edge, then state clauses of the state after.
 fn put_step(
     m: Model,
-    z: Sizes,
+    z: Totals,
     b: GroupTable,
     first: &[u16],
     size: &[u16],
     t: usize,
     out: &mut [i32],
 ) -> usize
-    requires { ⌜ Known m b × KnownSizes m z × Lent b (now first) (now size) × (t < 64) × RoomFor (stepClauses m t) (now out) 0 ⌝ }
+    requires { ⌜ Known m b × KnownTotals m z × Lent b (now first) (now size) × (t < 64) × RoomFor (stepClauses m t) (now out) 0 ⌝ }
     ensures { λ r. ⌜ WroteClauses (stepClauses m t) (now (out .entry)) (now (out .exit)) 0 r ⌝ }
 {
     let o = block_start(m, z, t);
@@ -107,8 +107,8 @@ fn put_step(
 }
 
 // End: the target location in state `k`.
-fn put_end(m: Model, z: Sizes, k: usize, out: &mut [i32]) -> usize
-    requires { ⌜ T (wellFormed m) × KnownSizes m z × (k ≤ 64) × RoomFor (clausesOf (endItems oneHotWidth m k)) (now out) 0 ⌝ }
+fn put_end(m: Model, z: Totals, k: usize, out: &mut [i32]) -> usize
+    requires { ⌜ T (wellFormed m) × KnownTotals m z × (k ≤ 64) × RoomFor (clausesOf (endItems oneHotWidth m k)) (now out) 0 ⌝ }
     ensures { λ r. ⌜ WroteClauses (clausesOf (endItems oneHotWidth m k)) (now (out .entry)) (now (out .exit)) 0 r ⌝ }
 {
     let target = variable_number(m, z, k, m.target as usize);
@@ -116,15 +116,17 @@ fn put_end(m: Model, z: Sizes, k: usize, out: &mut [i32]) -> usize
 }
 
 // The list for `bound`.
-fn put_list(m: Model, z: Sizes, b: GroupTable, bound: usize, out: &mut [i32]) -> usize
-    requires { ⌜ Known m b × KnownSizes m z × (bound ≤ 64) × RoomFor (clauses m bound) (now out) 0 ⌝ }
+fn put_list(m: Model, z: Totals, b: GroupTable, bound: usize, out: &mut [i32]) -> usize
+    requires { ⌜ Known m b × KnownTotals m z × (bound ≤ 64) × RoomFor (clauses m bound) (now out) 0 ⌝ }
     ensures { λ r. ⌜ WroteClauses (clauses m bound) (now (out .entry)) (now (out .exit)) 0 r ⌝ }
 {
     let firsts = b.first;
     let sizes = b.size;
     let first: &[u16] = &firsts;
     let size: &[u16] = &sizes;
-    let mut at = put_start(m, z, b, first, size, out);
+    let mut at: usize = 0;
+    let n = put_start(m, z, b, first, size, &mut out[at..]);
+    at += n;
     for t in 0..bound {
         let n = put_step(m, z, b, first, size, t, &mut out[at..]);
         at += n;
@@ -144,7 +146,7 @@ pub fn emit_within(m: Model, bound: usize, limit: usize, out: &mut [i32]) -> Emi
     if Model::STEPS < bound {
         return Emission::BoundTooLarge;
     }
-    let z = m.sizes();
+    let z = m.totals();
     let b = group_table(m, z);
     let n = list_counts(m, z, b, bound);
     let words = n.words;

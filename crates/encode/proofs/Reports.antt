@@ -1,62 +1,27 @@
 -- The report of the call and what it leaves in the buffer, by the tests that decide them; which runs it accepts.
-use mathlib.Core.Path.{_≡_, refl, sym, ap, subst, _∙_}
+use mathlib.Core.Path.{_≡_, refl, sym, ap, _∙_}
 use mathlib.Core.Logic.{_↔_}
-use mathlib.Core.Bool.{Bool, true, false, not, cond}
-use mathlib.Core.List.{List, [], _∷_, _++_}
-use mathlib.Core.Option.{Option, none, some}
-use Prim.Native.Nat.{ℕ, _+_, _≤_}
+use mathlib.Core.Bool.{Bool, true, false, true≢false, cond}
+use mathlib.Core.List.{List, _++_}
+use Prim.Native.Nat.{ℕ, _≤_}
 use native.Mathlib.Omega.{arith}
-use lib.Dec.{T, ltb, leb, eqb}
+use lib.Dec.{T, ltb, eqb}
 use lib.ListN.{length, drop}
 use borrow.Author.Tests.{ltb-false, le-ltb}
 use Rattle.model.specs.declared.Model.{Model}
-use Rattle.model.specs.declared.State.{State}
-use Rattle.model.specs.Indexed.{maybe}
-use Rattle.model.specs.Automaton.{choices, initialState, step, variables}
-use Rattle.model.specs.Run.{start, isRun}
+use Rattle.model.specs.Automaton.{initialState, variables}
+use Rattle.model.specs.Run.{isRun}
 use Rattle.model.specs.Form.{wellFormed}
-use Rattle.model.specs.Refusal.{Refusal, refusal, accepted}
+use Rattle.model.specs.Refusal.{Refusal, refusal, accepted, isAccepted}
 use Rattle.model.proofs.FormLaws.{formed}
 use Rattle.model.proofs.RunLaws.{run-iff}
-use Rattle.walk.specs.Walker.{walkSteps, walkReport}
-use Rattle.walk.proofs.Accepts.{accepts-iff}
+use Rattle.walk.specs.Walker.{walkReport}
+use Rattle.walk.proofs.Accepts.{zero-accepted, accepts-iff}
 use Rattle.list.specs.Assignments.{assignmentOf}
 use Rattle.list.proofs.OneHot.{assignment-is}
 use Rattle.buffer.specs.Buffers.{Room, Wrote}
 use Rattle.encode.specs.BlockBytes.{Walks}
-use Rattle.encode.specs.EncodeCall.{isAccepted, encodeReport, encodeLeft}
-
--- ---- a report of the walker with the number 0 is that of an accepted run
-abbrev Honest : Refusal → Type 0
-Honest x = isAccepted x ≡ true → x ≡ accepted
-
-never : {A : Type 0} → _≡_ {A = Bool} false true → A
-never e = absurd (subst T (sym e) tt)
-
-steps-honest : (m : Model) (r : List ℕ) (t : ℕ) (s : State) → Honest (walkSteps m t s r)
-unfolding walkSteps
-steps-honest m [] t s = go (eqb (s .location) (m .target))
-  where
-    go : (b : Bool) → Honest (cond b accepted (refusal 30 0))
-    go true h = refl
-    go false h = never h
-steps-honest m (b ∷ r) t s = go (leb (choices m) b) (step m s b) (λ u. steps-honest m r (t + 1) u)
-  where
-    go : (x : Bool) (o : Option State) → ((u : State) → Honest (walkSteps m (t + 1) u r))
-        → Honest (cond x (refusal 27 t) (maybe o (refusal 28 t) (λ u. walkSteps m (t + 1) u r)))
-    go true o ih h = never h
-    go false none ih h = never h
-    go false (some u) ih h = ih u h
-
-pub walk-honest : (m : Model) (r : List ℕ) → Honest (walkReport m r)
-unfolding walkReport
-walk-honest m r = go (wellFormed m) (ltb 64 (length r)) (start m)
-  where
-    go : (w l : Bool) (o : Option State) → Honest (cond (not w) (refusal 20 0) (cond l (refusal 21 0) (maybe o (refusal 29 0) (λ s. walkSteps m 1 s r))))
-    go false l o h = never h
-    go true true o h = never h
-    go true false none h = never h
-    go true false (some s) h = steps-honest m r 1 s h
+use Rattle.encode.specs.EncodeCall.{encodeReport, encodeLeft}
 
 -- ---- what an accepted run is
 -- a test on the number of a verdict, said of the report
@@ -69,7 +34,7 @@ pub record AcceptedRun (m : Model) (r : List ℕ) : Type 0 where
   pub is-run : T (isRun m r)
 
 pub accepted-run : (m : Model) (r : List ℕ) → isAccepted (walkReport m r) ≡ true → AcceptedRun m r
-accepted-run m r h = let x = accepts-iff m r .0 (walk-honest m r h) in record { model-formed = x .0; short = x .1; is-run = x .2 }
+accepted-run m r h = let x = accepts-iff m r .0 (zero-accepted m r h) in record { model-formed = x .0; short = x .1; is-run = x .2 }
 
 pub walks : {m : Model} {r : List ℕ} → AcceptedRun m r → Walks m (initialState m) r
 walks {m} {r} a = let x = run-iff m r .0 (a .is-run) in record { end = x .0; ends = x .1 .walks }
@@ -123,5 +88,5 @@ encode-accepts m r n =
     go : (a l : Bool) → isAccepted (walkReport m r) ≡ a → ltb n (variables m (length r)) ≡ l
         → cond a (cond l (refusal 31 0) accepted) (walkReport m r) ≡ accepted → (walkReport m r ≡ accepted) × (variables m (length r) ≤ n)
     go true true p q h = absurd (let z : 31 ≡ 0 = ap (λ (x : Refusal). x .number) h in omega arith)
-    go true false p q h = (walk-honest m r p, ltb-false n (variables m (length r)) q)
-    go false l p q h = never (sym p ∙ ap isAccepted h)
+    go true false p q h = (zero-accepted m r p, ltb-false n (variables m (length r)) q)
+    go false l p q h = absurd (true≢false (sym (ap isAccepted h) ∙ p))

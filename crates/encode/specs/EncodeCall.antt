@@ -1,20 +1,16 @@
 -- What the call from a run to its assignment answers, and what it leaves in the buffer.
 use mathlib.Core.List.{List, _++_}
-use mathlib.Core.Bool.{Bool, cond}
+use mathlib.Core.Bool.{cond}
 use Prim.Native.Nat.{ℕ}
-use lib.Dec.{ltb, eqb}
+use lib.Dec.{ltb}
 use lib.ListN.{length, drop}
 use Rattle.model.specs.declared.Model.{Model}
 use Rattle.model.specs.Automaton.{variables}
-use Rattle.model.specs.Refusal.{Refusal, refusal, accepted}
+use Rattle.model.specs.Refusal.{Refusal, refusal, accepted, isAccepted}
 use Rattle.walk.specs.Walker.{walkReport, walkTold}
 use Rattle.list.specs.Assignments.{assignmentOf}
 use Rattle.encode.specs.declared.EncodeAnswer.{EncodeAnswer}
 use Rattle.encode.specs.declared.EncodeAnswer.the-variants.{Written, RunRefused, BufferTooShort}
-
--- The refusal number of an accepted call is 0.
-abbrev pub isAccepted : Refusal → Bool
-isAccepted x = eqb (x .number) 0
 
 -- 20, 21 and the walker's rows for the run; after those, 31 buffer shorter than N, where `room` is the buffer's length.
 unfoldable pub encodeReport : Model → List ℕ → ℕ → Refusal

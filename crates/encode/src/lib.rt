@@ -1,8 +1,8 @@
 // Run to assignment: the one satisfying assignment of a run, written into a lent buffer.
 use model::Counter;
 use model::Model;
-use model::Sizes;
 use model::State;
+use model::Totals;
 use walk::Verdict;
 use walk::advance;
 use walk::walk;
@@ -13,7 +13,7 @@ ghost use lib.Dec.{T, eqb};
 ghost use lib.ListN.{length};
 ghost use Rattle.model.specs.Indexed.{each};
 ghost use Rattle.model.specs.Automaton.{ceiling, initialState};
-ghost use Rattle.model.specs.Bounds.{KnownSizes};
+ghost use Rattle.model.specs.Bounds.{KnownTotals};
 ghost use Rattle.model.specs.Form.{wellFormed};
 ghost use Rattle.list.specs.Assignments.{oneHot, stateBytes, stepsBytes, assignmentOf};
 ghost use Rattle.buffer.specs.Buffers.{Room, Wrote};
@@ -120,8 +120,8 @@ fn put_state(m: Model, top: usize, s: State, out: &mut [u8], at: usize) -> usize
 }
 
 // The blocks of a step: its choice, and the state that it leads to.
-fn put_step(m: Model, z: Sizes, byte: u8, next: State, out: &mut [u8], at: usize) -> usize
-    requires { ⌜ T (wellFormed m) × KnownSizes m z × Room (stepBytes m byte next) (now out) at ⌝ }
+fn put_step(m: Model, z: Totals, byte: u8, next: State, out: &mut [u8], at: usize) -> usize
+    requires { ⌜ T (wellFormed m) × KnownTotals m z × Room (stepBytes m byte next) (now out) at ⌝ }
     ensures { λ r. ⌜ Wrote (stepBytes m byte next) (now (out .entry)) (now (out .exit)) at r ⌝ }
 {
     let after_choice = put_group(z.choices, byte as usize, out, at);
@@ -133,7 +133,7 @@ fn put_steps(m: Model, first: State, run: &[u8], out: &mut [u8], at: usize) -> u
     requires { ⌜ T (wellFormed m) × Walks m first (now run) × Room (stepsBytes oneHot m first (now run)) (now out) at ⌝ }
     ensures { λ r. ⌜ Wrote (stepsBytes oneHot m first (now (run .entry))) (now (out .entry)) (now (out .exit)) at r ⌝ }
 {
-    let z = m.sizes();
+    let z = m.totals();
     let top = z.ceiling as u8;
     let mut s = first;
     let mut end = at;

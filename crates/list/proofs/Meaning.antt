@@ -45,14 +45,14 @@ module _ (truth : Member → Bool) where
     pub leads-of : (c ≡ k → f d ≡ some d′) → All Holds (each n (λ v. rule (member bc nc c ∷ member b n v ∷ []) (Option·map (member b′ n′) (f v)) ∷ []))
     leads-of h = all-each Holds n _ .1 (λ v q. (λ t. rw (p .only v q (t .1 .0), h (pc .only c hc (t .0))) (p′ .is-true), tt))
 
-  -- one choice puts a group at a value, or is excluded
+  -- one choice sets a group to a value, or is excluded
   module _ {bc nc k b′ n′ d′ : ℕ} (c : ℕ) (pc : Shows bc nc k) (p′ : Shows b′ n′ d′) (y : Option ℕ) (hc : c < nc) where
-    pub puts-to : ((u : ℕ) → y ≡ some u → u < n′) → Holds (rule (member bc nc c ∷ []) (Option·map (member b′ n′) y)) → c ≡ k → y ≡ some d′
-    puts-to ok h e = go y refl (h (shows-true pc e, tt))
+    pub sets-to : ((u : ℕ) → y ≡ some u → u < n′) → Holds (rule (member bc nc c ∷ []) (Option·map (member b′ n′) y)) → c ≡ k → y ≡ some d′
+    sets-to ok h e = go y refl (h (shows-true pc e, tt))
       where
         go : (x : Option ℕ) → y ≡ x → Then (Option·map (member b′ n′) x) → y ≡ some d′
         go none e t = absurd t
         go (some u) e t = e ∙ ap some (p′ .only u (ok u e) t)
 
-    pub puts-of : (c ≡ k → y ≡ some d′) → Holds (rule (member bc nc c ∷ []) (Option·map (member b′ n′) y))
-    puts-of h t = rw (h (pc .only c hc (t .0))) (p′ .is-true)
+    pub sets-of : (c ≡ k → y ≡ some d′) → Holds (rule (member bc nc c ∷ []) (Option·map (member b′ n′) y))
+    sets-of h t = rw (h (pc .only c hc (t .0))) (p′ .is-true)

@@ -15,7 +15,7 @@ use Rattle.model.specs.Automaton.{ceiling, choices, Component, loc, counter, cl
 use Rattle.list.specs.Lists.{toList}
 use Rattle.list.specs.Items.{Member, Item, group, rule, overComponents, offset, stateWidth, blockAt, nextBlock, stateMember, choiceMember, excludeValues}
 use Rattle.list.specs.Items.{excludeFailing, excludeAllFailing, groupItems, invariantOf, invariantItems, stateItems, initialItems, startItems}
-use Rattle.list.specs.Items.{choiceItems, leads, puts, delayItems, delaysItems, sourceItems, targetItems, guardItems, updateItems, updatesItems}
+use Rattle.list.specs.Items.{choiceItems, leads, setsTo, delayItems, delaysItems, sourceItems, targetItems, guardItems, updateItems, updatesItems}
 use Rattle.list.specs.Items.{resetItems, resetsItems, edgeItems, edgeOf, edgesItems, stepItems, endItems, bodyItems, items}
 use Rattle.list.specs.Clauses.{bare, negated, Clause, one, oneHotWidth, variableOf, groupClauses, expand, clausesOf, clauses}
 use Rattle.list.proofs.ListLaws.{flat-app, flat-none, flat-one, flat-each, each-cong}
@@ -152,10 +152,10 @@ module _ (m : Model) where
       item : ℕ → Item
       item v = rule (choiceMember oneHotWidth m o c ∷ stateMember oneHotWidth m before x v ∷ []) (Option·map (stateMember oneHotWidth m (after o) y) (f v))
 
-  -- choice c puts a component at a value
-  pub puts-piece : (o c : ℕ) (y : Component) (v : Option ℕ)
-      → clausesOf (puts oneHotWidth m o c y v) ≡ one (negated (o + S + c) ∷ map (λ u. bare (after o + at y + u)) (toList v))
-  puts-piece o c y v = flat-one expand _ ∙ ap (λ (l : Clause). one (negated (o + S + c) ∷ l)) (conclusion (stateMember oneHotWidth m (after o) y) v)
+  -- choice c sets a component to a value
+  pub sets-piece : (o c : ℕ) (y : Component) (v : Option ℕ)
+      → clausesOf (setsTo oneHotWidth m o c y v) ≡ one (negated (o + S + c) ∷ map (λ u. bare (after o + at y + u)) (toList v))
+  sets-piece o c y v = flat-one expand _ ∙ ap (λ (l : Clause). one (negated (o + S + c) ∷ l)) (conclusion (stateMember oneHotWidth m (after o) y) v)
 
   pub delays-piece : (o : ℕ) → clausesOf (delaysItems oneHotWidth m o) ≡ each (ceiling m + 1) (λ d. clausesOf (delayItems oneHotWidth m o d))
   unfolding delaysItems

@@ -25,7 +25,7 @@ use Rattle.list.specs.Lists.{All}
 use Rattle.list.specs.Items.{Member, Item, rule, stateMember, choiceMember, nextBlock, stateWidth, excludeAllFailing, leads, delayItems, sourceItems}
 use Rattle.list.specs.Items.{targetItems, guardItems, updateItems, updatesItems, resetItems, resetsItems, edgeItems}
 use Rattle.list.proofs.ListLaws.{all-app₅, all-each}
-use Rattle.list.proofs.Meaning.{Shows, Holds, shows-true, leads-to, leads-of, puts-to, puts-of}
+use Rattle.list.proofs.Meaning.{Shows, Holds, shows-true, leads-to, leads-of, sets-to, sets-of}
 use Rattle.list.proofs.Blocks.{ShowsState, over-components, atoms-to, atoms-of}
 
 pub delay-lt : (m : Model) (d : ℕ) → d < ceiling m + 1 → d < choices m
@@ -58,7 +58,7 @@ module _ (width : ℕ → ℕ) (m : Model) (truth : Member → Bool) {o : ℕ} {
     update-to : (i : ℕ) → i < m .vars → (u : Update) → DeclaredUpdate m u → All (Holds truth) (updateItems width m o c i u) → c ≡ k
         → newCounter (λ w. value s (counter w)) (counterAt m i .greatest) (value s (counter i)) u ≡ some (value t (counter i))
     update-to i p Keep a h e = leads-to truth c pk (q .shown (counter i) p) (q′ .shown (counter i) p) some hc (λ v u a b. rw (← some-inj b) a) h e
-    update-to i p (Constant n) a h e = puts-to truth c pk (q′ .shown (counter i) p) (inRange (counterAt m i .greatest) n) hc
+    update-to i p (Constant n) a h e = sets-to truth c pk (q′ .shown (counter i) p) (inRange (counterAt m i .greatest) n) hc
         (in-range-lt (counterAt m i .greatest) n) (h .0) e
     update-to i p (Sum w z) a h e = leads-to truth c pk (q .shown (counter w) a) (q′ .shown (counter i) p) (shifted z (counterAt m i .greatest)) hc
         (λ v u a b. shifted-lt z (counterAt m i .greatest) v u b) h e
@@ -67,18 +67,18 @@ module _ (width : ℕ → ℕ) (m : Model) (truth : Member → Bool) {o : ℕ} {
         → (c ≡ k → newCounter (λ w. value s (counter w)) (counterAt m i .greatest) (value s (counter i)) u ≡ some (value t (counter i)))
         → All (Holds truth) (updateItems width m o c i u)
     update-of i p Keep a h = leads-of truth c pk (q .shown (counter i) p) (q′ .shown (counter i) p) some hc h
-    update-of i p (Constant n) a h = (puts-of truth c pk (q′ .shown (counter i) p) (inRange (counterAt m i .greatest) n) hc h, tt)
+    update-of i p (Constant n) a h = (sets-of truth c pk (q′ .shown (counter i) p) (inRange (counterAt m i .greatest) n) hc h, tt)
     update-of i p (Sum w z) a h = leads-of truth c pk (q .shown (counter w) a) (q′ .shown (counter i) p) (shifted z (counterAt m i .greatest)) hc h
 
     reset-to : (i : ℕ) → i < m .clocks → (u : ClockUpdate) → All (Holds truth) (resetItems width m o c i u) → c ≡ k
         → newClock (λ x. value s (clock x)) (value s (clock i)) u ≡ value t (clock i)
     reset-to i p Unchanged h e = some-inj (leads-to truth c pk (q .shown (clock i) p) (q′ .shown (clock i) p) some hc (λ v u a b. rw (← some-inj b) a) h e)
-    reset-to i p Reset h e = some-inj (puts-to truth c pk (q′ .shown (clock i) p) (some 0) hc (λ u a. rw (← some-inj a) (omega arith)) (h .0) e)
+    reset-to i p Reset h e = some-inj (sets-to truth c pk (q′ .shown (clock i) p) (some 0) hc (λ u a. rw (← some-inj a) (omega arith)) (h .0) e)
 
     reset-of : (i : ℕ) → i < m .clocks → (u : ClockUpdate) → (c ≡ k → newClock (λ x. value s (clock x)) (value s (clock i)) u ≡ value t (clock i))
         → All (Holds truth) (resetItems width m o c i u)
     reset-of i p Unchanged h = leads-of truth c pk (q .shown (clock i) p) (q′ .shown (clock i) p) some hc (λ e. ap some (h e))
-    reset-of i p Reset h = (puts-of truth c pk (q′ .shown (clock i) p) (some 0) hc (λ e. ap some (h e)), tt)
+    reset-of i p Reset h = (sets-of truth c pk (q′ .shown (clock i) p) (some 0) hc (λ e. ap some (h e)), tt)
 
     -- what the items of an edge ask, part by part
     record EdgeAsks (e : Edge) : Type 0 where

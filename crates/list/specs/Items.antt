@@ -126,8 +126,8 @@ module _ (width : ℕ → ℕ) (m : Model) where
   leads before o c x y f = each (groupSize m x) (λ v. rule (choiceMember o c ∷ stateMember before x v ∷ []) (Option·map (stateMember (nextBlock o) y) (f v)) ∷ [])
 
   -- Not choice c, a value of component y in the state after; or not choice c alone, where the value is out of range.
-  abbrev pub puts : ℕ → ℕ → Component → Option ℕ → List Item
-  puts o c y v = rule (choiceMember o c ∷ []) (Option·map (stateMember (nextBlock o) y) v) ∷ []
+  abbrev pub setsTo : ℕ → ℕ → Component → Option ℕ → List Item
+  setsTo o c y v = rule (choiceMember o c ∷ []) (Option·map (stateMember (nextBlock o) y) v) ∷ []
 
   -- Delay d: for each member of the state before in block order: not delay, not member, its successor in the state after.
   unfoldable pub delayItems : ℕ → ℕ → List Item
@@ -154,7 +154,7 @@ module _ (width : ℕ → ℕ) (m : Model) where
   -- it is out of range.
   abbrev pub updateItems : ℕ → ℕ → ℕ → Update → List Item
   updateItems o c i Keep = leads o o c (counter i) (counter i) some
-  updateItems o c i (Constant n) = puts o c (counter i) (inRange (counterAt m i .greatest) n)
+  updateItems o c i (Constant n) = setsTo o c (counter i) (inRange (counterAt m i .greatest) n)
   updateItems o c i (Sum w z) = leads o o c (counter w) (counter i) (shifted z (counterAt m i .greatest))
 
   -- An edge: each counter's update.
@@ -164,7 +164,7 @@ module _ (width : ℕ → ℕ) (m : Model) where
   -- An edge, per clock: reset gives not edge, 0 after; else each value is kept like a counter's.
   abbrev pub resetItems : ℕ → ℕ → ℕ → ClockUpdate → List Item
   resetItems o c i Unchanged = leads o o c (clock i) (clock i) some
-  resetItems o c i Reset = puts o c (clock i) (some 0)
+  resetItems o c i Reset = setsTo o c (clock i) (some 0)
 
   -- An edge: each clock.
   unfoldable pub resetsItems : ℕ → ℕ → Edge → List Item

@@ -16,11 +16,11 @@ use Rattle.model.specs.declared.ClockUpdate.the-variants.{Unchanged, Res
 use Rattle.model.specs.declared.AtomSlot.{AtomSlot}
 use Rattle.model.specs.declared.Edge.{Edge}
 use Rattle.model.specs.declared.Model.{Model}
-use Rattle.model.specs.declared.Sizes.{Sizes}
+use Rattle.model.specs.declared.Totals.{Totals}
 use Rattle.model.specs.Indexed.{maxBelow, sumBelow}
 use Rattle.model.specs.Record.{atomAt, updateAt, resetAt, counterAt, invariantAt, edgeAt}
-use Rattle.model.specs.Automaton.{clockConstant, greatestConstant, ceiling, counter, groupSize, stateSize, choices, variables, sizes}
-use Rattle.model.specs.Bounds.{KnownSizes}
+use Rattle.model.specs.Automaton.{clockConstant, greatestConstant, ceiling, counter, groupSize, stateSize, choices, variables, totals}
+use Rattle.model.specs.Bounds.{KnownTotals}
 use Rattle.model.specs.Form.{isNotEqual, atomFormed, eachFormed, filledFromFirst, atomsFormed, updateFormed, isKeep, isUnchanged, updateSlotFormed}
 use Rattle.model.specs.Form.{updatesFormed, resetSlotFormed, resetsFormed, edgeFormed, counterFormed, isBlankCounter, counterSlotFormed, countersFormed}
 use Rattle.model.specs.Form.{invariantSlotFormed, invariantsFormed, edgeSlotFormed, edgesFormed, headFormed, wellFormed}
@@ -60,10 +60,10 @@ pub record WellFormed (m : Model) : Type 0 where
   pub edge-ok : (e : ℕ) → e < m .used → WellFormedEdge m (edgeAt m e)
   pub ceiling-le : ceiling m ≤ 31
 
-and₃ : (a b c : Bool) → T (a && b && c) → T a × T b × T c
+pub and₃ : (a b c : Bool) → T (a && b && c) → T a × T b × T c
 and₃ a b c h = let g = and-T (a && b) c .0 h in let f = and-T a b .0 (g .0) in (f .0, f .1, g .1)
 
-and₄ : (a b c d : Bool) → T (a && b && c && d) → T a × T b × T c × T d
+pub and₄ : (a b c d : Bool) → T (a && b && c && d) → T a × T b × T c × T d
 and₄ a b c d h = let g = and-T (a && b && c) d .0 h in let f = and₃ a b c (g .0) in (f .0, f .1, f .2, g .1)
 
 and₅ : (a b c d e : Bool) → T (a && b && c && d && e) → T a × T b × T c × T d × T e
@@ -83,12 +83,12 @@ yes a b x y h l = subst T (cond-T (ltb a b) x y (lt→ltb a b l)) h
 pub no : (a b : ℕ) (x y : Bool) → T (cond (ltb a b) x y) → b ≤ a → T y
 no a b x y h l = subst T (cond-F (ltb a b) x y (nlt a b l)) h
 
-keep-is : (u : Update) → T (isKeep u) → u ≡ Keep
+pub keep-is : (u : Update) → T (isKeep u) → u ≡ Keep
 keep-is Keep h = refl
 keep-is (Constant n) h = absurd h
 keep-is (Sum w z) h = absurd h
 
-hold-is : (u : ClockUpdate) → T (isUnchanged u) → u ≡ Unchanged
+pub hold-is : (u : ClockUpdate) → T (isUnchanged u) → u ≡ Unchanged
 hold-is Unchanged h = refl
 hold-is Reset h = absurd h
 
@@ -108,7 +108,7 @@ atom-constant clocks vars Blank h = omega arith
 atom-constant clocks vars (OnClock c r b) h = leb→le b 30 (and₃ (ltb c clocks) (leb b 30) (not (isNotEqual r)) h .1)
 atom-constant clocks vars (OnCounter c r b) h = omega arith
 
-atoms-at : (clocks vars : ℕ) (atoms : List AtomSlot) → T (atomsFormed clocks vars atoms) → (k : ℕ) → k < 4 → T (atomFormed clocks vars (atomAt atoms k))
+pub atoms-at : (clocks vars : ℕ) (atoms : List AtomSlot) → T (atomsFormed clocks vars atoms) → (k : ℕ) → k < 4 → T (atomFormed clocks vars (atomAt atoms k))
 unfolding atomsFormed eachFormed
 atoms-at clocks vars atoms h =
     all-below (λ k. atomFormed clocks vars (atomAt atoms k)) 4 .0 (and-T (eachFormed clocks vars atoms) (filledFromFirst atoms) .0 h .0)
@@ -117,7 +117,7 @@ atoms-constant : (clocks vars : ℕ) (atoms : List AtomSlot) → T (atomsFormed 
 unfolding greatestConstant
 atoms-constant clocks vars atoms h = max-below _ 4 30 (λ k l. atom-constant clocks vars (atomAt atoms k) (atoms-at clocks vars atoms h k l))
 
-edge-parts : (locations clocks vars : ℕ) (e : Edge) → T (edgeFormed locations clocks vars e)
+pub edge-parts : (locations clocks vars : ℕ) (e : Edge) → T (edgeFormed locations clocks vars e)
     → (e .source < locations) × (e .target < locations) × T (atomsFormed clocks vars (e .guard))
     × ((k : ℕ) → k < 4 → T (updateSlotFormed vars (updateAt e k) k)) × ((k : ℕ) → k < 4 → T (resetSlotFormed clocks (resetAt e k) k))
 unfolding edgeFormed updatesFormed resetsFormed
@@ -259,15 +259,15 @@ variables-le m ok k h =
     let w : stateSize m + choices m ≤ 336 = omega (arith, choices-le m ok) in
     omega (arith, mul-le-mul h w)
 
--- ---- the sizes that the code answers
-pub ceiling-of-sizes : (m : Model) (z : Sizes) → KnownSizes m z → z .ceiling ≡ ceiling m
-unfolding sizes
-ceiling-of-sizes m z k = ap (λ (x : Sizes). x .ceiling) (k .is)
+-- ---- the totals that the code answers
+pub ceiling-of-totals : (m : Model) (z : Totals) → KnownTotals m z → z .ceiling ≡ ceiling m
+unfolding totals
+ceiling-of-totals m z k = ap (λ (x : Totals). x .ceiling) (k .is)
 
-pub state-of-sizes : (m : Model) (z : Sizes) → KnownSizes m z → z .state ≡ stateSize m
-unfolding sizes
-state-of-sizes m z k = ap (λ (x : Sizes). x .state) (k .is)
+pub state-of-totals : (m : Model) (z : Totals) → KnownTotals m z → z .state ≡ stateSize m
+unfolding totals
+state-of-totals m z k = ap (λ (x : Totals). x .state) (k .is)
 
-pub choices-of-sizes : (m : Model) (z : Sizes) → KnownSizes m z → z .choices ≡ choices m
-unfolding sizes
-choices-of-sizes m z k = ap (λ (x : Sizes). x .choices) (k .is)
+pub choices-of-totals : (m : Model) (z : Totals) → KnownTotals m z → z .choices ≡ choices m
+unfolding totals
+choices-of-totals m z k = ap (λ (x : Totals). x .choices) (k .is)

@@ -104,6 +104,20 @@ unfolding sumBelow
 sum-below f zero b h = omega arith
 sum-below f (suc n) b h = omega (arith, sum-below f n b (λ i l. h i (omega arith)), h n (omega arith))
 
+pub sum-suc : (f : ℕ → ℕ) (n : ℕ) → sumBelow f (suc n) ≡ sumBelow f n + f n
+unfolding sumBelow
+sum-suc f n = refl
+
+pub sum-same : (f g : ℕ → ℕ) (n : ℕ) → ((i : ℕ) → i < n → f i ≡ g i) → sumBelow f n ≡ sumBelow g n
+unfolding sumBelow
+sum-same f g zero h = refl
+sum-same f g (suc n) h = omega (arith, sum-same f g n (λ i l. h i (omega arith)), h n (omega arith))
+
+pub sum-closed : (f g : ℕ → ℕ) → g 0 ≡ 0 → ((n : ℕ) → g (suc n) ≡ g n + f n) → (n : ℕ) → sumBelow f n ≡ g n
+unfolding sumBelow
+sum-closed f g a h zero = sym a
+sum-closed f g a h (suc n) = omega (arith, sum-closed f g a h n, h n)
+
 pub sum-const : (n c : ℕ) → sumBelow (λ _. c) n ≡ n * c
 unfolding sumBelow
 sum-const zero c = omega arith

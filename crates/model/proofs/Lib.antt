@@ -1,5 +1,6 @@
 pub mod IndexedLaws
 pub mod FormLaws
+pub mod BlankSlots
 pub mod StepLaws
 pub mod RunLaws
 pub mod NewValues

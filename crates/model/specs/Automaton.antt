@@ -19,7 +19,7 @@ use Rattle.model.specs.declared.Edge.{Edge}
 use Rattle.model.specs.declared.Model.{Model}
 use Rattle.model.specs.declared.State.{State}
 use Rattle.model.specs.declared.Stepped.{Stepped}
-use Rattle.model.specs.declared.Sizes.{Sizes}
+use Rattle.model.specs.declared.Totals.{Totals}
 pub use Rattle.new_values.specs.NewValues.{inRange, moved, isNegative, shifted, newValue, isValue, valueOrZero}
 use Rattle.model.specs.Indexed.{listBelow, allBelow, maxBelow, sumBelow, onlyIf, isSome, orZero}
 use Rattle.model.specs.Record.{blankCounter, atomAt, updateAt, resetAt, counterAt, invariantAt, edgeAt}
@@ -180,5 +180,5 @@ stepped s none = record { allowed = false; state = s }
 stepped s (some t) = record { allowed = true; state = t }
 
 -- M, S and H
-unfoldable pub sizes : Model → Sizes
-sizes m = record { ceiling = ceiling m; state = stateSize m; choices = choices m }
+unfoldable pub totals : Model → Totals
+totals m = record { ceiling = ceiling m; state = stateSize m; choices = choices m }

@@ -2,8 +2,8 @@
 use Prim.Native.Nat.{ℕ, _≤_}
 use mathlib.Core.Path.{_≡_}
 use Rattle.model.specs.declared.Model.{Model}
-use Rattle.model.specs.declared.Sizes.{Sizes}
-use Rattle.model.specs.Automaton.{ceiling, sizes}
+use Rattle.model.specs.declared.Totals.{Totals}
+use Rattle.model.specs.Automaton.{ceiling, totals}
 
 -- r is M. A constant of the record is a byte, so M is at most 256.
 pub record Ceiling (m : Model) (r : ℕ) : Type 0 where
@@ -11,8 +11,8 @@ pub record Ceiling (m : Model) (r : ℕ) : Type 0 where
   pub most : r ≤ 256
 
 -- r is M, S and H
-pub record KnownSizes (m : Model) (r : Sizes) : Type 0 where
-  pub is : r ≡ sizes m
+pub record KnownTotals (m : Model) (r : Totals) : Type 0 where
+  pub is : r ≡ totals m
   pub ceiling-most : r .ceiling ≤ 256
   pub state-most : r .state ≤ 131070
   pub choices-most : r .choices ≤ 512

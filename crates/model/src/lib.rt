@@ -3,8 +3,8 @@ ghost use mathlib.Core.Path.{_≡_};
 ghost use Rattle.model.specs.Record.{blankModel};
 
 mod atoms;
+mod ceiling;
 mod steps;
-mod totals;
 mod updates;
 
 // How an atom compares a value with its constant.
@@ -106,7 +106,7 @@ pub struct Stepped {
 }
 
 // M, S and H: the ceiling, and the lengths of a state block and of a choice block.
-pub struct Sizes {
+pub struct Totals {
     pub ceiling: usize,
     pub state: usize,
     pub choices: usize,

@@ -1,4 +1,4 @@
-// Questions about the clause list: totals, emission, and both conversions.
+// Questions about the clause list: counts, emission, and both conversions.
 use crate::print::end;
 use crate::print::four_numbers;
 use crate::print::more;

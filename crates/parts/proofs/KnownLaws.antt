@@ -1,8 +1,8 @@
 -- What the table of a well-formed model tells: where groups lie, which parts fit, and which pieces of the list they make.
-use mathlib.Core.Path.{_≡_, refl, sym, ap, ap₂, subst, _∙_}
+use mathlib.Core.Path.{_≡_, sym, ap, ap₂, subst, _∙_}
 use mathlib.Core.Bool.{Bool, true, false, cond}
 use mathlib.Core.List.{List, [], _∷_, _++_}
-use Prim.Native.Nat.{ℕ, zero, suc, _+_, _-_, _*_, _≤_, _<_}
+use Prim.Native.Nat.{ℕ, _+_, _-_, _*_, _≤_, _<_}
 use native.Mathlib.Nat.{mul-le-mul-right, suc-mul}
 use native.Mathlib.Omega.{arith}
 use lib.Dec.{ltb}
@@ -15,7 +15,7 @@ use Rattle.model.specs.declared.Model.{Model}
 use Rattle.model.specs.Indexed.{each, sumBelow}
 use Rattle.model.specs.Record.{atomAt, invariantAt, edgeAt, counterAt}
 use Rattle.model.specs.Automaton.{ceiling, Component, loc, groupSize, initialValue, stateSize, choices, variables}
-use Rattle.model.proofs.IndexedLaws.{length-each}
+use Rattle.model.proofs.IndexedLaws.{length-each, sum-same}
 use Rattle.model.proofs.FormLaws.{WellFormed, DeclaredAtom, DeclaredUpdate, formed, choices-is, variables-is}
 use Rattle.list.specs.Items.{blockAt, nextBlock, stateWidth, choiceWidth, stateItems, edgesItems, stateMember, groupItems, initialItems, invariantOf}
 use Rattle.list.specs.Items.{invariantItems, excludeFailing, choiceItems, delayItems, delaysItems, edgeOf}
@@ -72,11 +72,6 @@ step-room m t k l =
       mul-le-mul-right (stateSize m + choices m) l,
       suc-mul t (stateSize m + choices m),
     )
-
-sum-same : (f g : ℕ → ℕ) (n : ℕ) → ((i : ℕ) → i < n → f i ≡ g i) → sumBelow f n ≡ sumBelow g n
-unfolding sumBelow
-sum-same f g zero h = refl
-sum-same f g (suc n) h = omega (arith, sum-same f g n (λ i l. h i (omega arith)), h n (omega arith))
 
 module _ {m : Model} {b : GroupTable} (k : Known m b) where
   pub wf : WellFormed m

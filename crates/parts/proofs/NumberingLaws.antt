@@ -1,33 +1,25 @@
 -- The number of a solver variable in terms of the list's blocks, and bounds of what a well-formed record's blocks hold.
-use mathlib.Core.Path.{_≡_, refl, sym, _∙_}
+use mathlib.Core.Path.{_≡_, refl, sym, ap, _∙_}
 use Prim.Native.Nat.{ℕ, _+_, _*_, _≤_}
 use native.Mathlib.Nat.{mul-le-mul}
 use native.Mathlib.Omega.{arith}
 use lib.Dec.{T}
 use Rattle.model.specs.Form.{wellFormed}
 use Rattle.model.specs.declared.Model.{Model}
-use Rattle.model.specs.declared.Sizes.{Sizes}
-use Rattle.model.specs.Bounds.{KnownSizes}
+use Rattle.model.specs.declared.Totals.{Totals}
+use Rattle.model.specs.Bounds.{KnownTotals}
 use Rattle.model.specs.Automaton.{Component, stateSize, choices}
-use Rattle.model.proofs.FormLaws.{WellFormed, formed, stateSize-le, choices-le, state-of-sizes, choices-of-sizes}
+use Rattle.model.proofs.FormLaws.{WellFormed, formed, stateSize-le, choices-le, state-of-totals, choices-of-totals}
 use Rattle.list.specs.Items.{offset, stateWidth, blockAt, stateMember, choiceMember}
 use Rattle.list.specs.Clauses.{oneHotWidth, variableOf}
+use Rattle.list.proofs.OneHot.{state-width-is, block-is}
 use Rattle.parts.specs.Numbering.{variableNumber}
 
 module _ (m : Model) where
-  -- S as the list's definitions have it
-  pub state-width : stateWidth oneHotWidth m ≡ stateSize m
-  unfolding stateSize
-  state-width = refl
-
-  pub block-at : (t : ℕ) → blockAt oneHotWidth m t ≡ t * (stateSize m + choices m)
-  unfolding stateSize
-  block-at t = refl
-
   -- a variable's number is one more than its place after the blocks before
   pub variable-number : (t p : ℕ) → variableNumber m t p ≡ blockAt oneHotWidth m t + p + 1
-  unfolding variableNumber stateSize
-  variable-number t p = refl
+  unfolding variableNumber
+  variable-number t p = ap (λ (n : ℕ). n + p + 1) (sym (block-is m t))
 
   -- the number of value v of component x in state t, and of choice c in the choice block after it
   pub state-number : (t : ℕ) (x : Component) (v : ℕ)
@@ -35,23 +27,23 @@ module _ (m : Model) where
   state-number t x v = omega (arith, variable-number t (offset oneHotWidth m x + v))
 
   pub choice-number : (t c : ℕ) → variableOf (choiceMember oneHotWidth m (blockAt oneHotWidth m t) c) + 1 ≡ variableNumber m t (stateSize m + c)
-  choice-number t c = omega (arith, variable-number t (stateSize m + c), state-width)
+  choice-number t c = omega (arith, variable-number t (stateSize m + c), state-width-is m)
 
   -- at most 64 blocks of 336 variables come before a block
   pub block-most : WellFormed m → (t : ℕ) → t ≤ 64 → blockAt oneHotWidth m t ≤ 21504
   block-most ok t h =
       let w : stateSize m + choices m ≤ 336 = omega (arith, stateSize-le m ok, choices-le m ok) in
-      omega (arith, block-at t, mul-le-mul h w)
+      omega (arith, block-is m t, mul-le-mul h w)
 
--- ---- by the sizes that the code answers
+-- ---- by the totals that the code answers
 -- H at most, of a well-formed record
-pub choices-most : (m : Model) (z : Sizes) → T (wellFormed m) → KnownSizes m z → z .choices ≤ 64
-choices-most m z ok k = omega (arith, choices-of-sizes m z k, choices-le m (formed m ok))
+pub choices-most : (m : Model) (z : Totals) → T (wellFormed m) → KnownTotals m z → z .choices ≤ 64
+choices-most m z ok k = omega (arith, choices-of-totals m z k, choices-le m (formed m ok))
 
-module _ (m : Model) (z : Sizes) (k : KnownSizes m z) where
+module _ (m : Model) (z : Totals) (k : KnownTotals m z) where
   pub width-is : z .state ≡ stateWidth oneHotWidth m
-  width-is = state-of-sizes m z k ∙ sym (state-width m)
+  width-is = state-of-totals m z k ∙ sym (state-width-is m)
 
   pub number-is : (t p : ℕ) → variableNumber m t p ≡ t * (z .state + z .choices) + p + 1
   unfolding variableNumber
-  number-is t p = rw (state-of-sizes m z k, choices-of-sizes m z k) refl
+  number-is t p = rw (state-of-totals m z k, choices-of-totals m z k) refl

@@ -27,7 +27,7 @@ use Rattle.list.specs.Items.{sourceItems, targetItems, guardItems, updatesItems
 use Rattle.list.specs.Clauses.{bare, negated, Clause, one, oneHotWidth, variableOf, groupClauses, expand, clausesOf}
 use Rattle.list.proofs.ListLaws.{each-add, each-cong, flat-none}
 use Rattle.list.proofs.OneHot.{next-block-is}
-use Rattle.list.proofs.PieceClauses.{groups-piece, initial-piece, values-piece, delay-piece, leads-piece, puts-piece, edge-piece, source-piece, target-piece}
+use Rattle.list.proofs.PieceClauses.{groups-piece, initial-piece, values-piece, delay-piece, leads-piece, sets-piece, edge-piece, source-piece, target-piece}
 use Rattle.list.proofs.PieceClauses.{guard-piece, updates-piece, resets-piece}
 use Rattle.parts.specs.declared.Rule.{Rule}
 use Rattle.parts.specs.declared.Rule.the-variants.{Exclude, Keep, Rise, Shift, Set, Forbid}
@@ -205,7 +205,7 @@ module _ (m : Model) where
         ap₂ (λ (a b : ℕ). a + b) (next-is o) (first-is m (1 + i) (omega (arith, ok .vars-le)) ∙ ap at (comp-counter m i l)) in
         set-is (o + S + c) _ _ _ ∙ ap₂ (λ (z g : ℕ). ruleClauses (o + S + c) 0 z 0 (cond (leb n g) (Set n) Forbid)) e (greatest-is i) ∙
         constant-is (o + S + c) (after o + at (counter i)) n (leb n (counterAt m i .greatest)) ∙ sym
-        (puts-piece m o c (counter i) (inRange (counterAt m i .greatest) n))
+        (sets-piece m o c (counter i) (inRange (counterAt m i .greatest) n))
     update-law o c i (Sum w z) l d =
         ap (λ (g : ℕ). partClauses (o + S + c) (leadsPart (groupTable m) o (1 + w) (1 + i) (Shift z g))) (greatest-is i) ∙
         leads-from (o + S + c) o (Shift z (counterAt m i .greatest)) (omega (arith, ok .vars-le)) (omega (arith, ok .vars-le)) (comp-counter m w d)
@@ -223,7 +223,7 @@ module _ (m : Model) where
         let e : nextAt (groupTable m) o + firstAt (groupTable m) (1 + groupTable m .vars + i) ≡ after o + at (clock i) =
         ap₂ (λ (a b : ℕ). a + b) (next-is o)
         (ap (λ (v : ℕ). firstAt (groupTable m) (1 + v + i)) vars-are ∙ first-is m (1 + m .vars + i) k ∙ ap at (comp-clock m i)) in
-        set-is (o + S + c) _ _ _ ∙ ap (λ (z : ℕ). ruleClauses (o + S + c) 0 z 0 (Set 0)) e ∙ sym (puts-piece m o c (clock i) (some 0))
+        set-is (o + S + c) _ _ _ ∙ ap (λ (z : ℕ). ruleClauses (o + S + c) 0 z 0 (Set 0)) e ∙ sym (sets-piece m o c (clock i) (some 0))
 
     module _ (o c : ℕ) (e : Edge) (w : WellFormedEdge m e) where
       abbrev x : ℕ

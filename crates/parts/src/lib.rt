@@ -5,7 +5,7 @@ use model::Counter;
 use model::Edge;
 use model::Model;
 use model::Relation;
-use model::Sizes;
+use model::Totals;
 use model::Update;
 ghost use mathlib.Core.Path.{_≡_};
 ghost use mathlib.Core.Bool.{cond};
@@ -13,7 +13,7 @@ ghost use Prim.Native.Nat.{ℕ, _+_, _<_, _≤_, min};
 ghost use lib.Dec.{T, leb};
 ghost use lib.ListN.{getD};
 ghost use Rattle.model.specs.Automaton.{ceiling, groupSize};
-ghost use Rattle.model.specs.Bounds.{KnownSizes};
+ghost use Rattle.model.specs.Bounds.{KnownTotals};
 ghost use Rattle.model.specs.Form.{wellFormed};
 ghost use Rattle.parts.specs.Numbering.{mostVariables};
 ghost use Rattle.parts.specs.StateBlock.{componentAt, groupTable, Bounded};
@@ -76,8 +76,8 @@ fn group_size(m: Model, top: u8, g: usize) -> usize
     top as usize + 1
 }
 
-pub fn group_table(m: Model, z: Sizes) -> GroupTable
-    requires { ⌜ T (wellFormed m) × KnownSizes m z ⌝ }
+pub fn group_table(m: Model, z: Totals) -> GroupTable
+    requires { ⌜ T (wellFormed m) × KnownTotals m z ⌝ }
     ensures { λ r. ⌜ r ≡ groupTable m ⌝ }
 {
     let top = z.ceiling as u8;

@@ -8,7 +8,7 @@ use crate::truth::is_true;
 use counts::tables::edge_table;
 use counts::tables::invariant_table;
 use model::Model;
-use model::Sizes;
+use model::Totals;
 use parts::GroupTable;
 use parts::group_table;
 use parts::numbering::block_start;
@@ -19,7 +19,7 @@ ghost use lib.Dec.{T};
 ghost use lib.ListN.{length};
 ghost use Rattle.model.specs.Indexed.{each};
 ghost use Rattle.model.specs.Automaton.{variables};
-ghost use Rattle.model.specs.Bounds.{KnownSizes};
+ghost use Rattle.model.specs.Bounds.{KnownTotals};
 ghost use Rattle.model.specs.Form.{wellFormed};
 ghost use Rattle.list.specs.Items.{invariantOf, edgeOf};
 ghost use Rattle.list.specs.Clauses.{oneHotWidth, clauses};
@@ -43,7 +43,7 @@ pub enum Found {
 // whose choice is false are true: they are counted and not looked at.
 fn check_steps(
     m: Model,
-    z: Sizes,
+    z: Totals,
     b: GroupTable,
     invariants: [usize; Model::LOCATIONS],
     table: [usize; Model::EDGES],
@@ -51,7 +51,7 @@ fn check_steps(
     a: &[u8],
     at: usize,
 ) -> PieceCheck
-    requires { ⌜ Known m b × KnownSizes m z × Table (invariantOf oneHotWidth m) (m .locations) 16 mostInvariantClauses invariants × Table (edgeOf oneHotWidth m) (m .used) 32 mostEdgeClauses table × (bound ≤ 64) × (length (now a) ≡ variables m bound) × (at + 64 * mostStepClauses ≤ mostCounted) ⌝ }
+    requires { ⌜ Known m b × KnownTotals m z × Table (invariantOf oneHotWidth m) (m .locations) 16 mostInvariantClauses invariants × Table (edgeOf oneHotWidth m) (m .used) 32 mostEdgeClauses table × (bound ≤ 64) × (length (now a) ≡ variables m bound) × (at + 64 * mostStepClauses ≤ mostCounted) ⌝ }
     ensures { λ r. ⌜ Checked (now (a .entry)) (each bound (stepClauses m)) at (64 * mostStepClauses) r ⌝ }
 {
     let edges_at = b.state + b.top as usize + 1;
@@ -103,7 +103,7 @@ pub fn first_false(m: Model, bound: usize, a: &[u8]) -> Found
     requires { ⌜ T (wellFormed m) × (bound ≤ 64) × (length (now a) ≡ variables m bound) ⌝ }
     ensures { λ r. ⌜ found r ≡ firstFalse (now (a .entry)) (clauses m bound) ⌝ }
 {
-    let z = m.sizes();
+    let z = m.totals();
     let b = group_table(m, z);
     let invariants = invariant_table(m, b);
     let start = check_start(m, b, invariants, a);

@@ -68,7 +68,7 @@ pub fn totals_of(m: Model, bound: usize) -> TotalsAnswer
     if Model::STEPS < bound {
         return TotalsAnswer::BoundTooLarge;
     }
-    let z = m.sizes();
+    let z = m.totals();
     TotalsAnswer::Totals {
         state: z.state,
         choices: z.choices,

@@ -15,7 +15,7 @@ use Rattle.model.specs.Indexed.{andThen, maybe}
 use Rattle.model.specs.Automaton.{choices, step}
 use Rattle.model.specs.Run.{walk, start, endsIn, isRun}
 use Rattle.model.specs.Form.{wellFormed}
-use Rattle.model.specs.Refusal.{Refusal, refusal, accepted}
+use Rattle.model.specs.Refusal.{Refusal, refusal, accepted, isAccepted}
 use Rattle.model.proofs.StepLaws.{step-lt}
 use Rattle.walk.specs.Walker.{walkSteps, walkReport}
 
@@ -58,3 +58,35 @@ accepts-iff m r = go (wellFormed m) (ltb 64 (length r)) refl (start m)
     go true true e o = (λ h. absurd (refuses (λ z. omega arith) h), λ h. absurd (omega (arith, ltb-true 64 (length r) e, h .1)))
     go true false e none = (λ h. absurd (refuses (λ z. omega arith) h), λ h. absurd (h .2))
     go true false e (some s) = (λ h. (tt, ltb-false 64 (length r) e, steps-iff m r 1 s .1 h), λ h. steps-iff m r 1 s .0 (h .2))
+
+-- ---- a report with the number 0 is that of an accepted run
+abbrev ZeroAccepted : Refusal → Type 0
+ZeroAccepted x = isAccepted x ≡ true → x ≡ accepted
+
+never : {A : Type 0} → _≡_ {A = Bool} false true → A
+never e = absurd (subst T (sym e) tt)
+
+steps-zero : (m : Model) (r : List ℕ) (t : ℕ) (s : State) → ZeroAccepted (walkSteps m t s r)
+unfolding walkSteps
+steps-zero m [] t s = go (eqb (s .location) (m .target))
+  where
+    go : (b : Bool) → ZeroAccepted (cond b accepted (refusal 30 0))
+    go true h = refl
+    go false h = never h
+steps-zero m (b ∷ r) t s = go (leb (choices m) b) (step m s b) (λ u. steps-zero m r (t + 1) u)
+  where
+    go : (x : Bool) (o : Option State) → ((u : State) → ZeroAccepted (walkSteps m (t + 1) u r))
+        → ZeroAccepted (cond x (refusal 27 t) (maybe o (refusal 28 t) (λ u. walkSteps m (t + 1) u r)))
+    go true o ih h = never h
+    go false none ih h = never h
+    go false (some u) ih h = ih u h
+
+pub zero-accepted : (m : Model) (r : List ℕ) → ZeroAccepted (walkReport m r)
+unfolding walkReport
+zero-accepted m r = go (wellFormed m) (ltb 64 (length r)) (start m)
+  where
+    go : (w l : Bool) (o : Option State) → ZeroAccepted (cond (not w) (refusal 20 0) (cond l (refusal 21 0) (maybe o (refusal 29 0) (λ s. walkSteps m 1 s r))))
+    go false l o h = never h
+    go true true o h = never h
+    go true false none h = never h
+    go true false (some s) h = steps-zero m r 1 s h

@@ -118,7 +118,7 @@ pub fn step(m: Model, s: State, byte: u8) -> StepAnswer
             state: s,
         };
     }
-    let z = m.sizes();
+    let z = m.totals();
     if z.choices <= byte as usize {
         return StepAnswer {
             outcome: StepOutcome::NoSuchChoice,
@@ -144,7 +144,7 @@ fn walk_from(m: Model, first: State, run: &[u8]) -> Verdict
     requires { ⌜ T (wellFormed m) × (length (now run) ≤ 64) ⌝ }
     ensures { λ r. ⌜ walkTold r ≡ walkSteps m 1 first (now (run .entry)) ⌝ }
 {
-    let z = m.sizes();
+    let z = m.totals();
     let choices = z.choices;
     let top = z.ceiling as u8;
     let mut s = first;

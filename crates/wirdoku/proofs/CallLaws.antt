@@ -1,4 +1,4 @@
--- The steps of the code: the totals' answer, case by case.
+-- The steps of the code: the counts' answer, case by case.
 use mathlib.Core.Path.{_≡_, sym, ap, _∙_}
 use Rattle.counts.specs.declared.CountsAnswer.{CountsAnswer}
 use Prim.Native.Nat.{ℕ}

@@ -21,7 +21,7 @@ answerTold a = refusal (a .number) (a .place)
 abbrev pub textReport : ReadReport → Refusal
 textReport t = refusal (t .number) (t .line)
 
--- the totals of the list, or the number of their refusal
+-- the counts of the list, or the number of their refusal
 abbrev pub countedSizes : ListReport → SizeReport
 countedSizes r = record { number = r .number; line = 0; variables = r .variables; clauses = r .clauses; words = r .words }
 

@@ -74,7 +74,7 @@ fn told(number: u8, place: usize) -> Answer
 fn shape_of(m: Model) -> Shape
     ensures { λ r. ⌜ r ≡ shapeOf m ⌝ }
 {
-    let z = m.sizes();
+    let z = m.totals();
     Shape {
         number: 0,
         line: 0,
@@ -123,7 +123,13 @@ pub extern "C" fn wirdoku_shape(text: &[u8]) -> Shape
     shape_of(model)
 }
 
-fn sizes(number: u8, line: usize, variables: usize, clauses: usize, words: usize) -> SizeAnswer
+fn size_answer(
+    number: u8,
+    line: usize,
+    variables: usize,
+    clauses: usize,
+    words: usize,
+) -> SizeAnswer
     ensures { λ r. ⌜ r ≡ record { number = number; line = line; variables = variables; clauses = clauses; words = words } ⌝ }
 {
     SizeAnswer {
@@ -140,17 +146,17 @@ fn counted(c: CountsAnswer) -> SizeAnswer
 {
     let number = c.number();
     match c {
-        CountsAnswer::NotWellFormed => sizes(number, 0, 0, 0, 0),
-        CountsAnswer::BoundTooLarge => sizes(number, 0, 0, 0, 0),
+        CountsAnswer::NotWellFormed => size_answer(number, 0, 0, 0, 0),
+        CountsAnswer::BoundTooLarge => size_answer(number, 0, 0, 0, 0),
         CountsAnswer::Counts {
             variables,
             clauses,
             words,
-        } => sizes(number, 0, variables, clauses, words),
+        } => size_answer(number, 0, variables, clauses, words),
     }
 }
 
-// The totals of the list for a bound, by formula: the text, 21.
+// The counts of the list for a bound, by formula: the text, 21.
 #[no_mangle]
 pub extern "C" fn wirdoku_counts(text: &[u8], bound: usize) -> SizeAnswer
     ensures { λ r. ⌜ sizeTold r ≡ ifRead (readReport (now (text .entry))) (λ m. countedSizes (listReport m bound)) refusedSizes ⌝ }
@@ -159,7 +165,7 @@ pub extern "C" fn wirdoku_counts(text: &[u8], bound: usize) -> SizeAnswer
     let outcome = read.outcome;
     let number = outcome.number();
     if number != 0 {
-        return sizes(number, outcome.line(), 0, 0, 0);
+        return size_answer(number, outcome.line(), 0, 0, 0);
     }
     let model = read.model;
     counted(counts_of(model, bound))

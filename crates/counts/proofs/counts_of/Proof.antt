@@ -1,4 +1,4 @@
--- counts_of: both refusals, then the totals by list_counts.
+-- counts_of: both refusals, then the counts by list_counts.
 use mathlib.Core.Path.{_≡_, sym, _∙_}
 use mathlib.Core.Bool.{true}
 use borrow.Author.Tests.{not-true, not-false, lt-ltb, le-ltb}
@@ -24,16 +24,16 @@ returns-2 : tie.Need-returns-2
 unfolding listReport
 returns-2 c = rw (sym (c .before .before .well-formed .ensures) ∙ not-false _ (c .before .if1 .left), lt-ltb _ _ (c .if2 .taken))
 
-sizes-requires : tie.Need-sizes-requires
-sizes-requires c κs = search needs
+totals-requires : tie.Need-totals-requires
+totals-requires c κs = search needs
 
 group-table-requires : tie.Need-group-table-requires
-group-table-requires c κs = (T-true _ .1 (accepted (c .before)), c .sizes .ensures)
+group-table-requires c κs = (T-true _ .1 (accepted (c .before)), c .totals .ensures)
 
 list-counts-requires : tie.Need-list-counts-requires
 list-counts-requires c κs =
     let p = c .before .before in
-    (c .before .sizes .ensures, record { formed = T-true _ .1 (accepted p); is = c .group-table .ensures }, p .if2 .left)
+    (c .before .totals .ensures, record { formed = T-true _ .1 (accepted p); is = c .group-table .ensures }, p .if2 .left)
 
 returns-3 : tie.Need-returns-3
 unfolding listReport
@@ -49,7 +49,7 @@ counts-of-spec =
     well-formed-requires
     returns
     returns-2
-    sizes-requires
+    totals-requires
     group-table-requires
     list-counts-requires
     returns-3)

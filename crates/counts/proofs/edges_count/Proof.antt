@@ -9,7 +9,7 @@ use Rattle.list.specs.Clauses.{oneHotWidth, clausesOf}
 use Rattle.parts.proofs.KnownLaws.{known-bounded}
 use Rattle.counts.specs.Counted.{Counted}
 use Rattle.counts.proofs.CountLaws.{counted-each-none, counted-each-more, Most, clauses-le, words-le}
-use Rattle.counts.proofs.ListTotals.{edge-counted, edges-counted}
+use Rattle.counts.proofs.CountedList.{edge-counted, edges-counted}
 use Rattle.counts.proofs.PieceBounds.{edges-most}
 use borrow.Author.Needs.{needs}
 use Rattle.counts.proofs.edges_count.Statement.{statement}

@@ -9,7 +9,7 @@ use Rattle.list.specs.Clauses.{oneHotWidth, clausesOf}
 use Rattle.parts.proofs.KnownLaws.{known-bounded}
 use Rattle.counts.specs.Counted.{Counted}
 use Rattle.counts.proofs.CountLaws.{counted-each-none, counted-each-more, Most, clauses-le, words-le}
-use Rattle.counts.proofs.ListTotals.{location-counted, invariants-counted}
+use Rattle.counts.proofs.CountedList.{location-counted, invariants-counted}
 use Rattle.counts.proofs.PieceBounds.{invariants-most}
 use borrow.Author.Needs.{needs}
 use Rattle.counts.proofs.invariants_count.Statement.{statement}

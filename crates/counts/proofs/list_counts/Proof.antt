@@ -7,7 +7,7 @@ use Rattle.parts.specs.Numbering.{mostVariables}
 use Rattle.counts.specs.Counted.{Counted}
 use Rattle.counts.specs.KnownCounts.{mostClauses, mostWords}
 use Rattle.counts.proofs.CountLaws.{Most, clauses-le, words-le}
-use Rattle.counts.proofs.ListTotals.{list-counted, list-words, known-variables}
+use Rattle.counts.proofs.CountedList.{list-counted, list-words, known-variables}
 use Rattle.counts.proofs.PieceBounds.{state-most, moves-most, list-most}
 use borrow.Author.Needs.{needs}
 use Rattle.counts.proofs.list_counts.Statement.{statement}

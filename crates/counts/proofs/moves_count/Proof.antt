@@ -8,7 +8,7 @@ use Rattle.list.specs.Clauses.{oneHotWidth, clausesOf}
 use Rattle.parts.proofs.KnownLaws.{known-bounded}
 use Rattle.counts.specs.Counted.{Counted}
 use Rattle.counts.proofs.CountLaws.{Most, clauses-le, words-le}
-use Rattle.counts.proofs.ListTotals.{moves-counted}
+use Rattle.counts.proofs.CountedList.{moves-counted}
 use Rattle.counts.proofs.PieceBounds.{moves-most}
 use borrow.Author.Needs.{needs}
 use Rattle.counts.proofs.moves_count.Statement.{statement}

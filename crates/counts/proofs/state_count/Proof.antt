@@ -6,7 +6,7 @@ use Rattle.list.specs.Clauses.{oneHotWidth, clausesOf}
 use Rattle.parts.proofs.KnownLaws.{known-bounded}
 use Rattle.counts.specs.Counted.{Counted}
 use Rattle.counts.proofs.CountLaws.{clauses-le, words-le}
-use Rattle.counts.proofs.ListTotals.{state-counted}
+use Rattle.counts.proofs.CountedList.{state-counted}
 use Rattle.counts.proofs.PieceBounds.{state-most}
 use borrow.Author.Needs.{needs}
 use Rattle.counts.proofs.state_count.Statement.{statement}

@@ -1,4 +1,4 @@
--- emit_within: the three refusals, then the list by put_list; the totals say whether it fits.
+-- emit_within: the three refusals, then the list by put_list; the counts say whether it fits.
 use native.Mathlib.Omega.{arith}
 use Rattle.emission.proofs.EmitLaws.{refused-20, refused-21, refused-22, accepted, list-room, room-is}
 use Rattle.model.specs.Form.{wellFormed}
@@ -38,16 +38,16 @@ returns-2 c =
     let x = refused-21 (a .m) (a .bound) n (now (a .out)) h (c .if2 .taken) in
     (x .report, x .left)
 
-sizes-requires : tie.Need-sizes-requires
-sizes-requires c κs = search needs
+totals-requires : tie.Need-totals-requires
+totals-requires c κs = search needs
 
 group-table-requires : tie.Need-group-table-requires
-group-table-requires c κs = (T-true _ .1 (formed-is (c .before)), c .sizes .ensures)
+group-table-requires c κs = (T-true _ .1 (formed-is (c .before)), c .totals .ensures)
 
 list-counts-requires : tie.Need-list-counts-requires
 list-counts-requires c κs =
     let p = c .before .before in
-    (c .before .sizes .ensures, record { formed = T-true _ .1 (formed-is p); is = c .group-table .ensures }, p .if2 .left)
+    (c .before .totals .ensures, record { formed = T-true _ .1 (formed-is p); is = c .group-table .ensures }, p .if2 .left)
 
 returns-3 : tie.Need-returns-3
 returns-3 c =
@@ -67,7 +67,7 @@ put-list-requires c κs =
     let a = q .before .args in
     let l : n .result .words ≤ length (now (a .out)) = omega (arith, q .smaller .ensures, c .before .if3 .left) in (
       record { formed = T-true _ .1 (formed-is p); is = c .before .before .before .group-table .ensures },
-      c .before .before .before .before .sizes .ensures,
+      c .before .before .before .before .totals .ensures,
       p .if2 .left,
       list-room (a .m) (a .bound) (q .smaller .result) (now (a .out)) (formed-is p) (p .if2 .left) (n .result) (n .ensures) l,
     )
@@ -89,5 +89,5 @@ returns-4 c =
 
 pub emit-within-spec : {M : Type 1} → statement M
 emit-within-spec =
-    tie.close (tie.spec smaller-requires well-formed-requires returns returns-2 sizes-requires group-table-requires list-counts-requires returns-3
+    tie.close (tie.spec smaller-requires well-formed-requires returns returns-2 totals-requires group-table-requires list-counts-requires returns-3
     put-list-requires same-length returns-4)

@@ -11,16 +11,16 @@ use Rattle.list.specs.Clauses.{oneHotWidth, clausesOf}
 use Rattle.parts.specs.Pieces.{stepClauses}
 use Rattle.emission.specs.Written.{WroteClauses}
 use Rattle.emission.proofs.ListPieces.{lent, clauses-are}
-use Rattle.emission.proofs.ClauseLaws.{wrote-then, wrote-tail, wrote-each-tail, wrote-each-none, room-first}
+use Rattle.emission.proofs.ClauseLaws.{wrote-then, wrote-tail, wrote-first, wrote-each-tail, wrote-each-none, room-first}
 use Rattle.emission.proofs.ClauseLaws.{room-then, room-each, room-tail, wrote-as, room-as}
 use Rattle.emission.proofs.put_list.Statement.{statement}
 use Rattle.emission.proofs.put_list.Tie as tie
 
 abbrev Inv-loop : tie.InvT-loop
-Inv-loop m z b bound out₀ first size at₀ t₀ out at t = (t ≤ bound) × WroteClauses (each t (stepClauses m)) out₀ out at₀ at
+Inv-loop m z b bound out₀ first size at₀ n t₀ out at t = (t ≤ bound) × WroteClauses (each t (stepClauses m)) out₀ out at₀ at
 
 abbrev μ-loop : tie.MeasureT-loop
-μ-loop m z b bound out₀ first size at₀ t₀ out at t = bound - t
+μ-loop m z b bound out₀ first size at₀ n t₀ out at t = bound - t
 
 slice-aggregate-first : tie.Need-slice-aggregate-first Inv-loop μ-loop
 slice-aggregate-first c = search needs
@@ -28,14 +28,31 @@ slice-aggregate-first c = search needs
 slice-aggregate-size : tie.Need-slice-aggregate-size Inv-loop μ-loop
 slice-aggregate-size c = search needs
 
+mul-put-start : tie.Need-mul-put-start Inv-loop μ-loop
+mul-put-start c = search needs
+
+sub-put-start : tie.Need-sub-put-start Inv-loop μ-loop
+sub-put-start c = search needs
+
+part-put-start-start : tie.Need-part-put-start-start Inv-loop μ-loop
+part-put-start-start c = search needs
+
+part-put-start-end : tie.Need-part-put-start-end Inv-loop μ-loop
+part-put-start-end c = search needs
+
 put-start-requires : tie.Need-put-start-requires Inv-loop μ-loop
 put-start-requires c κs =
     let start = c .before .before .before .before .before in
     let p = start .pre in
-    (p .0, p .1, lent (p .0), room-first _ (room-first _ (room-as (clauses-are (start .args .m) (start .args .bound)) (p .3))))
+    (p .0, p .1, lent (p .0), room-tail (room-first _ (room-first _ (room-as (clauses-are (start .args .m) (start .args .bound)) (p .3)))))
+
+add-at : tie.Need-add-at Inv-loop μ-loop
+add-at c = search needs
 
 loop-holds : tie.Need-loop-holds Inv-loop μ-loop
-loop-holds c = (omega arith, wrote-each-none _ _ _ (omega (arith, c .before .put-start .ensures .words .fits, c .before .put-start .ensures .words .long)))
+loop-holds c =
+    let w = wrote-first {old = now (c .before .before .before .before .before .before .before .args .out)} (c .before .put-start .ensures) in
+    (omega arith, wrote-each-none _ _ _ (omega (arith, w .words .fits, w .words .long)))
 
 mul-put-step : tie.Need-mul-put-step Inv-loop μ-loop
 mul-put-step c = search needs
@@ -60,11 +77,11 @@ put-step-requires c κs =
       lent (p .0),
       omega arith,
       room-tail (room-each _ _ _ (turn .loop .inv .1) (c .before .loop-test .taken)
-          (room-then (at-put-start .put-start .ensures) (room-first _ (room-as (clauses-are (start .args .m) (start .args .bound)) (p .3))))),
+          (room-then (wrote-first (at-put-start .put-start .ensures)) (room-first _ (room-as (clauses-are (start .args .m) (start .args .bound)) (p .3))))),
     )
 
-add-at : tie.Need-add-at Inv-loop μ-loop
-add-at c = search needs
+add-at-2 : tie.Need-add-at-2 Inv-loop μ-loop
+add-at-2 c = search needs
 
 add-t : tie.Need-add-t Inv-loop μ-loop
 add-t c = search needs
@@ -83,7 +100,7 @@ steps-done : (c : tie.After-loop Inv-loop μ-loop)
 steps-done c =
     let a = c .before .before .before .before .before .before .before .before .before .args in
     let done : c .before .loop .t ≡ a .bound = omega arith in
-    wrote-then (c .before .before .before .put-start .ensures) (rw done at (c .before .loop .inv .1))
+    wrote-then (wrote-first (c .before .before .before .put-start .ensures)) (rw done at (c .before .loop .inv .1))
 
 mul-put-end : tie.Need-mul-put-end Inv-loop μ-loop
 mul-put-end c = search needs
@@ -117,6 +134,6 @@ returns c =
 
 pub put-list-spec : {M : Type 1} → statement M
 put-list-spec =
-    tie.close (tie.spec Inv-loop μ-loop slice-aggregate-first slice-aggregate-size put-start-requires loop-holds mul-put-step sub-put-step part-put-step-start
-    part-put-step-end put-step-requires add-at add-t loop-less loop-again mul-put-end sub-put-end part-put-end-start part-put-end-end put-end-requires
-    add-result same-length returns)
+    tie.close (tie.spec Inv-loop μ-loop slice-aggregate-first slice-aggregate-size mul-put-start sub-put-start part-put-start-start part-put-start-end
+    put-start-requires add-at loop-holds mul-put-step sub-put-step part-put-step-start part-put-step-end put-step-requires add-at-2 add-t loop-less loop-again
+    mul-put-end sub-put-end part-put-end-start part-put-end-end put-end-requires add-result same-length returns)

@@ -7,9 +7,9 @@ use mathlib.Core.Option.{some}
 use lib.Seq.{take-length}
 use lib.ListN.{length, take}
 use Rattle.model.proofs.RunLaws.{walk-nil}
-use Rattle.model.proofs.FormLaws.{formed, ceiling-of-sizes}
+use Rattle.model.proofs.FormLaws.{formed, ceiling-of-totals}
 use Rattle.model.specs.Run.{walk}
-use Rattle.model.specs.Bounds.{KnownSizes}
+use Rattle.model.specs.Bounds.{KnownTotals}
 use Rattle.model.specs.Automaton.{ceiling}
 use Rattle.list.specs.Assignments.{oneHot, stepsBytes}
 use Rattle.encode.proofs.BlockLaws.{steps-none, taken, reached-more, steps-more, steps-whole}
@@ -20,29 +20,29 @@ use Rattle.encode.proofs.put_steps.Tie as tie
 
 abbrev Inv-loop : tie.InvT-loop
 Inv-loop m run out₀ at z top s₀ end₀ t₀ t-end out s end t =
-    (t ≤ t-end) × (t-end ≡ length run) × KnownSizes m z × (top ≡ ceiling m) × (walk m s₀ (take t run) ≡ some s)
+    (t ≤ t-end) × (t-end ≡ length run) × KnownTotals m z × (top ≡ ceiling m) × (walk m s₀ (take t run) ≡ some s)
     × Wrote (stepsBytes oneHot m s₀ (take t run)) out₀ out at end
 
 abbrev μ-loop : tie.MeasureT-loop
 μ-loop m run out₀ at z top s₀ end₀ t₀ t-end out s end t = t-end - t
 
-sizes-requires : tie.Need-sizes-requires Inv-loop μ-loop
-sizes-requires c κs = search needs
+totals-requires : tie.Need-totals-requires Inv-loop μ-loop
+totals-requires c κs = search needs
 
 cast-top : tie.Need-cast-top Inv-loop μ-loop
 cast-top c =
     let entry = c .before .before .before .before in
-    record { fits = omega (arith, ceiling-of-sizes _ _ (c .before .sizes .ensures), formed (entry .args .m) (entry .pre .0) .ceiling-le) }
+    record { fits = omega (arith, ceiling-of-totals _ _ (c .before .totals .ensures), formed (entry .args .m) (entry .pre .0) .ceiling-le) }
 
 loop-holds : tie.Need-loop-holds Inv-loop μ-loop
 loop-holds c =
-    let sizes-ensures = c .before .sizes .ensures in
+    let totals-ensures = c .before .totals .ensures in
     let entry = c .before .before .before .before in
     let args = entry .args in (
       search needs,
       refl,
-      sizes-ensures,
-      ceiling-of-sizes _ _ sizes-ensures,
+      totals-ensures,
+      ceiling-of-totals _ _ totals-ensures,
       walk-nil _ _ _ .1 refl,
       rw (steps-none (args .m) (args .first)) (wrote-none _ _ (omega (arith, entry .pre .2 .room))),
     )
@@ -112,5 +112,5 @@ returns c =
 
 pub put-steps-spec : {M : Type 1} → statement M
 put-steps-spec =
-    tie.close (tie.spec Inv-loop μ-loop sizes-requires cast-top loop-holds shared-slice-read-byte advance-requires put-step-requires add-t loop-less loop-again
+    tie.close (tie.spec Inv-loop μ-loop totals-requires cast-top loop-holds shared-slice-read-byte advance-requires put-step-requires add-t loop-less loop-again
     same-length returns)

@@ -1,4 +1,4 @@
--- `edge_slot_formed`: a used slot is judged by the model's sizes, another by those that only a blank edge meets.
+-- `edge_slot_formed`: a used slot is judged by what the model declares, another by what only a blank edge meets.
 use borrow.Author.Tests.{lt-ltb, le-ltb}
 use borrow.Author.Needs.{needs}
 use Rattle.form.proofs.edge_slot_formed.Statement.{statement}

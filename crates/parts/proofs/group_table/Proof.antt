@@ -4,7 +4,7 @@ use Rattle.parts.proofs.GroupLaws.{begins-next}
 use Rattle.parts.specs.StateBlock.{componentAt, groupTable}
 use Rattle.list.specs.Clauses.{oneHotWidth}
 use Rattle.list.specs.Items.{offset}
-use Rattle.model.proofs.FormLaws.{formed, ceiling-of-sizes, state-of-sizes, choices-of-sizes}
+use Rattle.model.proofs.FormLaws.{formed, ceiling-of-totals, state-of-totals, choices-of-totals}
 use Rattle.model.proofs.Filled.{filled, whole}
 use Rattle.model.proofs.IndexedLaws.{list-none}
 use Rattle.model.specs.Automaton.{ceiling, groupSize}
@@ -26,10 +26,10 @@ abbrev μ-loop : tie.MeasureT-loop
 
 cast-top : tie.Need-cast-top Inv-loop μ-loop
 cast-top c =
-    record { fits = omega (arith, ceiling-of-sizes _ _ (c .before .pre .1), formed (c .before .args .m) (c .before .pre .0) .ceiling-le) }
+    record { fits = omega (arith, ceiling-of-totals _ _ (c .before .pre .1), formed (c .before .args .m) (c .before .pre .0) .ceiling-le) }
 
 loop-holds : tie.Need-loop-holds Inv-loop μ-loop
-loop-holds c = (omega arith, refl, refl, ceiling-of-sizes _ _ (c .before .pre .1), omega arith, refl, sym (list-none _), sym (list-none _))
+loop-holds c = (omega arith, refl, refl, ceiling-of-totals _ _ (c .before .pre .1), omega arith, refl, sym (list-none _), sym (list-none _))
 
 group-size-requires : tie.Need-group-size-requires Inv-loop μ-loop
 group-size-requires c κs = (c .before .before .before .pre .0, c .before .loop .inv .3)
@@ -111,8 +111,8 @@ returns c =
       counters = m .counters;
       vars = m .vars;
       top = v .3 k;
-      state = state-of-sizes m _ (entry .pre .1) k;
-      choices = choices-of-sizes m _ (entry .pre .1) k;
+      state = state-of-totals m _ (entry .pre .1) k;
+      choices = choices-of-totals m _ (entry .pre .1) k;
     }
 
 pub group-table-spec : {M : Type 1} → statement M

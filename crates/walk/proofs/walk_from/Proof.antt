@@ -2,7 +2,7 @@
 use borrow.Author.Needs.{needs}
 use Rattle.walk.proofs.Reports.{taken-some, refused-none, end-30, end-0, at-27, at-28, goes-on}
 use Rattle.walk.specs.Walker.{walkSteps}
-use Rattle.model.proofs.FormLaws.{formed, ceiling-of-sizes, choices-of-sizes}
+use Rattle.model.proofs.FormLaws.{formed, ceiling-of-totals, choices-of-totals}
 use Rattle.model.specs.Automaton.{ceiling, choices as choiceCount}
 use Rattle.model.specs.Refusal.{Refusal}
 use Rattle.model.specs.declared.State.{State}
@@ -25,16 +25,16 @@ Inv-loop m run choices top s₀ t₀ t-end s t =
 abbrev μ-loop : tie.MeasureT-loop
 μ-loop m run choices top s₀ t₀ t-end s t = t-end - t
 
-sizes-requires : tie.Need-sizes-requires Inv-loop μ-loop
-sizes-requires c κs = search needs
+totals-requires : tie.Need-totals-requires Inv-loop μ-loop
+totals-requires c κs = search needs
 
 cast-top : tie.Need-cast-top Inv-loop μ-loop
 cast-top c =
     let entry = c .before .before .before in
-    record { fits = omega (arith, ceiling-of-sizes _ _ (c .before .sizes .ensures), formed (entry .args .m) (entry .pre .0) .ceiling-le) }
+    record { fits = omega (arith, ceiling-of-totals _ _ (c .before .totals .ensures), formed (entry .args .m) (entry .pre .0) .ceiling-le) }
 
 loop-holds : tie.Need-loop-holds Inv-loop μ-loop
-loop-holds c = (search needs, refl, choices-of-sizes _ _ (c .before .sizes .ensures), ceiling-of-sizes _ _ (c .before .sizes .ensures), refl)
+loop-holds c = (search needs, refl, choices-of-totals _ _ (c .before .totals .ensures), ceiling-of-totals _ _ (c .before .totals .ensures), refl)
 
 shared-slice-read-byte : tie.Need-shared-slice-read-byte Inv-loop μ-loop
 shared-slice-read-byte c = search needs
@@ -124,5 +124,5 @@ returns-4 c =
 
 pub walk-from-spec : {M : Type 1} → statement M
 walk-from-spec =
-    tie.close (tie.spec Inv-loop μ-loop sizes-requires cast-top loop-holds shared-slice-read-byte cast-if1 cast-t17 add-t18 returns advance-requires cast-t19
+    tie.close (tie.spec Inv-loop μ-loop totals-requires cast-top loop-holds shared-slice-read-byte cast-if1 cast-t17 add-t18 returns advance-requires cast-t19
     add-t20 returns-2 add-t loop-less loop-again returns-3 returns-4)

@@ -1,15 +1,15 @@
--- `shape_of`, field by field; ceiling, state and choices are those of `sizes`.
-use Rattle.model.proofs.FormLaws.{ceiling-of-sizes, state-of-sizes, choices-of-sizes}
+-- `shape_of`, field by field; ceiling, state and choices are those of `totals`.
+use Rattle.model.proofs.FormLaws.{ceiling-of-totals, state-of-totals, choices-of-totals}
 use borrow.Author.Needs.{needs}
 use Rattle.wirdoku.proofs.shape_of.Statement.{statement}
 use Rattle.wirdoku.proofs.shape_of.Tie as tie
 
-sizes-requires : tie.Need-sizes-requires
-sizes-requires c κs = search needs
+totals-requires : tie.Need-totals-requires
+totals-requires c κs = search needs
 
 returns : tie.Need-returns
 returns c =
-    let sizes-ensures = c .sizes .ensures in
+    let totals-ensures = c .totals .ensures in
     let m = c .before .args .m in
     λ i. record {
       number = 0;
@@ -20,10 +20,10 @@ returns c =
       clocks = m .clocks;
       counters = m .vars;
       edges = m .used;
-      ceiling = ceiling-of-sizes _ _ sizes-ensures i;
-      state = state-of-sizes _ _ sizes-ensures i;
-      choices = choices-of-sizes _ _ sizes-ensures i;
+      ceiling = ceiling-of-totals _ _ totals-ensures i;
+      state = state-of-totals _ _ totals-ensures i;
+      choices = choices-of-totals _ _ totals-ensures i;
     }
 
 pub shape-of-spec : {M : Type 1} → statement M
-shape-of-spec = tie.close (tie.spec sizes-requires returns)
+shape-of-spec = tie.close (tie.spec totals-requires returns)

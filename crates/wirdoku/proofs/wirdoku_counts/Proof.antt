@@ -1,4 +1,4 @@
--- `wirdoku_counts`: the reader's refusal, or the totals that `counts_of` answers.
+-- `wirdoku_counts`: the reader's refusal, or the counts that `counts_of` answers.
 use Rattle.wirdoku.specs.TextCall.{countedSizes}
 use Rattle.counts.specs.CountsCall.{listReport}
 use Rattle.sizing.specs.SizeCall.{refusedSizes, sizeTold}
@@ -19,8 +19,8 @@ number-requires c κs = search needs
 line-requires : tie.Need-line-requires
 line-requires c κs = search needs
 
-sizes-requires : tie.Need-sizes-requires
-sizes-requires c κs = search needs
+size-answer-requires : tie.Need-size-answer-requires
+size-answer-requires c κs = search needs
 
 returns : tie.Need-returns
 returns c =
@@ -28,7 +28,7 @@ returns c =
     let number = at-number .number in
     let read-model = at-number .before .read-model in
     let args = at-number .before .before .before .args in
-    ap sizeTold (c .sizes .ensures)
+    ap sizeTold (c .size-answer .ensures)
     ∙ refused-text (λ (m : Model). countedSizes (listReport m (args .bound))) refusedSizes (now (args .text)) (read-model .result) (read-model .ensures)
     (number .result) (number .ensures) (c .before .before .if1 .taken) _ (c .before .line .ensures)
 
@@ -50,4 +50,4 @@ returns-2 c =
 
 pub wirdoku-counts-spec : {M : Type 1} → statement M
 wirdoku-counts-spec =
-    tie.close (tie.spec read-model-requires number-requires line-requires sizes-requires returns counts-of-requires counted-requires returns-2)
+    tie.close (tie.spec read-model-requires number-requires line-requires size-answer-requires returns counts-of-requires counted-requires returns-2)

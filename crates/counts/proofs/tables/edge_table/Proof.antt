@@ -8,7 +8,7 @@ use Rattle.list.specs.Clauses.{oneHotWidth}
 use Rattle.parts.proofs.KnownLaws.{known-bounded}
 use Rattle.counts.specs.Tables.{Table, mostEdgeClauses}
 use Rattle.counts.proofs.CountLaws.{clauses-le}
-use Rattle.counts.proofs.ListTotals.{edge-counted}
+use Rattle.counts.proofs.CountedList.{edge-counted}
 use Rattle.counts.proofs.PieceBounds.{edge-most}
 use Rattle.counts.proofs.TableLaws.{table-none, table-more}
 use borrow.Author.Needs.{needs}

@@ -1,5 +1,5 @@
 -- `variable_number`: the definition itself; 64 blocks stay within a word.
-use Rattle.model.proofs.FormLaws.{state-of-sizes, choices-of-sizes}
+use Rattle.model.proofs.FormLaws.{state-of-totals, choices-of-totals}
 use Rattle.parts.specs.Numbering.{variableNumber}
 use mathlib.Core.Path.{refl}
 use Prim.Native.Nat.{_+_, _≤_}
@@ -32,7 +32,7 @@ add-result-3 c =
 
 returns : tie.Need-returns
 unfolding variableNumber
-returns c = rw (state-of-sizes _ _ (c .before .pre .1), choices-of-sizes _ _ (c .before .pre .1)) refl
+returns c = rw (state-of-totals _ _ (c .before .pre .1), choices-of-totals _ _ (c .before .pre .1)) refl
 
 pub variable-number-spec : {M : Type 1} → statement M
 variable-number-spec = tie.close (tie.spec add-result mul-result add-result-2 add-result-3 returns)
