@@ -3,19 +3,18 @@ use Prim.Native.Nat.{ℕ}
 use mathlib.Core.Path.{_≡_, sym, ap, _∙_}
 use mathlib.Core.List.{List}
 use lib.IntN.{ℤ}
-use lib.ListN.{length, drop}
+use lib.ListN.{length}
 use Rattle.model.specs.declared.Model.{Model}
-use Rattle.text.specs.Bound.{BoundReport, boundRefused, boundAccepted, boundReport, boundTold}
-use Rattle.text.specs.Text.{ReadReport, readReport, readTold, outcomeNumber, outcomeLine}
-use Rattle.text.specs.Item.{ItemReport, itemReport, itemTold}
+use Rattle.text.specs.Bound.{boundTold}
+use Rattle.text.specs.Text.{ReadReport, readTold, outcomeNumber, outcomeLine}
+use Rattle.text.specs.Item.{itemReport, itemTold}
 use Rattle.text.specs.declared.ReadAnswer.{ReadAnswer}
 use Rattle.text.specs.declared.ItemRead.{ItemRead}
-use Rattle.text.proofs.Calls.{refused-told, read-told}
-use Rattle.text.specs.declared.BoundRead.{BoundRead}
+use Rattle.text.proofs.Calls.{refused-told, read-told, no-bound, after-bound}
 use Rattle.text.specs.declared.BoundRead.the-variants.{NotABound, Bound}
 use Rattle.emission.specs.EmitCall.{emitReport, emitLeft, emitTold, emitReported}
 use Rattle.emission.specs.declared.Emission.{Emission}
-use Rattle.sizing.specs.SizeCall.{SizeReport, refusedSizes, emittedSizes, textSizes, textLeft, boundSizes, boundLeft, sizeReport, sizeLeft}
+use Rattle.sizing.specs.SizeCall.{SizeReport, refusedSizes, emittedSizes, textSizes, textLeft, sizeReport, sizeLeft}
 use Rattle.sizing.specs.SizeCall.{programWords, programReport}
 
 -- ---- emission's answer e, of the case f, with the number that it was asked for
@@ -52,38 +51,25 @@ sizes-as x y is k out o r e =
     (e .0 ∙ ap (λ (z : ReadReport). textSizes z k (length out)) is, e .1 ∙ ap (λ (z : ReadReport). textLeft z k out) is)
 
 -- ---- the bound line
-sizes-at : (t : List ℕ) (room : ℕ) (b : BoundReport) → boundReport t ≡ b → boundSizes b t room ≡ sizeReport t room
-unfolding sizeReport
-sizes-at t room b h = ap (λ (x : BoundReport). boundSizes x t room) (sym h)
+module _ (t : List ℕ) (i : ItemRead) (is : itemTold i ≡ itemReport t) (out : List ℤ) where
+  abbrev sizes-after : ℕ → ReadReport → SizeReport
+  sizes-after k r = textSizes r k (length out)
 
-left-at : (t : List ℕ) (out : List ℤ) (b : BoundReport) → boundReport t ≡ b → boundLeft b t out ≡ sizeLeft t out
-unfolding sizeLeft
-left-at t out b h = ap (λ (x : BoundReport). boundLeft x t out) (sym h)
+  abbrev left-after : ℕ → ReadReport → List ℤ
+  left-after k r = textLeft r k out
 
-module _ (t : List ℕ) (i : ItemRead) (is : itemTold i ≡ itemReport t) where
-  bound-is : boundTold (i .bound) ≡ boundReport t
-  unfolding itemReport
-  bound-is = ap (λ (x : ItemReport). x .bound) is
-
-  text-is : readTold (i .text) ≡ readReport (drop (boundReport t .next) t)
-  unfolding itemReport
-  text-is = ap (λ (x : ItemReport). x .text) is
-
-  pub bound-refused : i .bound ≡ NotABound → {n : ℕ} → n ≡ boundTold (i .bound) .number → (out : List ℤ) {r : SizeReport} → r ≡ refusedSizes n 0
+  pub bound-refused : i .bound ≡ NotABound → {n : ℕ} → n ≡ boundTold (i .bound) .number → {r : SizeReport} → r ≡ refusedSizes n 0
       → (r ≡ sizeReport t (length out)) × (out ≡ sizeLeft t out)
-  bound-refused q number out e =
-      let h : boundReport t ≡ boundRefused = sym bound-is ∙ ap boundTold q in
-      let nine = ap (λ (n : ℕ). refusedSizes n 0) (number ∙ ap (λ (x : BoundRead). boundTold x .number) q) in
-      (e ∙ nine ∙ sizes-at t (length out) boundRefused h, left-at t out boundRefused h)
+  unfolding sizeReport sizeLeft
+  bound-refused q number e =
+      (e ∙ no-bound sizes-after (λ n. refusedSizes n 0) t i is q number, no-bound left-after (λ n. out) t i is q number)
 
-  pub bound-accepted : (n next : ℕ) → i .bound ≡ Bound n next → (out o : List ℤ) (r : SizeReport)
+  pub bound-accepted : (n next : ℕ) → i .bound ≡ Bound n next → (o : List ℤ) (r : SizeReport)
       → (r ≡ textSizes (readTold (i .text)) n (length out)) × (o ≡ textLeft (readTold (i .text)) n out)
       → (r ≡ sizeReport t (length out)) × (o ≡ sizeLeft t out)
-  bound-accepted n next q out o r e =
-      let h : boundReport t ≡ boundAccepted n next = sym bound-is ∙ ap boundTold q in
-      let text : readTold (i .text) ≡ readReport (drop next t) = text-is ∙ ap (λ (b : BoundReport). readReport (drop (b .next) t)) h in
-      let f = sizes-as (readTold (i .text)) (readReport (drop next t)) text n out o r e in
-      (f .0 ∙ sizes-at t (length out) (boundAccepted n next) h, f .1 ∙ left-at t out (boundAccepted n next) h)
+  unfolding sizeReport sizeLeft
+  bound-accepted n next q o r e =
+      (e .0 ∙ after-bound sizes-after (λ n. refusedSizes n 0) t i is n next q, e .1 ∙ after-bound left-after (λ n. out) t i is n next q)
 
 -- ---- the program
 pub program-is : (t : List ℕ) (room : ℕ) → room ≡ programWords → (r : SizeReport) → r ≡ sizeReport t room → r ≡ programReport t

@@ -4,3 +4,4 @@ pub mod EdgeParts
 pub mod Partial
 pub mod Keeping
 pub mod Accepted
+pub mod Cutting

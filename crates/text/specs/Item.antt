@@ -3,7 +3,7 @@ use Prim.Native.Nat.{ℕ, _+_}
 use mathlib.Core.Path.{_≡_}
 use mathlib.Core.List.{List}
 use lib.ListN.{drop}
-use Rattle.text.specs.Bound.{BoundReport, boundReport, boundTold}
+use Rattle.text.specs.Bound.{BoundReport, boundReport, boundTold, ifBound}
 use Rattle.text.specs.Text.{ReadReport, readReport, readTold}
 use Rattle.text.specs.lines.Readings.{ReadsFrom}
 use Rattle.text.specs.declared.ItemRead.{ItemRead}
@@ -16,6 +16,10 @@ pub record ItemReport : Type 0 where
 
 unfoldable pub itemReport : List ℕ → ItemReport
 itemReport t = record { bound = boundReport t; text = readReport (drop (boundReport t .next) t) }
+
+-- A call on an item. A bound line: what the call says of the bound and of the text after the line. No bound line: what is said of the number.
+abbrev pub ifItem : {A : Type 0} → (ℕ → ReadReport → A) → (ℕ → A) → List ℕ → A
+ifItem call refused t = ifBound (boundReport t) (λ bound next. call bound (readReport (drop next t))) refused
 
 -- the numbers of the answer
 abbrev pub itemTold : ItemRead → ItemReport

@@ -9,7 +9,7 @@ returns : tie.Need-returns
 returns c =
     let item = c .before .before .before .before .read-item in
     let args = c .before .before .before .before .before .before .args in
-    bound-refused (now (args .input)) (item .result) (item .ensures) (c .before .before .enum-told .given .1) (c .before .number .ensures) (now (args .out))
+    bound-refused (now (args .input)) (item .result) (item .ensures) (now (args .out)) (c .before .before .enum-told .given .1) (c .before .number .ensures)
     (c .refused .ensures)
 
 returns-2 : tie.Need-returns-2
@@ -18,7 +18,7 @@ returns-2 c =
     let item = at-match .before .read-item in
     let args = at-match .before .before .before .args in
     let first = c .before .before .before .before .first in
-    bound-accepted (now (args .input)) (item .result) (item .ensures) _ _ (first .given .1) (now (args .out)) _ _ (c .before .read-sizes .ensures)
+    bound-accepted (now (args .input)) (item .result) (item .ensures) (now (args .out)) _ _ (first .given .1) _ _ (c .before .read-sizes .ensures)
 
 pub sizes-of-spec : {M : Type 1} → statement M
 sizes-of-spec = tie.close (tie.spec (search needs) (search needs) (search needs) (search needs) (search needs) (search needs) (search needs)

@@ -161,7 +161,7 @@ refused-blank t = go (ltb 8192 (length t)) (eqb (readLines t .number) 0) (ltb 0 
     go false false c h = refl
 
 -- so every answer holds a well-formed record
-blank-formed : T (wellFormed blankModel)
+pub blank-formed : T (wellFormed blankModel)
 unfolding blankModel wellFormed headFormed countersFormed invariantsFormed edgesFormed edgeFormed atomsFormed eachFormed filledFromFirst updatesFormed
     resetsFormed allBelow
 blank-formed = tt
