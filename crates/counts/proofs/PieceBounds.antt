@@ -1,7 +1,6 @@
--- What the pieces of the list and the whole list have at most: clauses and words. No piece that emission writes at once is longer than the group of
--- 64 choices, 6,113 words; and the pieces, one after the other, are the list.
-use mathlib.Core.Path.{_≡_, refl, sym, ap, ap₂, _∙_}
-use mathlib.Core.List.{List, [], _∷_, _++_, flatMap}
+-- What the pieces of the list and the whole list have at most: clauses and words.
+use mathlib.Core.Path.{_≡_, refl, sym, ap, _∙_}
+use mathlib.Core.List.{List, _++_}
 use Prim.Native.Nat.{ℕ, zero, suc, _+_, _≤_, _<_}
 use native.Mathlib.Omega.{arith}
 use lib.Dec.{T}
@@ -9,14 +8,13 @@ use lib.ListN.{length}
 use Rattle.model.specs.declared.Model.{Model}
 use Rattle.model.specs.Indexed.{each}
 use Rattle.model.specs.Record.{atomAt, invariantAt, edgeAt}
-use Rattle.model.specs.Automaton.{ceiling, choices, Component, loc, counter, clock, groupSize, stateSize}
+use Rattle.model.specs.Automaton.{ceiling, choices, counter, clock, groupSize, stateSize}
 use Rattle.model.specs.Form.{wellFormed}
 use Rattle.model.proofs.FormLaws.{WellFormed, formed, choices-le, stateSize-le}
-use Rattle.list.specs.Lists.{All}
-use Rattle.list.specs.Items.{Item, group, overComponents, offset, stateWidth, blockAt, nextBlock, groupItems, invariantOf, invariantItems, stateItems}
-use Rattle.list.specs.Items.{initialItems, startItems, choiceItems, delayItems, delaysItems, edgeOf, edgesItems, stepItems, endItems, bodyItems, items}
-use Rattle.list.specs.Clauses.{Clause, oneHotWidth, groupClauses, expand, clausesOf, clauses, wordsOf, words}
-use Rattle.list.proofs.ListLaws.{all-app, all-app₃, all-app₄, all-each, flat-app, flat-one, flat-each, each-cong, each-add}
+use Rattle.list.specs.Items.{stateWidth, blockAt, nextBlock, invariantOf, stateItems}
+use Rattle.list.specs.Items.{initialItems, choiceItems, delayItems, delaysItems, edgeOf, edgesItems, stepItems, endItems}
+use Rattle.list.specs.Clauses.{Clause, oneHotWidth, groupClauses, clausesOf, clauses, words}
+use Rattle.list.proofs.ListLaws.{each-add}
 use Rattle.list.proofs.PieceClauses.{clauses-pieces, end-piece, start-piece, state-piece, groups-piece, invariants-piece}
 use Rattle.list.proofs.PieceClauses.{step-piece, choice-piece, delays-piece, edges-piece}
 use Rattle.parts.specs.declared.Rule.the-variants.{Set}
@@ -29,9 +27,8 @@ use Rattle.parts.proofs.EdgeParts.{source-part, target-part, guard-part}
 use Rattle.parts.proofs.PartPieces.{set-is, delay-law}
 use Rattle.parts.proofs.KnownLaws.{known-bounded, known-groups, known-state, location-piece-of, edge-piece-of}
 use Rattle.counts.specs.KnownCounts.{mostClauses, mostWords}
-use Rattle.counts.specs.WrittenPieces.{mostPieceWords, pieceWords, statePieces, startPieces, stepPieces, pieces}
 use Rattle.counts.proofs.CountLaws.{counted-one, Most, by-count, most-as, most-app, most-few}
-use Rattle.counts.proofs.GroupLaws.{counted-group, group-16, group-32, group-64}
+use Rattle.counts.proofs.GroupLaws.{group-16, group-32, group-64}
 use Rattle.counts.proofs.PartLaws.{part-most}
 use Rattle.counts.proofs.EdgeLaws.{edge-small, atom-most, atoms-most}
 use Rattle.counts.proofs.CountedList.{initial-counted, delay-counted}
@@ -82,26 +79,26 @@ module _ (m : Model) (h : T (wellFormed m)) where
   pub invariant-most : (o l : ℕ) → l < m .locations → Most (clausesOf (invariantOf oneHotWidth m o l)) 128 384
   invariant-most o l p = most-as (location-piece-of known o l p) (atoms-most b (known-bounded known) o (o + l) (invariantAt m l) 4 (omega arith))
 
-  counter-most : (first i : ℕ) → i < m .vars → Most (groupClauses first (groupSize m (counter i))) 497 1521
+  pub counter-most : (first i : ℕ) → i < m .vars → Most (groupClauses first (groupSize m (counter i))) 497 1521
   counter-most first i l = group-32 first (groupSize m (counter i)) (omega (arith, ok .greatest-le i l))
 
-  clock-most : (first i : ℕ) → Most (groupClauses first (groupSize m (clock i))) 497 1521
+  pub clock-most : (first i : ℕ) → Most (groupClauses first (groupSize m (clock i))) 497 1521
   clock-most first i = group-32 first (groupSize m (clock i)) (omega (arith, ok .ceiling-le))
 
-  delay-most : (o d : ℕ) → Most (clausesOf (delayItems oneHotWidth m o d)) 272 1088
+  pub delay-most : (o d : ℕ) → Most (clausesOf (delayItems oneHotWidth m o d)) 272 1088
   delay-most o d =
       most-as (delay-law m ok o d) (by-count (delay-counted known (o + stateWidth oneHotWidth m + d) o d)
       (omega (arith, known-state known, stateSize-le m ok)) (omega (arith, known-state known, stateSize-le m ok)))
 
-  initial-most : Most (clausesOf (initialItems oneHotWidth m)) 9 18
+  pub initial-most : Most (clausesOf (initialItems oneHotWidth m)) 9 18
   initial-most =
       let n : b .groups ≤ 9 = omega (arith, known-groups known, ok .vars-le, ok .clocks-le) in
       by-count (initial-counted known) n (omega (arith, n))
 
-  end-most : (k : ℕ) → Most (clausesOf (endItems oneHotWidth m k)) 1 2
+  pub end-most : (k : ℕ) → Most (clausesOf (endItems oneHotWidth m k)) 1 2
   end-most k = most-as (sym (end-piece m k)) (by-count (counted-one _) (omega arith) (omega arith))
 
-  choice-most : (o : ℕ) → Most (clausesOf (choiceItems oneHotWidth m o)) 2017 6113
+  pub choice-most : (o : ℕ) → Most (clausesOf (choiceItems oneHotWidth m o)) 2017 6113
   choice-most o = most-as (sym (choice-piece m o)) (group-64 _ (choices m) (choices-le m ok))
 
   -- ---- a stretch of invariants, of edges
@@ -145,103 +142,3 @@ list-clauses-most m h k l = list-most m h k l .clauses-most
 pub list-words-most : (m : Model) → T (wellFormed m) → (k : ℕ) → k ≤ 64 → length (words m k) ≤ mostWords
 unfolding words
 list-words-most m h k l = list-most m h k l .words-most
-
--- ---- each piece
-abbrev Short : List Item → Type 0
-Short p = pieceWords p ≤ mostPieceWords
-
-short : (p : List Item) {c w : ℕ} → Most (clausesOf p) c w → w ≤ mostPieceWords → Short p
-short p s l = omega (arith, s .words-most)
-
-shorts : (n : ℕ) (f : ℕ → List Item) → ((i : ℕ) → i < n → Short (f i)) → All Short (each n (λ i. f i ∷ []))
-shorts n f h = all-each Short n (λ i. f i ∷ []) .1 (λ i l. (h i l, tt))
-
--- a group alone
-group-short : (first n : ℕ) {c w : ℕ} → Most (groupClauses first n) c w → w ≤ mostPieceWords → Short (group first n ∷ [])
-group-short first n s l = short (group first n ∷ []) (most-as (sym (flat-one expand (group first n))) s) l
-
-module _ (m : Model) (h : T (wellFormed m)) where
-  abbrev formed-ok : WellFormed m
-  formed-ok = formed m h
-
-  state-short : (o : ℕ) → All Short (statePieces m o)
-  unfolding statePieces
-  state-short o =
-      let g : Component → List Item = λ x. group (o + offset oneHotWidth m x) (groupSize m x) ∷ [] in
-      let v : ℕ → List Item = invariantOf oneHotWidth m o in
-      all-app Short (overComponents m (λ x. g x ∷ [])) (each (m .locations) (λ l. v l ∷ [])) .1 (
-        all-app₃ Short (g loc ∷ []) (each (m .vars) (λ i. g (counter i) ∷ [])) (each (m .clocks) (λ i. g (clock i) ∷ [])) .1 (
-          (group-short _ _ (group-16 _ (m .locations) (formed-ok .locations-le)) (omega arith), tt),
-          shorts (m .vars) (λ i. g (counter i)) (λ i l. group-short _ _ (counter-most m h _ i l) (omega arith)),
-          shorts (m .clocks) (λ i. g (clock i)) (λ i l. group-short _ _ (clock-most m h _ i) (omega arith)),
-        ),
-        shorts (m .locations) v (λ l p. short _ (invariant-most m h o l p) (omega arith)),
-      )
-
-  step-short : (o : ℕ) → All Short (stepPieces m o)
-  unfolding stepPieces
-  step-short o =
-      all-app₄ Short (choiceItems oneHotWidth m o ∷ []) (each (ceiling m + 1) (λ d. delayItems oneHotWidth m o d ∷ []))
-      (each (m .used) (λ e. edgeOf oneHotWidth m o e ∷ [])) (statePieces m (nextBlock oneHotWidth m o)) .1 (
-        (short _ (choice-most m h o) (omega arith), tt),
-        shorts (ceiling m + 1) (delayItems oneHotWidth m o) (λ d l. short _ (delay-most m h o d) (omega arith)),
-        shorts (m .used) (edgeOf oneHotWidth m o) (λ e l. short _ (edge-most m h o e l) (omega arith)),
-        state-short (nextBlock oneHotWidth m o),
-      )
-
--- Of a well-formed model, no piece that emission writes at once has more than 6,113 words.
-pub piece-words-most : (m : Model) → T (wellFormed m) → (k : ℕ) → All (λ p. pieceWords p ≤ mostPieceWords) (pieces m k)
-unfolding pieces startPieces
-piece-words-most m h k =
-    all-app₃ Short (startPieces m) (each k (λ t. stepPieces m (blockAt oneHotWidth m t))) (endItems oneHotWidth m k ∷ []) .1 (
-      all-app Short (statePieces m 0) (initialItems oneHotWidth m ∷ []) .1 (state-short m h 0, (short _ (initial-most m h) (omega arith), tt)),
-      all-each Short k (λ t. stepPieces m (blockAt oneHotWidth m t)) .1 (λ t l. step-short m h (blockAt oneHotWidth m t)),
-      (short _ (end-most m h k) (omega arith), tt),
-    )
-
--- The group of 64 choices has just as many.
-pub choice-words : (m : Model) (o : ℕ) → choices m ≡ 64 → pieceWords (choiceItems oneHotWidth m o) ≡ mostPieceWords
-choice-words m o e =
-    ap (λ (l : List Clause). length (wordsOf l)) (choice-piece m o ∙ ap (groupClauses (o + stateWidth oneHotWidth m)) e) ∙ sym
-    (counted-group (o + stateWidth oneHotWidth m) 64 .words-are)
-
--- ---- the pieces, one after the other, are the list
-abbrev joined : List (List Item) → List Item
-joined = flatMap (λ p. p)
-
-abbrev both : {a b x y : List Item} → a ≡ x → b ≡ y → a ++ b ≡ x ++ y
-both p q = ap₂ (λ (u v : List Item). u ++ v) p q
-
-one-by-one : (n : ℕ) (f : ℕ → List Item) → joined (each n (λ i. f i ∷ [])) ≡ each n f
-one-by-one n f = flat-each (λ p. p) n (λ i. f i ∷ []) ∙ each-cong n (λ i. joined (f i ∷ [])) f (λ i l. flat-one (λ p. p) (f i))
-
-join-app : (x y : List (List Item)) {a b : List Item} → joined x ≡ a → joined y ≡ b → joined (x ++ y) ≡ a ++ b
-join-app x y p q = flat-app (λ p. p) x y ∙ both p q
-
-module _ (m : Model) where
-  state-joined : (o : ℕ) → joined (statePieces m o) ≡ stateItems oneHotWidth m o
-  unfolding statePieces stateItems groupItems invariantItems
-  state-joined o =
-      let g : Component → List Item = λ x. group (o + offset oneHotWidth m x) (groupSize m x) ∷ [] in
-      join-app _ _
-      (join-app _ _ (join-app _ _ (flat-one (λ p. p) (g loc)) (one-by-one (m .vars) (λ i. g (counter i)))) (one-by-one (m .clocks) (λ i. g (clock i))))
-      (one-by-one (m .locations) (invariantOf oneHotWidth m o))
-
-  step-joined : (o : ℕ) → joined (stepPieces m o) ≡ stepItems oneHotWidth m o
-  unfolding stepPieces stepItems delaysItems edgesItems
-  step-joined o =
-      join-app _ _
-      (join-app _ _ (join-app _ _ (flat-one (λ p. p) (choiceItems oneHotWidth m o)) (one-by-one (ceiling m + 1) (delayItems oneHotWidth m o)))
-      (one-by-one (m .used) (edgeOf oneHotWidth m o)))
-      (state-joined (nextBlock oneHotWidth m o))
-
--- Of any model, the pieces make up the list.
-pub pieces-joined : (m : Model) (k : ℕ) → flatMap (λ p. p) (pieces m k) ≡ items oneHotWidth m k
-unfolding pieces startPieces items bodyItems startItems
-pieces-joined m k =
-    let step : ℕ → List (List Item) = λ t. stepPieces m (blockAt oneHotWidth m t) in
-    join-app _ _
-    (join-app _ _ (join-app _ _ (state-joined m 0) (flat-one (λ p. p) (initialItems oneHotWidth m)))
-    (flat-each (λ p. p) k step ∙ each-cong k (λ t. joined (step t)) (λ t. stepItems oneHotWidth m (blockAt oneHotWidth m t))
-    (λ t l. step-joined m (blockAt oneHotWidth m t))))
-    (flat-one (λ p. p) (endItems oneHotWidth m k))

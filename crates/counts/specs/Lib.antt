@@ -3,4 +3,3 @@ pub mod PartCounts
 pub mod KnownCounts
 pub mod CountsCall
 pub mod Tables
-pub mod WrittenPieces

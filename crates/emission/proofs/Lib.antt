@@ -5,4 +5,6 @@ pub mod RuleLaws
 pub mod TableLaws
 pub mod LeafLaws
 pub mod ListPieces
+pub mod CutLaws
+pub mod CutByTable
 pub mod EmitLaws

@@ -84,13 +84,17 @@ module _ {m : Model} {b : GroupTable} (k : Known m b) where
         parts = edge-fits-of k o mostVariables h e l;
       }
 
-  -- the edges, whose first choice has the variable `start`
+  -- an edge, and all edges, where the first edge's choice has the variable `start`
+  pub edge-clauses-are : (o start e : ℕ) → start ≡ o + b .state + b .top + 1 → e < m .used
+      → clausesOf (edgeOf oneHotWidth m o e) ≡ each (b .groups + 5) (edgePiece (start + e) b (edgeAt m e) o)
+  unfolding edgeClauses
+  edge-clauses-are o start e z l = sym (edge-piece-of k o (start + e) e l (omega (arith, z, known-state k, known-top k)))
+
   pub edges-are : (o start : ℕ) → start ≡ o + b .state + b .top + 1
       → clausesOf (edgesItems oneHotWidth m o) ≡ each (m .used) (λ e. each (b .groups + 5) (edgePiece (start + e) b (edgeAt m e) o))
-  unfolding edgeClauses
   edges-are o start z =
       edges-piece m o ∙ each-cong (m .used) (λ e. clausesOf (edgeOf oneHotWidth m o e)) (λ e. each (b .groups + 5) (edgePiece (start + e) b (edgeAt m e) o))
-      (λ e l. sym (edge-piece-of k o (start + e) e l (omega (arith, z, known-state k, known-top k))))
+      (λ e l. edge-clauses-are o start e z l)
 
   pub choice-below : (o start e : ℕ) → start ≡ o + b .state + b .top + 1 → o + stateSize m + choices m + stateSize m ≤ mostVariables → e < m .used
       → start + e < mostVariables

@@ -3,3 +3,4 @@ pub mod Written
 pub mod Pairs
 pub mod Writable
 pub mod Initial
+pub mod Cut

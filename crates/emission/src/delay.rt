@@ -47,7 +47,7 @@ fn put_delay_group(
 }
 
 // Delay `d`: each group.
-fn put_delay(
+pub fn put_delay(
     b: GroupTable,
     first: &[u16],
     size: &[u16],

@@ -138,7 +138,7 @@ fn put_resets(
 }
 
 // The edge `e`, which is choice `x`: source, target, guard, counters, clocks.
-fn put_edge(
+pub fn put_edge(
     b: GroupTable,
     first: &[u16],
     size: &[u16],

@@ -29,6 +29,7 @@ ghost use Rattle.emission.specs.EmitCall.{emitReport, emitLeft, emitTold
 
 mod delay;
 mod edge;
+pub mod pieces;
 mod rules;
 mod start;
 mod state;

@@ -9,5 +9,6 @@ pub mod AnyLayout
 pub mod OneHot
 pub mod DemandProofs
 pub mod PieceClauses
+pub mod Within
 pub mod Searching
 pub mod Claims

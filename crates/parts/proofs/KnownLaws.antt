@@ -171,25 +171,25 @@ module _ {m : Model} {b : GroupTable} (k : Known m b) where
   update-in (Constant n) d = tt
   update-in (Sum w offset) d = omega (arith, wf .vars-le)
 
+  pub choice-piece-of : (o : ℕ) → groupClauses (o + b .state) (b .choices) ≡ clausesOf (choiceItems oneHotWidth m o)
+  choice-piece-of o =
+      ap (λ (s : ℕ). groupClauses (o + s) (b .choices)) (known-state ∙ sym (state-width-is m))
+      ∙ ap (groupClauses (o + stateWidth oneHotWidth m)) known-choices ∙ sym
+      (choice-piece m o)
+
+  pub delay-piece-of : (o d : ℕ) → delayPieces b o d ≡ clausesOf (delayItems oneHotWidth m o d)
+  delay-piece-of o d =
+      subst (λ (x : GroupTable). delayPieces x o d ≡ clausesOf (delayItems oneHotWidth m o d)) (sym (k .is))
+      (ap (λ (s : ℕ). each (groupTable m .groups) (λ g. partClauses (o + s + d) (delayPart (groupTable m) o d g)))
+      (state-is m ∙ sym (state-width-is m)) ∙ delay-law m wf o d)
+
   pub front-piece-of : (o : ℕ) → frontPiece b o ≡ clausesOf (choiceItems oneHotWidth m o) ++ clausesOf (delaysItems oneHotWidth m o)
-  front-piece-of o = ap₂ (λ (l r : List Clause). l ++ r) choice delays
+  front-piece-of o = ap₂ (λ (l r : List Clause). l ++ r) (choice-piece-of o) delays
     where
-      choice : groupClauses (o + b .state) (b .choices) ≡ clausesOf (choiceItems oneHotWidth m o)
-      choice =
-          ap (λ (s : ℕ). groupClauses (o + s) (b .choices)) (known-state ∙ sym (state-width-is m))
-          ∙ ap (groupClauses (o + stateWidth oneHotWidth m)) known-choices ∙ sym
-          (choice-piece m o)
-
-      delay : (d : ℕ) → delayPieces b o d ≡ clausesOf (delayItems oneHotWidth m o d)
-      delay d =
-          subst (λ (x : GroupTable). delayPieces x o d ≡ clausesOf (delayItems oneHotWidth m o d)) (sym (k .is))
-          (ap (λ (s : ℕ). each (groupTable m .groups) (λ g. partClauses (o + s + d) (delayPart (groupTable m) o d g)))
-          (state-is m ∙ sym (state-width-is m)) ∙ delay-law m wf o d)
-
       delays : each (b .top + 1) (delayPieces b o) ≡ clausesOf (delaysItems oneHotWidth m o)
       delays =
           ap (λ (n : ℕ). each (n + 1) (delayPieces b o)) known-top
-          ∙ each-cong (ceiling m + 1) (delayPieces b o) (λ d. clausesOf (delayItems oneHotWidth m o d)) (λ d l. delay d) ∙ sym
+          ∙ each-cong (ceiling m + 1) (delayPieces b o) (λ d. clausesOf (delayItems oneHotWidth m o d)) (λ d l. delay-piece-of o d) ∙ sym
           (delays-piece m o)
 
   -- a delay has a clause for each member
