@@ -1,6 +1,7 @@
 -- What is claimed of the calls, the page to read first: demands 2 and 3 and the corollary on the shortest run, of the words that emission leaves in the
--- lent buffer, of any solver's assignment to them, and of what the conversions and the walker answer and leave; the same of the calls for C on a text;
--- and the rows. specs/Words.antt, Calls.antt, Texts.antt and Cases.antt say what the statements mean; each proof is cited.
+-- lent buffer, of any solver's assignment to them, and of what the conversions and the walker answer and leave; that the DIMACS file has those words; the
+-- same of the calls for C on a text; and the rows. specs/Words.antt, Calls.antt, Files.antt, Texts.antt and Cases.antt say what the statements mean; each
+-- proof is cited.
 use mathlib.Core.Path.{_≡_}
 use mathlib.Core.List.{List}
 use Prim.Native.Nat.{ℕ, _≤_}
@@ -14,15 +15,19 @@ use Rattle.list.specs.Lists.{All}
 use Rattle.list.specs.Clauses.{clauses, words}
 use Rattle.list.specs.Assignments.{satisfied}
 use Rattle.emission.specs.EmitCall.{EmitReport}
+use Rattle.dimacs.specs.DimacsCall.{FileReport}
+use Rattle.dimacs.specs.File.{file}
 use Rattle.samples.specs.Models.{modelB}
 use Rattle.claims.specs.Words.{clausesIn, readBack, wordsTrue}
 use Rattle.claims.specs.Calls.{Calls, callsWith, recordCalls, Emitted, variablesTold, clausesTold, wordsLeft, ListSolvable, NamesVariable}
 use Rattle.claims.specs.Calls.{EmittedWords, EmittedDemand2, EmittedDemand3, EmittedShortest}
+use Rattle.claims.specs.Files.{Filed, bytesLeft, FiledBytes}
 use Rattle.claims.specs.Texts.{textModel, textCalls, IsRead, Never20, RowTexts}
 use Rattle.claims.specs.Cases.{allRowsHold}
 use Rattle.claims.proofs.Within
 use Rattle.claims.proofs.Accepted
 use Rattle.claims.proofs.CallProofs
+use Rattle.claims.proofs.Files
 use Rattle.claims.proofs.Texts
 use Rattle.claims.proofs.Rows
 use Rattle.claims.proofs.Sample
@@ -74,6 +79,23 @@ emitted-demand-3 = CallProofs.demand-3
 pub emitted-shortest : (room : ℕ → ℕ) (m : Model) (e : (k : ℕ) → k ≤ 64 → Emitted (callsWith room m) k) → EmittedShortest (callsWith room m) e
 emitted-shortest = CallProofs.shortest
 
+-- ---- the DIMACS file
+-- A well-formed model, a bound up to 64 and a buffer for the file's bytes give an accepted call: what follows is not empty.
+pub files : (room : ℕ → ℕ) (m : Model) → T (wellFormed m) → (k : ℕ) → k ≤ 64 → (old : List ℕ) → length (file m k) ≤ length old
+    → Filed (callsWith room m) k
+files = Files.files
+
+-- What the contract of the call promises of an answer with the number 0 is one, where x is the answer and new is what the buffer holds after the call.
+pub from-file-call : (c : Calls) (k : ℕ) (old new : List ℕ) (x : FileReport) → x ≡ c .files k old → new ≡ c .filed k old → x .number ≡ 0
+    → (f : Filed c k) × (bytesLeft f ≡ take (x .bytes) new)
+from-file-call = Files.from-file-call
+
+-- The bytes left, as many as told, read back to exactly the words that an accepted emission leaves; the numbers of the first line are the variables and
+-- the clauses that it tells. So all that is claimed of the emitted words holds of the file's.
+pub filed-bytes : (room : ℕ → ℕ) (m : Model) (k : ℕ) (f : Filed (callsWith room m) k) (e : Emitted (callsWith room m) k)
+    → FiledBytes (callsWith room m) k f e
+filed-bytes = Files.filed-bytes
+
 -- ---- the calls for C on a text
 -- On a text that is read they answer and leave what the calls on the record read answer and leave.
 pub text-calls : (t : List ℕ) → IsRead t → textCalls t ≡ recordCalls (textModel t)
@@ -86,7 +108,17 @@ text-emits = Texts.text-emits
 pub text-read : (t : List ℕ) (k : ℕ) → Emitted (textCalls t) k → IsRead t
 text-read = Texts.emitted-read
 
+-- The same of the file.
+pub text-files : (t : List ℕ) → IsRead t → (k : ℕ) → k ≤ 64 → (old : List ℕ) → length (file (textModel t) k) ≤ length old → Filed (textCalls t) k
+text-files = Texts.text-files
+
+pub text-file-read : (t : List ℕ) (k : ℕ) → Filed (textCalls t) k → IsRead t
+text-file-read = Texts.filed-read
+
 -- So all of this holds of every text.
+pub text-filed : (t : List ℕ) (k : ℕ) (f : Filed (textCalls t) k) (e : Emitted (textCalls t) k) → FiledBytes (textCalls t) k f e
+text-filed = Texts.text-filed
+
 pub text-words : (t : List ℕ) (k : ℕ) (e : Emitted (textCalls t) k) → EmittedWords (textCalls t) k e
 text-words = Texts.text-words
 

@@ -46,15 +46,20 @@ use Rattle.text.specs.lines.Sequence.{inTurn, readHead, readCounters, readInvar
 use Rattle.text.specs.Text.{readRefused, readAccepted, readEnded, readReport, ifRead}
 use Rattle.text.specs.Bound.{BoundReport, boundReport, boundRefused, boundIn}
 use Rattle.text.proofs.Laws.Accepted.{accepted-formed}
+use Rattle.dimacs.specs.DimacsCall.{fileReport, fileReported, fileLeft}
+use Rattle.dimacs.specs.File.{file}
 use Rattle.sizing.specs.SizeCall.{SizeReport, refusedSizes, emittedSizes, textSizes, sizeReport}
-use Rattle.wirdoku.specs.TextCall.{countedSizes, shapeOf, refusedShape, stateAnswer, zeroState, stepAnswer}
+use Rattle.wirdoku.specs.TextCall.{countedSizes, shapeOf, refusedShape, fileReply, refusedFile, stateAnswer, zeroState, stepAnswer}
+use Rattle.wirdoku.specs.declared.FileReply.{FileReply}
 use Rattle.wirdoku.specs.declared.Shape.{Shape}
 use Rattle.wirdoku.specs.declared.StateAnswer.{StateAnswer}
 use Rattle.claims.specs.Calls.{Calls, recordCalls, Emitted, EmittedWords, EmittedDemand2, EmittedDemand3, EmittedShortest}
-use Rattle.claims.specs.Texts.{countsIn, textCalls, IsRead, Not20, Never20, RowTexts}
+use Rattle.claims.specs.Files.{Filed, FiledBytes}
+use Rattle.claims.specs.Texts.{countsIn, fileIn, textCalls, IsRead, Not20, Never20, RowTexts}
 use Rattle.claims.specs.RowModels.{clockRelations, counterRelations, counterUpdates, twoOfEach}
 use Rattle.claims.proofs.Accepted.{emits}
 use Rattle.claims.proofs.CallProofs.{words-are, demand-2, demand-3, shortest}
+use Rattle.claims.proofs.Files.{files, filed-bytes}
 
 -- ---- a text that is read
 -- the calls on a text, by the test whether it is read
@@ -67,6 +72,8 @@ callsIf b t =
       model = m;
       emits = λ k out. countsIn (cond b (emittedSizes (emitReport m k (length out))) (refusedSizes n l));
       emitted = λ k out. cond b (emitLeft m k (length out) out) out;
+      files = λ k out. fileIn (cond b (fileReply (fileReport m k (length out))) (refusedFile n l));
+      filed = λ k out. cond b (fileLeft m k out) out;
       walks = λ r. cond b (walkReport m r) (refusal n l);
       decodes = λ k a run. cond b (decodeReport m k a (length run)) (refusal n l);
       decoded = λ k a run. cond b (decodeLeft m k a run) run;
@@ -87,12 +94,29 @@ emitted-read t k e = go (eqb (readReport t .number) 0) refl (e .accepts)
     go true q h = eqb-true (readReport t .number) 0 q
     go false q h = h
 
+-- and so does an accepted file
+pub filed-read : (t : List ℕ) (k : ℕ) → Filed (textCalls t) k → IsRead t
+unfolding ifRead
+filed-read t k f = go (eqb (readReport t .number) 0) refl (f .accepts)
+  where
+    go : (b : Bool) → eqb (readReport t .number) 0 ≡ b → callsIf b t .files k (f .old) .number ≡ 0 → IsRead t
+    go true q h = eqb-true (readReport t .number) 0 q
+    go false q h = h
+
 module _ (t : List ℕ) where
   abbrev m : Model
   m = readReport t .model
 
   pub text-emits : IsRead t → (k : ℕ) → k ≤ 64 → (old : List ℤ) → length (words m k) ≤ length old → Emitted (textCalls t) k
   text-emits z k h old l = subst (λ (c : Calls). Emitted c k) (sym (read-calls t z)) (emits (λ n. n) m (accepted-formed t z) k h old l)
+
+  pub text-files : IsRead t → (k : ℕ) → k ≤ 64 → (old : List ℕ) → length (file m k) ≤ length old → Filed (textCalls t) k
+  text-files z k h old l = subst (λ (c : Calls). Filed c k) (sym (read-calls t z)) (files (λ n. n) m (accepted-formed t z) k h old l)
+
+  pub text-filed : (k : ℕ) (f : Filed (textCalls t) k) (e : Emitted (textCalls t) k) → FiledBytes (textCalls t) k f e
+  text-filed k f e =
+      subst (λ (c : Calls). (f : Filed c k) (e : Emitted c k) → FiledBytes c k f e)
+      (sym (read-calls t (filed-read t k f))) (filed-bytes (λ n. n) m k) f e
 
   pub text-words : (k : ℕ) (e : Emitted (textCalls t) k) → EmittedWords (textCalls t) k e
   text-words k e =
@@ -220,6 +244,18 @@ module _ (m : Model) (ok : T (wellFormed m)) where
       go false true h = omega arith
       go false false h = omega arith
 
+  file-not : (k room : ℕ) → Not20 (fileReport m k room .number)
+  unfolding fileReport
+  file-not k room = rw w (go (ltb 64 k) (ltb room (length (file m k))))
+    where
+      needed : ℕ
+      needed = length (file m k)
+
+      go : (b l : Bool) → Not20 (cond b (fileReported 21 0) (cond l (fileReported 32 needed) (fileReported 0 needed)) .number)
+      go true l h = omega arith
+      go false true h = omega arith
+      go false false h = omega arith
+
   list-not : (k : ℕ) → Not20 (listReport m k .number)
   unfolding listReport
   list-not k = rw w (go (ltb 64 k))
@@ -334,6 +370,8 @@ never-20 = record {
   counts = λ t k.
       not-20 (λ (x : SizeReport). x .number) (λ m. countedSizes (listReport m k)) refusedSizes (λ m ok. list-not m ok k) (λ n l. refl) t;
   emit = sizes-not;
+  dimacs = λ t k room.
+      not-20 (λ (x : FileReply). x .number) (λ m. fileReply (fileReport m k room)) refusedFile (λ m ok. file-not m ok k room) (λ n l. refl) t;
   size = size-not;
   initial = λ t. state-not (λ m. stateAnswer 0 0 (initialState m)) zeroState (λ m ok h. omega arith) t;
   step = λ t s byte. state-not (λ m. stepAnswer (stepReport m s byte)) s (λ m ok. step-not m ok s byte) t;

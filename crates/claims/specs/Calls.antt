@@ -1,5 +1,6 @@
 -- What demands 2 and 3 say of the calls, in the user's words: of the words that emission leaves in the lent buffer, of any solver's assignment to
--- those words, and of what the two conversions and the walker answer and leave. proofs/Claims.antt proves it for every accepted emission.
+-- those words, and of what the two conversions and the walker answer and leave. proofs/Claims.antt proves it for every accepted emission. What the DIMACS
+-- file says beside such an emission stands in specs/Files.antt.
 use mathlib.Core.Path.{_≡_}
 use mathlib.Core.Logic.{_↔_}
 use mathlib.Core.List.{List, IsPrefix}
@@ -16,10 +17,11 @@ use Rattle.walk.specs.Walker.{walkReport}
 use Rattle.encode.specs.EncodeCall.{encodeReport, encodeLeft}
 use Rattle.decode.specs.DecodeCall.{decodeReport, decodeLeft}
 use Rattle.emission.specs.EmitCall.{EmitReport, emitReport, emitLeft}
+use Rattle.dimacs.specs.DimacsCall.{FileReport, fileReport, fileLeft}
 use Rattle.claims.specs.Words.{clausesIn, joined, readBack, lessLastClause, Solves, Solvable}
 
 -- ---- the calls
--- What four calls answer and what they leave in the buffers lent to them: the right-hand sides of their contracts, for one model. The demands are said
+-- What five calls answer and what they leave in the buffers lent to them: the right-hand sides of their contracts, for one model. The demands are said
 -- of this, so that they stand once for the calls on a record and for the calls for C on a text (specs/Texts.antt).
 pub record Calls : Type 0 where
   -- the model that the calls work on
@@ -27,6 +29,9 @@ pub record Calls : Type 0 where
   -- emission for a bound into a buffer that holds `out`: the answer, and the buffer after it
   pub emits : ℕ → List ℤ → EmitReport
   pub emitted : ℕ → List ℤ → List ℤ
+  -- the DIMACS file for a bound into a buffer of bytes: the answer, and the buffer after it
+  pub files : ℕ → List ℕ → FileReport
+  pub filed : ℕ → List ℕ → List ℕ
   -- the walker on a run: the answer
   pub walks : List ℕ → Refusal
   -- from an assignment for a bound to its run, into a run buffer: the answer, and the buffer after it
@@ -42,6 +47,8 @@ callsWith room m = record {
   model = m;
   emits = λ k out. emitReport m k (room (length out));
   emitted = λ k out. emitLeft m k (room (length out)) out;
+  files = λ k out. fileReport m k (length out);
+  filed = λ k out. fileLeft m k out;
   walks = λ r. walkReport m r;
   decodes = λ k a run. decodeReport m k a (length run);
   decoded = λ k a run. decodeLeft m k a run;
@@ -49,7 +56,8 @@ callsWith room m = record {
   encoded = λ r out. encodeLeft m r out;
 }
 
--- `emit` may write the whole buffer, `emit_within` at most `limit` words of it. The others: `walk`, `assignment_to_run`, `run_to_assignment`.
+-- `emit` may write the whole buffer, `emit_within` at most `limit` words of it. The others: `write_file`, `walk`, `assignment_to_run`,
+-- `run_to_assignment`.
 abbrev pub recordCalls : Model → Calls
 recordCalls m = callsWith (λ n. n) m
 

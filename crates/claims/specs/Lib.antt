@@ -1,5 +1,6 @@
 pub mod Words
 pub mod Calls
+pub mod Files
 pub mod RowModels
 pub mod RowWords
 pub mod Texts

@@ -18,7 +18,9 @@ use Rattle.emission.specs.EmitCall.{EmitReport, emitReported}
 use Rattle.text.specs.bytes.Ascii.{ascii}
 use Rattle.text.specs.Text.{readReport, readAccepted, ifRead}
 use Rattle.sizing.specs.SizeCall.{SizeReport, refusedSizes, textSizes, textLeft, sizeReport}
-use Rattle.wirdoku.specs.TextCall.{textReport, countedSizes, shapeOf, refusedShape, stateAnswer, zeroState, stepAnswer}
+use Rattle.dimacs.specs.DimacsCall.{FileReport, fileReport, fileReported, fileLeft}
+use Rattle.wirdoku.specs.TextCall.{textReport, countedSizes, shapeOf, refusedShape, fileReply, refusedFile, stateAnswer, zeroState, stepAnswer}
+use Rattle.wirdoku.specs.declared.FileReply.{FileReply}
 use Rattle.claims.specs.Calls.{Calls}
 use Rattle.claims.specs.RowModels.{clockRelations, clockRelationsText, counterRelations, counterRelationsText}
 use Rattle.claims.specs.RowModels.{counterUpdates, counterUpdatesText, twoOfEach, twoOfEachText}
@@ -36,12 +38,18 @@ textModel t = readReport t .model
 abbrev pub countsIn : SizeReport → EmitReport
 countsIn s = emitReported (s .number) (s .variables) (s .clauses) (s .words)
 
--- The right-hand sides of the contracts of wirdoku_emit, wirdoku_walk, wirdoku_assignment_to_run and wirdoku_run_to_assignment.
+-- The file call's numbers in the three of its answer to C.
+abbrev pub fileIn : FileReply → FileReport
+fileIn r = fileReported (r .number) (r .bytes)
+
+-- The right-hand sides of the contracts of wirdoku_emit, wirdoku_dimacs, wirdoku_walk, wirdoku_assignment_to_run and wirdoku_run_to_assignment.
 abbrev pub textCalls : List ℕ → Calls
 textCalls t = record {
   model = textModel t;
   emits = λ k out. countsIn (textSizes (readReport t) k (length out));
   emitted = λ k out. textLeft (readReport t) k out;
+  files = λ k out. fileIn (ifRead (readReport t) (λ m. fileReply (fileReport m k (length out))) refusedFile);
+  filed = λ k out. ifRead (readReport t) (λ m. fileLeft m k out) (λ n l. out);
   walks = λ r. ifRead (readReport t) (λ m. walkReport m r) refusal;
   decodes = λ k a run. ifRead (readReport t) (λ m. decodeReport m k a (length run)) refusal;
   decoded = λ k a run. ifRead (readReport t) (λ m. decodeLeft m k a run) (λ n l. run);
@@ -59,6 +67,7 @@ pub record Never20 : Type 0 where
   pub shape : (t : List ℕ) → Not20 (ifRead (readReport t) shapeOf refusedShape .number)
   pub counts : (t : List ℕ) (k : ℕ) → Not20 (ifRead (readReport t) (λ m. countedSizes (listReport m k)) refusedSizes .number)
   pub emit : (t : List ℕ) (k room : ℕ) → Not20 (textSizes (readReport t) k room .number)
+  pub dimacs : (t : List ℕ) (k room : ℕ) → Not20 (ifRead (readReport t) (λ m. fileReply (fileReport m k room)) refusedFile .number)
   pub size : (input : List ℕ) (room : ℕ) → Not20 (sizeReport input room .number)
   pub initial : (t : List ℕ) → Not20 (ifRead (readReport t) (λ m. stateAnswer 0 0 (initialState m)) (λ n l. stateAnswer n l zeroState) .number)
   pub step : (t : List ℕ) (s : State) (byte : ℕ)

@@ -9,8 +9,9 @@
  * call to the next, so that several threads may call, and takes no memory but its stack.
  *
  * What each call answers, and what every lent buffer holds afterwards, is proved: crates/wirdoku/src/lib.rt states it, in the words of
- * docs/NOTATION.md. Not proved but tested: that this header declares what the archive has (scripts/c-calls), and that a stack of 1 MiB
- * suffices for every call, with half of it to spare (scripts/compare-calls). docs/TRUST.md says what else is assumed.
+ * docs/NOTATION.md. Not proved but tested: that this header declares what the archive has (scripts/c-calls), that a stack of 1 MiB
+ * suffices for every call, with half of it to spare (scripts/compare-calls), and that no file has more than WIRDOKU_MAX_FILE bytes
+ * (reference/tests/largest.rs). docs/TRUST.md says what else is assumed.
  *
  * `number` is 0, or the number of a refusal; `line` is the line of the text, from 1, for refusals 2 to 8, else 0.
  * After a refusal every other number is 0 unless said otherwise, and a lent buffer holds what it held.
@@ -24,7 +25,7 @@ extern "C" {
 #endif
 
 /* Rises by 1 with every change of what stands in this file or of what a call answers; CHANGELOG.md says what changed. */
-#define WIRDOKU_VERSION 1
+#define WIRDOKU_VERSION 2
 
 /* Refusals, as docs/REFUSALS.md has them. No call of this header answers 20: a text that is read gives a well-formed record. */
 enum wirdoku_refusal {
@@ -50,7 +51,8 @@ enum wirdoku_refusal {
     WIRDOKU_STEP_NOT_ALLOWED = 28,      /* the step is not allowed: source, guard, range or invariant */
     WIRDOKU_NO_START = 29,              /* the initial state does not meet its invariant */
     WIRDOKU_NOT_IN_TARGET = 30,         /* the run does not end in the target */
-    WIRDOKU_ASSIGNMENT_TOO_SHORT = 31   /* the assignment buffer is shorter than N */
+    WIRDOKU_ASSIGNMENT_TOO_SHORT = 31,  /* the assignment buffer is shorter than N */
+    WIRDOKU_FILE_TOO_SHORT = 32         /* the byte buffer is shorter than the file; the number of bytes needed is returned too */
 };
 
 /* Limits of a model text, of a model, and of what is asked about it. */
@@ -65,6 +67,7 @@ enum wirdoku_refusal {
 #define WIRDOKU_MAX_STEPS 64            /* the bound, and the length of a run */
 #define WIRDOKU_MAX_VARIABLES 21776     /* N, at most: a buffer of so many bytes takes every assignment */
 #define WIRDOKU_MAX_WORDS 6730133       /* a buffer of so many words takes every list; wirdoku_counts tells the words of one */
+#define WIRDOKU_MAX_FILE 34185483       /* a buffer of so many bytes takes every file; wirdoku_dimacs tells the bytes of one, also with 32 */
 
 /* `place`: the line for 2 to 8, the byte's index for 24, the clause's index for 26, the step for 27 and 28, else 0. */
 struct wirdoku_answer {
@@ -79,6 +82,13 @@ struct wirdoku_sizes {
     size_t variables;
     size_t clauses;
     size_t words;
+};
+
+/* `bytes`: the file's length, for 0 and for 32; else 0. */
+struct wirdoku_file {
+    uint8_t number;
+    size_t line;
+    size_t bytes;
 };
 
 /* What a model declares; the ceiling M; the lengths S and H of a state block and of a choice block. */
@@ -120,6 +130,10 @@ struct wirdoku_sizes wirdoku_counts(const uint8_t *text, size_t text_len, size_t
 
 /* Writes the list for a bound from the start of `out`: 1 to 8, 21, 22. */
 struct wirdoku_sizes wirdoku_emit(const uint8_t *text, size_t text_len, size_t bound, int32_t *out, size_t out_len);
+
+/* Writes the list for a bound as a DIMACS file from the start of `out`: 1 to 8, 21, 32. The file is the line `p cnf VARIABLES CLAUSES`, then
+ * a line for each clause: its literals and 0, one space apart. Every line ends with LF; there are no comments. */
+struct wirdoku_file wirdoku_dimacs(const uint8_t *text, size_t text_len, size_t bound, uint8_t *out, size_t out_len);
 
 /* The size program's question: a bound line and a model text: 9, 1 to 8, 21, 22. It writes the list from the start of `out`. */
 struct wirdoku_sizes wirdoku_size(const uint8_t *input, size_t input_len, int32_t *out, size_t out_len);

@@ -9,7 +9,9 @@ use Rattle.text.specs.Text.{ReadReport}
 use Rattle.walk.specs.StepCall.{StepReport}
 use Rattle.counts.specs.CountsCall.{ListReport}
 use Rattle.sizing.specs.SizeCall.{SizeReport}
+use Rattle.dimacs.specs.DimacsCall.{FileReport}
 use Rattle.wirdoku.specs.declared.Answer.{Answer}
+use Rattle.wirdoku.specs.declared.FileReply.{FileReply}
 use Rattle.wirdoku.specs.declared.Shape.{Shape}
 use Rattle.wirdoku.specs.declared.StateAnswer.{StateAnswer}
 
@@ -24,6 +26,14 @@ textReport t = refusal (t .number) (t .line)
 -- the counts of the list, or the number of their refusal
 abbrev pub countedSizes : ListReport → SizeReport
 countedSizes r = record { number = r .number; line = 0; variables = r .variables; clauses = r .clauses; words = r .words }
+
+-- the number and the bytes of the call that writes the file
+abbrev pub fileReply : FileReport → FileReply
+fileReply r = record { number = r .number; line = 0; bytes = r .bytes }
+
+-- no byte is told of a refused text
+abbrev pub refusedFile : ℕ → ℕ → FileReply
+refusedFile n l = record { number = n; line = l; bytes = 0 }
 
 -- what a model declares; M, S and H
 abbrev pub shapeOf : Model → Shape

@@ -2,6 +2,7 @@
 use counts::CountsAnswer;
 use counts::counts_of;
 use decode::assignment_to_run;
+use dimacs::write_file;
 use encode::run_to_assignment;
 use model::Model;
 use model::State;
@@ -21,8 +22,9 @@ ghost use Rattle.walk.specs.Walker.{walkReport};
 ghost use Rattle.encode.specs.EncodeCall.{encodeReport, encodeLeft};
 ghost use Rattle.decode.specs.DecodeCall.{decodeReport, decodeLeft};
 ghost use Rattle.counts.specs.CountsCall.{listReport, listTold};
+ghost use Rattle.dimacs.specs.DimacsCall.{fileReport, fileLeft};
 ghost use Rattle.sizing.specs.SizeCall.{refusedSizes, textSizes, textLeft, sizeReport, sizeLeft, sizeTold};
-ghost use Rattle.wirdoku.specs.TextCall.{answerTold, textReport, countedSizes, shapeOf, refusedShape, stateAnswer, zeroState, stepAnswer};
+ghost use Rattle.wirdoku.specs.TextCall.{answerTold, textReport, countedSizes, shapeOf, refusedShape, fileReply, refusedFile, stateAnswer, zeroState, stepAnswer};
 
 // The number of the refusal, or 0, and its place.
 #[repr(C)]
@@ -45,6 +47,14 @@ pub struct Shape {
     pub ceiling: usize,
     pub state: usize,
     pub choices: usize,
+}
+
+// The number of the refusal, or 0, the line of the text, or 0, and the file's bytes.
+#[repr(C)]
+pub struct FileReply {
+    pub number: u8,
+    pub line: usize,
+    pub bytes: usize,
 }
 
 // The number of the refusal, or 0, the line of the text, or 0, and a state.
@@ -178,6 +188,33 @@ pub extern "C" fn wirdoku_emit(text: &[u8], bound: usize, out: &mut [i32]) -> Si
     ensures { λ r. ⌜ now (out .exit) ≡ textLeft (readReport (now (text .entry))) bound (now (out .entry)) ⌝ }
 {
     text_sizes(text, bound, out)
+}
+
+fn file_reply(number: u8, line: usize, bytes: usize) -> FileReply
+    ensures { λ r. ⌜ r ≡ record { number = number; line = line; bytes = bytes } ⌝ }
+{
+    FileReply {
+        number,
+        line,
+        bytes,
+    }
+}
+
+// Writes the DIMACS file of the list for a bound: the text, 21, 32.
+#[no_mangle]
+pub extern "C" fn wirdoku_dimacs(text: &[u8], bound: usize, out: &mut [u8]) -> FileReply
+    ensures { λ r. ⌜ r ≡ ifRead (readReport (now (text .entry))) (λ m. fileReply (fileReport m bound (length (now (out .entry))))) refusedFile ⌝ }
+    ensures { λ r. ⌜ now (out .exit) ≡ ifRead (readReport (now (text .entry))) (λ m. fileLeft m bound (now (out .entry))) (λ n l. now (out .entry)) ⌝ }
+{
+    let read = read_model(text);
+    let outcome = read.outcome;
+    let number = outcome.number();
+    if number != 0 {
+        return file_reply(number, outcome.line(), 0);
+    }
+    let model = read.model;
+    let written = write_file(model, bound, out);
+    file_reply(written.number(), 0, written.bytes())
 }
 
 // The size program's question, on a bound line and a model text: 9, the text, 21, 22.
