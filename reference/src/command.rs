@@ -5,6 +5,8 @@ use std::fmt;
 use std::io::{self, Read, Write};
 
 use reference::assign::{decode, encode};
+use reference::cnf::printed;
+use reference::dimacs::{file, write_file};
 use reference::gen::cases::{case, KINDS};
 use reference::gen::script::{script, Script};
 use reference::list::{digest, emit, totals, visit_clauses, Flow};
@@ -23,9 +25,11 @@ const HELP: &str = "\
 Reference of the translator from timed automata with counters to clauses.
 
 reference size               bound line and model text in, the size program's five lines out
+reference cnf                bound line and model text in, the DIMACS file out, or a refusal's two lines
 reference totals BOUND       variables, clauses and words of the list
 reference words BOUND        the list, one clause a line, each ended by its 0 word
 reference dimacs BOUND       the list as a DIMACS file for a solver
+reference dimacs BOUND ROOM  answer of the call that writes the file to ROOM bytes, and the file if accepted
 reference digest BOUND       64-bit FNV-1a of the list's words, four bytes each, lowest first
 reference emit BOUND ROOM    answer of an emission into ROOM words, and the words if accepted
 reference step L V0 V1 V2 V3 X0 X1 X2 X3 BYTE
@@ -43,7 +47,7 @@ reference script SEED COUNT  input for a program that answers questions about re
 reference answers SEED COUNT what that program must write
 reference help               this page
 
-All but size, gen, script, answers and help read a model text on standard input; a text that is refused gives
+All but size, cnf, gen, script, answers and help read a model text on standard input; a text that is refused gives
 its number and line. BYTES and VALUES are decimal numbers 0 to 255. `count` and `shortest`
 say unknown where a search would keep more than two million states, or the number needs more
 than 128 bits.
@@ -79,9 +83,11 @@ pub fn perform(arguments: &[String], out: &mut dyn Write) -> Done {
     let words: Vec<&str> = arguments.iter().map(String::as_str).collect();
     match words.as_slice() {
         ["size"] => Ok(write!(out, "{}", sizes(&input()?).lines())?),
+        ["cnf"] => Ok(write!(out, "{}", printed(&input()?))?),
         ["totals", bound] => show_totals(number(bound)?, out),
         ["words", bound] => show_words(number(bound)?, out),
-        ["dimacs", bound] => show_dimacs(number(bound)?, out),
+        ["dimacs", bound] => show_file(number(bound)?, out),
+        ["dimacs", bound, room] => show_filing(number(bound)?, number(room)?, out),
         ["digest", bound] => show_digest(number(bound)?, out),
         ["emit", bound, room] => show_emission(number(bound)?, number(room)?, out),
         ["step", numbers @ ..] => show_step(&bytes(numbers)?, out),
@@ -158,28 +164,33 @@ fn show_totals(bound: usize, out: &mut dyn Write) -> Done {
     })
 }
 
+/// Writes each clause with its 0 on a line of its own.
 fn show_words(bound: usize, out: &mut dyn Write) -> Done {
-    with_model(out, |model, out| show_clauses(model, bound, out))
-}
-
-fn show_dimacs(bound: usize, out: &mut dyn Write) -> Done {
     with_model(out, |model, out| {
-        if let Ok(totals) = totals(model, bound) {
-            writeln!(out, "p cnf {} {}", totals.variables, totals.clauses)?;
-        }
-        show_clauses(model, bound, out)
+        let mut outcome = Ok(());
+        let visited = visit_clauses(model, bound, &mut |clause| {
+            outcome = writeln!(out, "{} 0", spaced(clause));
+            go_on_if(outcome.is_ok())
+        });
+        outcome?;
+        with_answer(visited, out, |_, _| Ok(()))
     })
 }
 
-/// Writes each clause with its 0 on a line of its own.
-fn show_clauses(model: &Model, bound: usize, out: &mut dyn Write) -> Done {
-    let mut outcome = Ok(());
-    let visited = visit_clauses(model, bound, &mut |clause| {
-        outcome = writeln!(out, "{} 0", spaced(clause));
-        go_on_if(outcome.is_ok())
-    });
-    outcome?;
-    with_answer(visited, out, |_, _| Ok(()))
+fn show_file(bound: usize, out: &mut dyn Write) -> Done {
+    with_model(out, |model, out| with_answer(file(model, bound), out, |file, out| Ok(write!(out, "{file}")?)))
+}
+
+fn show_filing(bound: usize, room: usize, out: &mut dyn Write) -> Done {
+    with_model(out, |model, out| {
+        let mut buffer = vec![0; room];
+        let filing = write_file(model, bound, &mut buffer);
+        writeln!(out, "refusal={}\nbytes={}", filing.refusal, filing.bytes)?;
+        if filing.refusal == 0 {
+            out.write_all(&buffer[..filing.bytes])?;
+        }
+        Ok(())
+    })
 }
 
 fn show_digest(bound: usize, out: &mut dyn Write) -> Done {

@@ -11,16 +11,20 @@
 //! | [`text`] | reader and writer of the model text, the bound line |
 //! | [`numbering`] | which solver variable stands for what |
 //! | [`list`] | the clause list, its totals, its emission |
+//! | [`dimacs`] | the list's DIMACS file, written to a lent buffer |
 //! | [`assign`] | assignment to run and run to assignment |
 //! | [`search`] | shortest run, number of runs, all runs, by walking states |
 //! | [`solve`] | all satisfying assignments of a small list, by backtracking |
 //! | [`size`] | the size program |
+//! | [`cnf`] | the cnf program, which prints the DIMACS file |
 //! | [`flat`] | records as plain bytes, to carry malformed ones between programs |
 //! | [`subject`] | models with names and texts, from files too |
 //! | [`gen`] | deterministic generator of test cases |
 //! | [`refusal`] | the refusal numbers |
 
 pub mod assign;
+pub mod cnf;
+pub mod dimacs;
 pub mod flat;
 pub mod gen;
 pub mod list;

@@ -44,6 +44,8 @@ pub const INITIAL_INVARIANT: u32 = 29;
 pub const NOT_TARGET: u32 = 30;
 /// Assignment buffer shorter than N.
 pub const ASSIGNMENT_SHORT: u32 = 31;
+/// Byte buffer shorter than the file.
+pub const BYTES_SHORT: u32 = 32;
 
 /// A refusal: its number in the table, and its place (a line, a step or an
 /// index), which is 0 where the table names none.

@@ -2,13 +2,17 @@
 
 mod common;
 
-use common::fnv;
-use reference::gen::models::{largest, model, Size};
+use common::{fnv, fnv_of_bytes};
+use reference::dimacs::file;
+use reference::gen::models::{at_the_last_location, largest, longest_file, model, Size};
 use reference::gen::rng::Rng;
-use reference::list::{digest, emit, totals, visit_clauses, Flow, Totals};
-use reference::model::{ceiling, choice_length, state_length, well_formed, Atom, Counter, Edge, Model, Relation, Update};
+use reference::list::{digest, emit, totals, Totals};
+use reference::model::{ceiling, choice_length, state_length, well_formed, Atom, Model, Relation, Update};
 use reference::numbering::Numbering;
 use reference::text::{read, write};
+
+/// 64-bit FNV-1a of the longest file.
+const LONGEST_DIGEST: u64 = 0x6e6c_c7a2_270a_45c2;
 
 #[test]
 fn the_largest_model_attains_the_greatest_totals() {
@@ -41,21 +45,6 @@ fn the_largest_list_is_emitted_into_just_enough_words() {
     assert_eq!(digest(&largest(), 64), Ok(fnv(&buffer)));
 }
 
-/// Bytes of a DIMACS file and of its longest line, both with line ends.
-fn dimacs_sizes(model: &Model, bound: usize) -> (usize, usize) {
-    let totals = totals(model, bound).unwrap();
-    let mut bytes = format!("p cnf {} {}\n", totals.variables, totals.clauses).len();
-    let mut longest = bytes;
-    let _ = visit_clauses(model, bound, &mut |clause| {
-        let literals: usize = clause.iter().map(|literal| literal.to_string().len() + 1).sum();
-        let line = literals + "0\n".len();
-        bytes += line;
-        longest = longest.max(line);
-        Flow::Continue(())
-    });
-    (bytes, longest)
-}
-
 /// The largest model with guards on counter 0: its names have the fewest digits.
 fn fewest_digits() -> Model {
     let mut model = largest();
@@ -67,33 +56,45 @@ fn fewest_digits() -> Model {
     model
 }
 
-/// The largest model with the last location throughout, and one atom, one update
-/// and one sort of reset.
-fn at_the_last_location(atom: Atom, update: Update, reset: bool) -> Model {
-    let mut model = largest();
-    (model.init, model.target) = (15, 15);
-    model.counter = [Counter { greatest: 31, initial: 31 }; 4];
-    model.invariant = [[atom; 4]; 16];
-    model.edge = [Edge { source: 15, target: 15, guard: [atom; 4], updates: [update; 4], resets: [reset; 4] }; 32];
-    model
+#[test]
+fn files_of_the_largest_lists() {
+    // The same totals, but the numbers written have more or fewer digits. The
+    // longest line has 64 numbers of five digits, its 0 and its LF.
+    for (model, bytes) in [(fewest_digits(), 34_175_466), (longest_file(), 34_185_483)] {
+        assert!(well_formed(&model));
+        assert_eq!(totals(&model, 64), totals(&largest(), 64));
+        let file = file(&model, 64).unwrap();
+        assert_eq!(file.len(), bytes);
+        assert_eq!(file.split_inclusive('\n').map(str::len).max(), Some(386));
+    }
+    let longest = file(&longest_file(), 64).unwrap();
+    assert_eq!(fnv_of_bytes(longest.bytes()), LONGEST_DIGEST);
 }
 
-/// The largest model naming the last clock, counter and location throughout.
-fn most_digits() -> Model {
-    let sum = Update::Sum { source: 3, offset: 0 };
-    let mut model = at_the_last_location(Atom::clock(3, Relation::Less, 0), sum, false);
-    model.edge[0].guard[0] = Atom::clock(3, Relation::Greater, 30);
+/// The longest file's model with one thing changed.
+fn neighbour(rng: &mut Rng) -> Model {
+    let (mut model, other) = (longest_file(), model(rng, Size::Full));
+    let (one, slot, place) = (rng.below(32), rng.below(4), rng.below(16));
+    match rng.below(6) {
+        0 => model.init = rng.below(16) as u8,
+        1 => model.target = rng.below(16) as u8,
+        2 => model.invariant[place][slot] = other.invariant[place % usize::from(other.locations)][slot],
+        3 => model.edge[one].guard[slot] = other.edge[one].guard[slot],
+        4 => model.edge[one].updates[slot] = other.edge[one].updates[slot],
+        _ => (model.edge[one].source, model.edge[one].target) = (rng.below(16) as u8, rng.below(16) as u8),
+    }
     model
 }
 
 #[test]
-fn dimacs_of_the_largest_lists() {
-    // The same totals, but the numbers written have more or fewer digits. The
-    // longest line has 64 numbers of five digits, its 0 and its LF.
-    for (model, bytes) in [(fewest_digits(), 34_175_466), (most_digits(), 34_185_483)] {
-        assert!(well_formed(&model));
-        assert_eq!(totals(&model, 64), totals(&largest(), 64));
-        assert_eq!(dimacs_sizes(&model, 64), (bytes, 386));
+fn no_file_is_longer() {
+    let bytes = |model: &Model| file(model, 4).unwrap().len();
+    let limit = bytes(&longest_file());
+    let mut rng = Rng::new(1);
+    for _ in 0..200 {
+        for found in [neighbour(&mut rng), model(&mut rng, Size::Full)] {
+            assert!(!well_formed(&found) || bytes(&found) <= limit);
+        }
     }
 }
 

@@ -36,6 +36,15 @@ fn size() {
 }
 
 #[test]
+fn cnf() {
+    let file = "p cnf 2 4\n1 2 0\n-1 -2 0\n1 0\n2 0\n";
+    assert_eq!(output("cnf", &format!("bound=0\n{MODEL_A}")), file);
+    assert_eq!(output("cnf", &format!("bound=65\n{MODEL_A}")), "refusal=21\nline=0\n");
+    assert_eq!(output("cnf", "bound=1\nlocations=17\n"), "refusal=4\nline=1\n");
+    assert_eq!(output("cnf", ""), "refusal=9\nline=0\n");
+}
+
+#[test]
 fn lists() {
     assert_eq!(output("words 0", MODEL_A), "1 2 0\n-1 -2 0\n1 0\n2 0\n");
     assert_eq!(output("dimacs 0", MODEL_A), "p cnf 2 4\n1 2 0\n-1 -2 0\n1 0\n2 0\n");
@@ -44,6 +53,10 @@ fn lists() {
     assert_eq!(output("totals 65", LIGHT), "refusal=21\nplace=0\n");
     assert_eq!(output("dimacs 65", LIGHT), "refusal=21\nplace=0\n");
     assert_eq!(output("words 1", "locations=17\n"), "refusal=4\nline=1\n");
+    assert_eq!(output("dimacs 1", "locations=17\n"), "refusal=4\nline=1\n");
+    assert_eq!(output("dimacs 0 32", MODEL_A), "refusal=0\nbytes=32\np cnf 2 4\n1 2 0\n-1 -2 0\n1 0\n2 0\n");
+    assert_eq!(output("dimacs 0 31", MODEL_A), "refusal=32\nbytes=32\n");
+    assert_eq!(output("dimacs 65 31", MODEL_A), "refusal=21\nbytes=0\n");
     assert_eq!(output("emit 0 10", MODEL_A), "refusal=0\nvariables=2\nclauses=4\nwords=10\nlist=1 2 0 -1 -2 0 1 0 2 0\n");
     assert_eq!(output("emit 0 9", MODEL_A), "refusal=22\nvariables=0\nclauses=0\nwords=10\n");
 }

@@ -198,6 +198,26 @@ pub fn full() -> Model {
     model
 }
 
+/// The largest model with the last location throughout, and one atom, one update
+/// and one sort of reset.
+pub fn at_the_last_location(atom: Atom, update: Update, reset: bool) -> Model {
+    let mut model = largest();
+    (model.init, model.target) = (15, 15);
+    model.counter = [Counter { greatest: MAX_COUNTER_VALUE, initial: MAX_COUNTER_VALUE }; MAX_COUNTERS];
+    model.invariant = [[atom; MAX_ATOMS]; MAX_LOCATIONS];
+    model.edge = [Edge { source: 15, target: 15, guard: [atom; MAX_ATOMS], updates: [update; 4], resets: [reset; 4] }; MAX_EDGES];
+    model
+}
+
+/// The model with the longest DIMACS file: the greatest totals, and the last clock,
+/// counter and location named throughout, since their numbers have the most digits.
+pub fn longest_file() -> Model {
+    let sum = Update::Sum { source: 3, offset: 0 };
+    let mut model = at_the_last_location(Atom::clock(3, Relation::Less, 0), sum, false);
+    model.edge[0].guard[0] = Atom::clock(3, Relation::Greater, MAX_CLOCK_CONSTANT);
+    model
+}
+
 /// Model A of the document.
 pub fn model_a() -> Model {
     let mut model = Model::blank();

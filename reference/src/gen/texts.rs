@@ -1,4 +1,4 @@
-//! Damaged model texts and inputs of the size program.
+//! Damaged model texts and inputs of the size program, which are the cnf program's too.
 
 use super::models::any_model;
 use super::rng::Rng;

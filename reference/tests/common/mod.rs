@@ -120,6 +120,10 @@ pub fn with_line(text: &str, line: usize, replacement: &str) -> String {
 
 /// 64-bit FNV-1a of some words, four bytes each, the lowest first.
 pub fn fnv(words: &[i32]) -> u64 {
-    let bytes = words.iter().flat_map(|word| word.to_le_bytes());
+    fnv_of_bytes(words.iter().flat_map(|word| word.to_le_bytes()))
+}
+
+/// 64-bit FNV-1a of some bytes.
+pub fn fnv_of_bytes(bytes: impl Iterator<Item = u8>) -> u64 {
     bytes.fold(14695981039346656037, |digest: u64, byte| (digest ^ u64::from(byte)).wrapping_mul(1099511628211))
 }
