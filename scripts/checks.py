@@ -8,6 +8,7 @@ from crates import ROOT
 RELEASE = os.path.join(ROOT, "rust-target", "release")
 REFERENCE = os.path.join(RELEASE, "reference")
 SIZE = os.path.join(ROOT, "target", "bin", "size")
+CNF = os.path.join(ROOT, "target", "bin", "cnf")
 
 passed = 0
 failed = 0

@@ -39,6 +39,13 @@ void check_sizes(const char *name, struct wirdoku_sizes found, uint8_t number, s
                found.number, found.line, found.variables, found.clauses, found.words);
 }
 
+void check_file(const char *name, struct wirdoku_file found, uint8_t number, size_t line, size_t bytes) {
+    int holds = found.number == number && found.line == line && found.bytes == bytes;
+    check(name, holds);
+    if (!holds)
+        printf("    expected %d %zu %zu, found %d %zu %zu\n", number, line, bytes, found.number, found.line, found.bytes);
+}
+
 static void print_shape(const char *word, struct wirdoku_shape s) {
     printf("    %s %d %zu %d %d %d %d %d %d %zu %zu %zu\n", word, s.number, s.line, s.locations, s.initial, s.target, s.clocks, s.counters,
            s.edges, s.ceiling, s.state, s.choices);

@@ -7,6 +7,7 @@
 void check(const char *name, int holds);
 void check_answer(const char *name, struct wirdoku_answer found, uint8_t number, size_t place);
 void check_sizes(const char *name, struct wirdoku_sizes found, uint8_t number, size_t line, size_t variables, size_t clauses, size_t words);
+void check_file(const char *name, struct wirdoku_file found, uint8_t number, size_t line, size_t bytes);
 void check_shape(const char *name, struct wirdoku_shape found, struct wirdoku_shape expected);
 void check_state(const char *name, struct wirdoku_state_answer found, uint8_t number, size_t line, struct wirdoku_state state);
 
@@ -47,5 +48,6 @@ struct wirdoku_shape refused_shape(uint8_t number, size_t line);
 void layout_tests(void);
 void text_tests(void);
 void list_tests(void);
+void file_tests(void);
 void run_tests(void);
 #endif

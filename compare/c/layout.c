@@ -1,5 +1,5 @@
 /* Sizes of the header's structs, and size and place of each field, held to layout.txt; so are the Rust declarations (tool/tests/library.rs).
- * That the library's machine code has them there is seen by answers with other numbers in every field (texts.c, lists.c, runs.c). */
+ * That the library's machine code has them there is seen by answers with other numbers in every field (texts.c, lists.c, files.c, runs.c). */
 #include "check.h"
 #include <stdio.h>
 #include <string.h>
@@ -14,6 +14,7 @@ static const struct {
     STRUCT(wirdoku_answer), FIELD(wirdoku_answer, number), FIELD(wirdoku_answer, place),
     STRUCT(wirdoku_sizes), FIELD(wirdoku_sizes, number), FIELD(wirdoku_sizes, line), FIELD(wirdoku_sizes, variables),
     FIELD(wirdoku_sizes, clauses), FIELD(wirdoku_sizes, words),
+    STRUCT(wirdoku_file), FIELD(wirdoku_file, number), FIELD(wirdoku_file, line), FIELD(wirdoku_file, bytes),
     STRUCT(wirdoku_shape), FIELD(wirdoku_shape, number), FIELD(wirdoku_shape, line), FIELD(wirdoku_shape, locations),
     FIELD(wirdoku_shape, initial), FIELD(wirdoku_shape, target), FIELD(wirdoku_shape, clocks), FIELD(wirdoku_shape, counters),
     FIELD(wirdoku_shape, edges), FIELD(wirdoku_shape, ceiling), FIELD(wirdoku_shape, state), FIELD(wirdoku_shape, choices),

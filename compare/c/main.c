@@ -9,6 +9,7 @@ int main(void) {
     if (none_failed()) {
         text_tests();
         list_tests();
+        file_tests();
         run_tests();
     }
     return finish();

@@ -54,6 +54,8 @@ static void refused(const char *name, struct text t, uint8_t number, size_t line
     check_sizes(name, wirdoku_counts(t.at, t.length, 65), number, line, 0, 0, 0);
     check_sizes(name, wirdoku_emit(t.at, t.length, 1, words, 60), number, line, 0, 0, 0);
     check_sizes(name, wirdoku_size(input.at, input.length, words, 60), number, line, 0, 0, 0);
+    check_file(name, wirdoku_dimacs(t.at, t.length, 1, bytes, 60), number, line, 0);
+    check_file(name, wirdoku_dimacs(t.at, t.length, 65, bytes, 60), number, line, 0);
     check_state(name, wirdoku_initial(t.at, t.length), number, line, zeros);
     check_state(name, wirdoku_step(t.at, t.length, given, 20), number, line, given);
     check_answer(name, wirdoku_walk(t.at, t.length, run, 1), number, line);
@@ -145,6 +147,7 @@ static void nulls(void) {
     check_shape("no text: shape", wirdoku_shape(NULL, 0), refused_shape(WIRDOKU_NO_SUCH_LINE, 1));
     check_sizes("no text: counts", wirdoku_counts(NULL, 0, 1), WIRDOKU_NO_SUCH_LINE, 1, 0, 0, 0);
     check_sizes("no text: emit", wirdoku_emit(NULL, 0, 1, NULL, 0), WIRDOKU_NO_SUCH_LINE, 1, 0, 0, 0);
+    check_file("no text: dimacs", wirdoku_dimacs(NULL, 0, 1, NULL, 0), WIRDOKU_NO_SUCH_LINE, 1, 0);
     check_sizes("no input: size", wirdoku_size(NULL, 0, NULL, 0), WIRDOKU_NO_BOUND_LINE, 0, 0, 0, 0);
     check_state("no text: initial", wirdoku_initial(NULL, 0), WIRDOKU_NO_SUCH_LINE, 1, zeros);
     check_state("no text: step", wirdoku_step(NULL, 0, given, 3), WIRDOKU_NO_SUCH_LINE, 1, given);
@@ -152,6 +155,7 @@ static void nulls(void) {
     check_answer("no text: assignment to run", wirdoku_assignment_to_run(NULL, 0, 1, NULL, 0, NULL, 0), WIRDOKU_NO_SUCH_LINE, 1);
     check_answer("no text: run to assignment", wirdoku_run_to_assignment(NULL, 0, NULL, 0, NULL, 0), WIRDOKU_NO_SUCH_LINE, 1);
     check_sizes("no buffer: emit", wirdoku_emit(a.at, a.length, 0, NULL, 0), WIRDOKU_WORDS_TOO_SHORT, 0, 0, 0, 10);
+    check_file("no buffer: dimacs", wirdoku_dimacs(a.at, a.length, 0, NULL, 0), WIRDOKU_FILE_TOO_SHORT, 0, 32);
     check_answer("no run: walk", wirdoku_walk(a.at, a.length, NULL, 0), WIRDOKU_ACCEPTED, 0);
     check_answer("no assignment", wirdoku_assignment_to_run(a.at, a.length, 0, NULL, 0, NULL, 0), WIRDOKU_ASSIGNMENT_LENGTH, 0);
     check_answer("no run: run to assignment", wirdoku_run_to_assignment(a.at, a.length, NULL, 0, NULL, 0), WIRDOKU_ASSIGNMENT_TOO_SHORT, 0);

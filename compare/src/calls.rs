@@ -19,19 +19,33 @@ pub fn reading(tally: &mut Tally, seed: u64, text: &[u8]) {
     }
 }
 
-/// The totals, and an emission into each number of words.
+/// The totals, and an emission into each number of words. The file is written to as many bytes more or less than it has as the
+/// words are more or less than the list's, and to none where there are no words.
 pub fn list(tally: &mut Tally, seed: u64, text: &[u8], bound: usize, rooms: &[usize]) {
     let list = List::of_text(text, bound);
     tally.answer("counts", list.counts, library::counts(text, bound));
-    let words = list.words();
+    let (words, bytes) = (list.words(), list.file());
     for (turn, room) in rooms.iter().enumerate() {
-        let mut lent = Lent::new(seed + turn as u64, *room);
+        let seed = seed + turn as u64;
+        let mut lent = Lent::new(seed, *room);
         let got = library::emit(text, bound, lent.slice());
         let expected = list.emitted(*room);
         let written = if expected.number == 0 { words.len() } else { 0 };
         tally.answer("emit", expected, got);
         tally.buffer("emit", &lent, &words[..written]);
+        let room = if *room == 0 { 0 } else { (bytes.len() + room).saturating_sub(words.len()) };
+        file(tally, seed, text, bound, (&list, &bytes), room);
     }
+}
+
+/// The file of a list, whose bytes are known, into a buffer of some length.
+pub fn file(tally: &mut Tally, seed: u64, text: &[u8], bound: usize, (list, bytes): (&List, &[u8]), room: usize) {
+    let mut lent = Lent::new(seed, room);
+    let got = library::dimacs(text, bound, lent.slice());
+    let expected = list.filed(bytes.len(), room);
+    let written = if expected.number == 0 { bytes.len() } else { 0 };
+    tally.answer("dimacs", expected, got);
+    tally.buffer("dimacs", &lent, &bytes[..written]);
 }
 
 /// The size program's question with some words lent.

@@ -2,13 +2,14 @@
 //! buffer holds from its start after the call; it holds what it held beyond.
 
 use reference::assign::{decode, encode};
+use reference::dimacs::file;
 use reference::list::{totals, words, Totals};
 use reference::model::{ceiling, choice_length, state_length, Model};
-use reference::refusal::{number_and_place, Refusal, WORDS_SHORT};
+use reference::refusal::{number_and_place, Refusal, BYTES_SHORT, WORDS_SHORT};
 use reference::state::State as ReferenceState;
 use reference::step::{self, step_call};
 use reference::text::{read_bound_line, read_whole};
-use wirdoku::library::{Answer, Shape, Sizes, State, StateAnswer};
+use wirdoku::library::{Answer, FileAnswer, Shape, Sizes, State, StateAnswer};
 
 fn answer((number, place): (u32, u32)) -> Answer {
     Answer { number: number as u8, place: place as usize }
@@ -108,6 +109,22 @@ impl List {
             Some((model, bound)) => words(model, *bound).unwrap_or_default(),
             None => Vec::new(),
         }
+    }
+
+    /// The DIMACS file; none after a refusal.
+    pub fn file(&self) -> Vec<u8> {
+        match &self.asked {
+            Some((model, bound)) => file(model, *bound).unwrap_or_default().into_bytes(),
+            None => Vec::new(),
+        }
+    }
+
+    /// The answer of the call that writes a file of `bytes` bytes to `room` bytes.
+    pub fn filed(&self, bytes: usize, room: usize) -> FileAnswer {
+        if self.asked.is_some() && room < bytes {
+            return FileAnswer { number: BYTES_SHORT as u8, line: 0, bytes };
+        }
+        FileAnswer { number: self.counts.number, line: self.counts.line, bytes }
     }
 
     /// What an emission into `room` words writes.

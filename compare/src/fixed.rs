@@ -2,8 +2,9 @@
 
 use reference::gen::models::{model_a, model_b};
 use reference::model::{Atom, Model, Relation};
-use wirdoku::library::{self, Answer, Sizes};
+use wirdoku::library::{self, Answer, FileAnswer, Sizes};
 
+use crate::expected::List;
 use crate::lent::Lent;
 use crate::part::Seeds;
 use crate::tally::Tally;
@@ -15,6 +16,7 @@ const ACCEPTED: Answer = Answer { number: 0, place: 0 };
 pub fn fixed(tally: &mut Tally, _: Seeds) {
     models_in_the_repository(tally);
     lists(tally);
+    files(tally);
     assignments_of_a(tally);
     runs_of_a_at_2(tally);
     runs_of_b(tally);
@@ -66,6 +68,32 @@ fn list(tally: &mut Tally, text: &[u8], bound: usize, expected: Sizes) {
     tally.buffer("emit", &short, &[]);
     calls::list(tally, 7, text, bound, &[expected.words, expected.words + 9, expected.words - 1, 0]);
     tally.case(|| format!("list of a worked model at bound {bound}"));
+}
+
+/// The whole file of A at bound 1 stands in tool/tests/library.rs.
+fn files(tally: &mut Tally) {
+    let (a, b) = (written(&model_a()), written(&model_b()));
+    for (bound, bytes) in [(0, 32), (1, 133), (2, 249)] {
+        file(tally, &a, bound, bytes);
+    }
+    for (bound, bytes) in [(0, 211), (1, 1_708), (2, 3_266), (3, 4_824), (64, 124_483)] {
+        file(tally, &b, bound, bytes);
+    }
+}
+
+/// The length; it suffices, one byte more is left as it was, and one less gives 32; the file is the reference's.
+fn file(tally: &mut Tally, text: &[u8], bound: usize, bytes: usize) {
+    let accepted = FileAnswer { number: 0, line: 0, bytes };
+    let mut more = Lent::<u8>::new(3, bytes + 1);
+    tally.answer("dimacs", accepted, library::dimacs(text, bound, more.slice()));
+    let mut short = Lent::<u8>::new(5, bytes - 1);
+    tally.answer("dimacs", FileAnswer { number: 32, ..accepted }, library::dimacs(text, bound, short.slice()));
+    tally.buffer("dimacs", &short, &[]);
+    let list = List::of_text(text, bound);
+    for room in [bytes, bytes + 1, bytes + 9, bytes - 1, 0] {
+        calls::file(tally, 7 + room as u64, text, bound, (&list, &list.file()), room);
+    }
+    tally.case(|| format!("file of a worked model at bound {bound}"));
 }
 
 /// P3 and P4; and of all 128 assignments for bound 1 exactly one is accepted, of all 4,096 for bound 2
@@ -163,6 +191,7 @@ fn greatest_bound(tally: &mut Tally) {
         tally.same("walk", number, library::walk(&a, run).number);
         let mut words = vec![0; library::counts(&a, bound).words];
         tally.same("emit", number, library::emit(&a, bound, &mut words).number);
+        tally.same("dimacs", number, library::dimacs(&a, bound, &mut [0; 20_000]).number);
         let mut assignment = vec![0; 2 + 5 * bound];
         tally.same("run to assignment", number, library::run_to_assignment(&a, run, &mut assignment).number);
         let answer = library::assignment_to_run(&a, bound, &assignment, &mut [0; 65]);

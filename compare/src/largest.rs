@@ -1,10 +1,10 @@
-//! Models at every limit, at bound 64: the list with the most words, and runs of 64 steps both ways.
+//! Models at every limit, at bound 64: the list with the most words, the longest file, and runs of 64 steps both ways.
 
 use reference::gen::models;
 use reference::gen::rng::Rng;
 use reference::gen::runs::walk;
 use reference::model::{Atom, Edge, Model, Relation, Update, MAX_BOUND};
-use wirdoku::library::{self, Sizes};
+use wirdoku::library::{self, FileAnswer, Sizes};
 
 use crate::expected::List;
 use crate::lent::Lent;
@@ -15,11 +15,14 @@ use crate::{calls, show};
 
 /// The totals of the longest list.
 const MOST: Sizes = Sizes { number: 0, line: 0, variables: 21_776, clauses: 1_876_043, words: 6_729_941 };
+/// Length and 64-bit FNV-1a of the longest file.
+const LONGEST: (usize, u64) = (34_185_483, 0x6e6c_c7a2_270a_45c2);
 /// Seeds of the runs.
 const RUNS: [u64; 3] = [7_000_000, 7_000_001, 7_000_002];
 
 pub fn largest(tally: &mut Tally, _: Seeds) {
     longest_list(tally);
+    longest_file(tally);
     for seed in RUNS {
         let (model, run) = model_and_run(seed);
         both_ways(tally, seed, &written(&model), &run);
@@ -40,6 +43,22 @@ fn longest_list(tally: &mut Tally) {
     calls::size(tally, 5, &input, &list, 16_384);
     calls::walk(tally, &text, &[]);
     tally.case(|| "the longest list".to_string());
+}
+
+/// The longest file: its length and checksum, all bytes; a byte more is left as it was; 32 with a byte less.
+fn longest_file(tally: &mut Tally) {
+    let text = written(&models::longest_file());
+    let list = List::of_text(&text, MAX_BOUND);
+    let bytes = list.file();
+    let mut file = vec![0; LONGEST.0];
+    let answer = library::dimacs(&text, MAX_BOUND, &mut file);
+    tally.answer("dimacs", FileAnswer { number: 0, line: 0, bytes: LONGEST.0 }, answer);
+    let digest = |digest: u64, byte: &u8| (digest ^ u64::from(*byte)).wrapping_mul(0x0000_0100_0000_01b3);
+    tally.same("checksum", LONGEST.1, file.iter().fold(0xcbf2_9ce4_8422_2325, digest));
+    for room in [LONGEST.0, LONGEST.0 + 1, LONGEST.0 - 1, 65_536, 0] {
+        calls::file(tally, room as u64, &text, MAX_BOUND, (&list, &bytes), room);
+    }
+    tally.case(|| "the longest file".to_string());
 }
 
 /// A model at every limit and a run of 64 steps of it.

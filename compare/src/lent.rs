@@ -18,9 +18,9 @@ impl Cell for i32 {
 }
 
 impl Cell for u8 {
-    /// 64 or more; run bytes and truth values are below.
+    /// 128 or more; run bytes, truth values and the bytes of a file are below.
     fn pattern(bits: u32) -> u8 {
-        64 + (bits % 192) as u8
+        128 + (bits % 128) as u8
     }
 }
 

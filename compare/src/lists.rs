@@ -1,4 +1,4 @@
-//! Lists word for word: the totals by formula and the emission, with buffers of every sort.
+//! Lists word for word and files byte for byte: the totals by formula, the emission and the file, with buffers of every sort.
 
 use reference::gen::models::{any_size, model, Size};
 use reference::gen::rng::Rng;
@@ -11,7 +11,7 @@ use crate::tally::{Due, Tally};
 use crate::texts::written;
 use crate::{calls, show};
 
-pub const DUE: Due = &[("counts", &[0, 21]), ("emit", &[0, 21, 22])];
+pub const DUE: Due = &[("counts", &[0, 21]), ("emit", &[0, 21, 22]), ("dimacs", &[0, 21, 32])];
 
 /// Bounds above 64, among them those that are small in their low bits.
 const TOO_LARGE: [usize; 10] = [65, 66, 127, 128, 256, 257, 1 << 16, 1 << 32, usize::MAX - 1, usize::MAX];
@@ -30,7 +30,7 @@ pub fn lists(tally: &mut Tally, seeds: Seeds) {
             seed as usize % (MAX_BOUND + 1)
         };
         let needed = List::of_text(&text, bound).counts.words;
-        let rooms = [needed, needed + 1 + rng.below(60), needed.saturating_sub(1), 0];
+        let rooms = [needed, needed + 1, needed + 2 + rng.below(60), needed.saturating_sub(1), 0];
         calls::list(tally, seed, &text, bound, &rooms);
         tally.case(|| format!("seed {seed} text {} bound {bound} rooms {rooms:?}", show::text(&text)));
         if tally.stopped() {

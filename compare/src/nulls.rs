@@ -19,7 +19,8 @@ pub fn nulls(tally: &mut Tally) {
 fn null_text(tally: &mut Tally) {
     let state = State { location: 7, counters: [1, 2, 3, 4], clocks: [5, 6, 7, 8] };
     let empty = expected::read(b"");
-    let list = List::of_text(b"", 1).counts;
+    let no_file = List::of_text(b"", 1);
+    let list = no_file.counts;
     let no_input = List::of_input(b"").counts;
     // SAFETY: each slice is a null pointer and 0, which the header allows.
     unsafe {
@@ -27,6 +28,7 @@ fn null_text(tally: &mut Tally) {
         tally.answer("shape", expected::shape(b""), wirdoku_shape(null(), 0));
         tally.answer("counts", list, wirdoku_counts(null(), 0, 1));
         tally.answer("emit", list, wirdoku_emit(null(), 0, 1, null_mut(), 0));
+        tally.answer("dimacs", no_file.filed(0, 0), wirdoku_dimacs(null(), 0, 1, null_mut(), 0));
         tally.answer("size", no_input, wirdoku_size(null(), 0, null_mut(), 0));
         tally.answer("initial", expected::initial(b""), wirdoku_initial(null(), 0));
         tally.answer("step", expected::step(b"", state, 3), wirdoku_step(null(), 0, state, 3));
@@ -45,13 +47,16 @@ fn null_buffers(tally: &mut Tally) {
     model.target = 0;
     let text = written(&model);
     let (start, length) = (text.as_ptr(), text.len());
-    let list = List::of_text(&text, 0).emitted(0);
+    let asked = List::of_text(&text, 0);
+    let list = asked.emitted(0);
+    let file = asked.filed(asked.file().len(), 0);
     let (short, _) = expected::run_to_assignment(&text, &[], 0);
     let (wrong_length, _) = expected::assignment_to_run(&text, 0, &[], 0);
     let (accepted, _) = expected::assignment_to_run(&text, 0, &[1, 0], 0);
     // SAFETY: the text is a slice; the others are null pointers and 0, or a slice that lives.
     unsafe {
         tally.answer("emit", list, wirdoku_emit(start, length, 0, null_mut(), 0));
+        tally.answer("dimacs", file, wirdoku_dimacs(start, length, 0, null_mut(), 0));
         tally.answer("walk", expected::walk(&text, &[]), wirdoku_walk(start, length, null(), 0));
         let assignment = wirdoku_run_to_assignment(start, length, null(), 0, null_mut(), 0);
         tally.answer("run_to_assignment", short, assignment);

@@ -75,7 +75,7 @@ pub fn parts() -> Vec<Part> {
         part("values", "lines with other values, every call", (2_000_000, 12_000), texts::VALUES_DUE, texts::other_values),
         part("near", "texts that differ from A or B in a byte", (0, texts::PLACES), &[], texts::near),
         part("inputs", "inputs of the size program", (3_000_000, 20_000), texts::INPUTS_DUE, texts::inputs),
-        part("lists", "lists word for word", (4_000_000, 2_400), lists::DUE, lists::lists),
+        part("lists", "lists word for word, files byte for byte", (4_000_000, 2_400), lists::DUE, lists::lists),
         part("runs", "runs and steps", (5_000_000, 6_000), runs::DUE, runs::runs),
         part("assignments", "assignments", (6_000_000, 6_000), assignments::DUE, assignments::assignments),
         part("fixed", "worked cases", (0, 0), &[], fixed::fixed),

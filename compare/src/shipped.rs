@@ -1,4 +1,4 @@
-//! The models in the repository: the list at every bound, and every shortest run both ways.
+//! The models in the repository: the list and its file at every bound, and every shortest run both ways.
 
 use std::collections::HashSet;
 use std::path::Path;
@@ -28,7 +28,7 @@ pub fn shipped(tally: &mut Tally, _: Seeds) {
     for subject::Subject { name, model, text } in shipped {
         for bound in 0..=MAX_BOUND + 1 {
             let needed = List::of_text(&text, bound).counts.words;
-            calls::list(tally, bound as u64, &text, bound, &[needed, needed + 7]);
+            calls::list(tally, bound as u64, &text, bound, &[needed, needed + 7, needed.saturating_sub(1)]);
         }
         calls::reading(tally, 1, &text);
         tally.case(|| format!("lists of {name}"));

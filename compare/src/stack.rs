@@ -63,6 +63,8 @@ pub fn on_stack(kib: usize) -> bool {
 fn question() -> impl FnOnce() -> bool + Send {
     let largest = written(&models::largest());
     let mut words = vec![0; library::counts(&largest, MAX_BOUND).words];
+    let longest = written(&models::longest_file());
+    let mut file = vec![0; library::dimacs(&longest, MAX_BOUND, &mut []).bytes];
     let (model, run) = model_and_run(7_000_000);
     let text = written(&model);
     let input = [b"bound=64\n", &text[..]].concat();
@@ -76,6 +78,7 @@ fn question() -> impl FnOnce() -> bool + Send {
             library::shape(&text).number,
             library::counts(&text, MAX_BOUND).number,
             library::emit(&largest, MAX_BOUND, &mut words).number,
+            library::dimacs(&longest, MAX_BOUND, &mut file).number,
             library::size(&input, &mut words).number,
             library::step(&text, start.state, run[0]).number,
             library::walk(&text, &run).number,
@@ -87,10 +90,11 @@ fn question() -> impl FnOnce() -> bool + Send {
         let refused = [
             library::read(&text[..text.len() - 1]).number,
             library::emit(&largest, MAX_BOUND, &mut words[1..]).number,
+            library::dimacs(&longest, MAX_BOUND, &mut file[1..]).number,
             library::walk(&text, &[run[0], 255]).number,
             library::assignment_to_run(&text, MAX_BOUND, &assignment, &mut back).number,
             library::run_to_assignment(&text, &run, &mut assignment[1..]).number,
         ];
-        accepted == [0; 10] && refused == [2, 22, 27, 26, 31] && back[..] == run[..]
+        accepted == [0; 11] && refused == [2, 22, 32, 27, 26, 31] && back[..] == run[..]
     }
 }

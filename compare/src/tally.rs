@@ -3,7 +3,7 @@
 use std::collections::BTreeMap;
 use std::fmt::Debug;
 
-use wirdoku::library::{Answer, Shape, Sizes, StateAnswer};
+use wirdoku::library::{Answer, FileAnswer, Shape, Sizes, StateAnswer};
 
 use crate::lent::{Cell, Lent};
 
@@ -24,6 +24,12 @@ impl Numbered for Answer {
 }
 
 impl Numbered for Sizes {
+    fn number(&self) -> u8 {
+        self.number
+    }
+}
+
+impl Numbered for FileAnswer {
     fn number(&self) -> u8 {
         self.number
     }

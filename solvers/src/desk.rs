@@ -1,12 +1,11 @@
 //! Lists given to solvers, each call a process of its own.
 
 use std::env;
-use std::fs::File;
+use std::fs;
 use std::io::{BufRead, BufReader};
 use std::process::{Child, Command, Stdio};
 
 use wirdoku::answer::competition;
-use wirdoku::dimacs;
 use wirdoku::scratch::Scratch;
 use wirdoku::solver::{self, Solver, Verdict};
 
@@ -22,12 +21,8 @@ impl Desk {
     /// What a solver says of a list and further clauses.
     pub fn solve(&mut self, solver: Solver, list: &List, further: &[Vec<i32>]) -> Result<Verdict, String> {
         self.calls += 1;
-        let mut words = list.words.clone();
-        for clause in further {
-            words.extend(clause);
-            words.push(0);
-        }
-        solver::solve(solver, list.variables, &words).map_err(|failure| failure.to_string())
+        let file = list.file_with(further);
+        solver::solve(solver, list.variables, &file).map_err(|failure| failure.to_string())
     }
 
     /// All satisfying assignments of a list, by picosat's own enumeration, which
@@ -36,9 +31,7 @@ impl Desk {
         self.calls += 1;
         let scratch = Scratch::under(&env::temp_dir()).map_err(|error| error.to_string())?;
         let path = scratch.file("list.cnf");
-        File::create(&path)
-            .and_then(|file| dimacs::write(file, list.variables, &list.words))
-            .map_err(|error| error.to_string())?;
+        fs::write(&path, list.file_with(&[])).map_err(|error| error.to_string())?;
         let mut command = Command::new("picosat");
         command.arg("--all").arg(&path).stdout(Stdio::piped());
         let mut child = command.spawn().map_err(|error| format!("picosat: {error}"))?;

@@ -1,15 +1,33 @@
-//! A clause list as the proved library emits it.
+//! A clause list as the proved library emits it and writes it as a DIMACS file.
 
+use reference::dimacs::line;
 use reference::subject::Subject;
 use wirdoku::library;
 
 pub struct List {
     pub variables: usize,
     pub words: Vec<i32>,
+    clauses: usize,
+    file: Vec<u8>,
+}
+
+impl List {
+    /// The library's file; with further clauses, its lines after the first one and
+    /// theirs, after a first line that counts them.
+    pub fn file_with(&self, further: &[Vec<i32>]) -> Vec<u8> {
+        if further.is_empty() {
+            return self.file.clone();
+        }
+        let first = format!("p cnf {} {}\n", self.variables, self.clauses + further.len());
+        let mut file = first.into_bytes();
+        file.extend(self.file.iter().skip_while(|byte| **byte != b'\n').skip(1));
+        file.extend(further.iter().flat_map(|clause| line(clause).into_bytes()));
+        file
+    }
 }
 
 /// The list for a bound. Its totals must be those told beforehand and those of
-/// the words.
+/// the words; the file's first line has them too, and its numbers are the words.
 pub fn emitted(subject: &Subject, bound: usize) -> Result<List, String> {
     let told = library::counts(&subject.text, bound);
     if told.number != 0 {
@@ -25,7 +43,25 @@ pub fn emitted(subject: &Subject, bound: usize) -> Result<List, String> {
     if clauses != told.clauses || greatest != Some(told.variables as u32) {
         return Err(format!("{told:?}, but the words hold {clauses} clauses, variables to {greatest:?}"));
     }
-    Ok(List { variables: told.variables, words })
+    let file = written(subject, bound)?;
+    let text = String::from_utf8_lossy(&file);
+    let numbers = text.strip_prefix(&format!("p cnf {} {clauses}\n", told.variables));
+    let read: Option<Vec<i32>> =
+        numbers.and_then(|numbers| numbers.split_ascii_whitespace().map(|number| number.parse().ok()).collect());
+    if read.as_ref() != Some(&words) {
+        return Err("the numbers of the file are not those of the list".to_string());
+    }
+    Ok(List { variables: told.variables, words, clauses, file })
+}
+
+/// The file for a bound, in a buffer of the length that the library tells.
+fn written(subject: &Subject, bound: usize) -> Result<Vec<u8>, String> {
+    let mut file = vec![0; library::dimacs(&subject.text, bound, &mut []).bytes];
+    let answer = library::dimacs(&subject.text, bound, &mut file);
+    if (answer.number, answer.bytes) != (0, file.len()) {
+        return Err(format!("{} bytes are told, the file is refused: {answer:?}", file.len()));
+    }
+    Ok(file)
 }
 
 /// The unit clauses that fix an assignment's values.

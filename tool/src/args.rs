@@ -20,7 +20,7 @@ usage:
   wirdoku size MODEL --bound K
       prints the totals of the clause list for K steps, without writing it
   wirdoku dimacs MODEL --bound K
-      prints the clause list for K steps in DIMACS form
+      prints the clause list for K steps as a DIMACS file
   wirdoku explain NUMBER [MODEL]
       says what a refusal's number means, and shows the line of a model file that is refused
   wirdoku help | --help | --version
@@ -39,11 +39,11 @@ exit status:
   4   the solver's assignment is refused by the proved conversion
   5   a file cannot be read, or the output cannot be written
 
-What is proved: the calls that read the model text, count and write the clause list, turn a solver's
-assignment into a run, take a step and walk a run. What is not proved: the solver, and this command, which
-hands bytes from one to the other. A solver's assignment is believed only after the proved conversion has
-tested every clause and the proved walker has walked the run. A solver that says `unsatisfiable` is taken
-at its word: a wrong one cannot be found out here, so ask a second solver where it matters. A run of fewer
+What is proved: the calls that read the model text, count the clause list and write it as a DIMACS file, turn
+a solver's assignment into a run, take a step and walk a run. What is not proved: the solver, and this
+command, which hands bytes from one to the other. A solver's assignment is believed only after the proved
+conversion has tested every clause and the proved walker has walked the run. `unsatisfiable` is taken
+at its word: a wrong solver cannot be found out here, so ask a second one where it matters. A run of fewer
 steps can always be drawn out by delays of 0, so no run of exactly K steps means none of fewer either.
 ";
 

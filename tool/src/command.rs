@@ -7,7 +7,7 @@ use std::path::Path;
 use crate::args::{Bounds, Command, HELP};
 use crate::library::{self, Sizes};
 use crate::solver::{solve, Solver, Verdict};
-use crate::{dimacs, explain, trace};
+use crate::{explain, trace};
 
 /// The exit statuses; `args::HELP` says what each means.
 pub mod status {
@@ -82,12 +82,12 @@ impl Model {
         Ok(sizes)
     }
 
-    /// The clause list for a bound, in a buffer of the size that the library names.
-    fn list(&self, bound: usize) -> Result<(Sizes, Vec<i32>), Stop> {
-        let mut words = vec![0; self.sizes(bound)?.words];
-        let sizes = library::emit(&self.text, bound, &mut words);
-        self.accepted(sizes.number, sizes.line)?;
-        Ok((sizes, words))
+    /// The clause list for a bound as the library writes it, in a buffer of the size that the library names.
+    fn file(&self, bound: usize) -> Result<Vec<u8>, Stop> {
+        let mut file = vec![0; library::dimacs(&self.text, bound, &mut []).bytes];
+        let answer = library::dimacs(&self.text, bound, &mut file);
+        self.accepted(answer.number, answer.line)?;
+        Ok(file)
     }
 }
 
@@ -102,10 +102,7 @@ pub fn run(command: &Command, out: &mut dyn Write, log: &mut dyn Write) -> Resul
             return check(&Model::read(model)?, *bounds, *solver, out, log);
         }
         Command::Size { model, bound } => size(&Model::read(model)?, *bound, out)?,
-        Command::Dimacs { model, bound } => {
-            let (sizes, words) = Model::read(model)?.list(*bound)?;
-            dimacs::write(out, sizes.variables, &words)?;
-        }
+        Command::Dimacs { model, bound } => out.write_all(&Model::read(model)?.file(*bound)?)?,
         Command::Walk { model, run } => return walk(&Model::read(model)?, run, out),
         Command::Explain { number, model } => explain(*number, model.as_deref(), out)?,
     }
@@ -147,8 +144,8 @@ fn steps(count: usize) -> String {
 
 /// Asks the solver for a run of exactly `bound` steps, and believes an assignment only if the proved calls take it.
 fn run_at(model: &Model, bound: usize, solver: Solver, log: &mut dyn Write) -> Result<Option<Vec<u8>>, Stop> {
-    let (sizes, words) = model.list(bound)?;
-    let verdict = solve(solver, sizes.variables, &words).map_err(|failure| Stop::new(status::NO_SOLVER, failure.to_string()))?;
+    let (sizes, file) = (model.sizes(bound)?, model.file(bound)?);
+    let verdict = solve(solver, sizes.variables, &file).map_err(|failure| Stop::new(status::NO_SOLVER, failure.to_string()))?;
     let said = match verdict {
         Verdict::Satisfiable(_) => "satisfiable",
         Verdict::Unsatisfiable => "unsatisfiable",
@@ -156,17 +153,17 @@ fn run_at(model: &Model, bound: usize, solver: Solver, log: &mut dyn Write) -> R
     // Progress is a courtesy: an answer does not fail with it.
     let _ = writeln!(log, "bound {}: {} variables, {} clauses, {}", bound, sizes.variables, sizes.clauses, said);
     match verdict {
-        Verdict::Satisfiable(assignment) => decoded(model, bound, solver, &words, &assignment).map(Some),
+        Verdict::Satisfiable(assignment) => decoded(model, bound, solver, &file, &assignment).map(Some),
         Verdict::Unsatisfiable => Ok(None),
     }
 }
 
-fn decoded(model: &Model, bound: usize, solver: Solver, words: &[i32], assignment: &[u8]) -> Result<Vec<u8>, Stop> {
+fn decoded(model: &Model, bound: usize, solver: Solver, file: &[u8], assignment: &[u8]) -> Result<Vec<u8>, Stop> {
     let mut run = vec![0; bound];
     let mut answer = library::assignment_to_run(&model.text, bound, assignment, &mut run);
     let mut clause = String::new();
     if answer.number == 26 {
-        clause = format!("\n    {}", clause_at(words, answer.place));
+        clause = format!("\n    {}", clause_at(file, answer.place));
     } else if answer.number == 0 {
         answer = library::walk(&model.text, &run);
     }
@@ -178,11 +175,10 @@ fn decoded(model: &Model, bound: usize, solver: Solver, words: &[i32], assignmen
     Err(Stop::new(status::WRONG_ANSWER, message))
 }
 
-/// The literals of a clause, from its index from 0.
-fn clause_at(words: &[i32], index: usize) -> String {
-    let clause = words.split(|word| *word == 0).nth(index).unwrap_or(&[]);
-    let literals: Vec<String> = clause.iter().map(|literal| literal.to_string()).collect();
-    literals.join(" ")
+/// The literals of a clause of a file, from its index from 0: the line after the first one and so many, less its 0.
+fn clause_at(file: &[u8], index: usize) -> String {
+    let line = file.split(|byte| *byte == b'\n').nth(index + 1).unwrap_or(&[]);
+    String::from_utf8_lossy(line.strip_suffix(b" 0").unwrap_or(line)).to_string()
 }
 
 /// The trace of a run, as far as it is allowed, and its bytes.

@@ -35,6 +35,7 @@ pub fn sentence(number: u8) -> Option<&'static str> {
         29 => "the initial state breaks its invariant, so the model has no run at all",
         30 => "the run does not end in the target location",
         31 => "the assignment buffer is shorter than the number of variables",
+        32 => "the byte buffer is shorter than the DIMACS file",
         _ => return None,
     })
 }
@@ -152,7 +153,7 @@ mod tests {
     #[test]
     fn each_number_of_the_table_has_a_sentence_and_no_other() {
         let numbers: Vec<u8> = (0..=255).filter(|number| sentence(*number).is_some()).collect();
-        let table: Vec<u8> = (1..=10).chain(20..=31).collect();
+        let table: Vec<u8> = (1..=10).chain(20..=32).collect();
         assert_eq!(numbers, table);
         for number in table {
             let text = sentence(number).unwrap();

@@ -6,7 +6,6 @@
 pub mod answer;
 pub mod args;
 pub mod command;
-pub mod dimacs;
 pub mod explain;
 pub mod library;
 pub mod scratch;

@@ -23,6 +23,15 @@ pub struct Sizes {
     pub words: usize,
 }
 
+/// `bytes`: the file's length, for 0 and for 32; else 0.
+#[repr(C)]
+#[derive(Clone, Copy, Debug, Default, PartialEq, Eq)]
+pub struct FileAnswer {
+    pub number: u8,
+    pub line: usize,
+    pub bytes: usize,
+}
+
 /// What a model declares, its ceiling M, and the lengths S and H of a state block and of a choice block.
 #[repr(C)]
 #[derive(Clone, Copy, Debug, Default, PartialEq, Eq)]
@@ -59,13 +68,14 @@ pub struct StateAnswer {
 
 /// The functions as C declares them. The header says what a caller must see to.
 pub mod foreign {
-    use super::{Answer, Shape, Sizes, State, StateAnswer};
+    use super::{Answer, FileAnswer, Shape, Sizes, State, StateAnswer};
 
     extern "C" {
         pub fn wirdoku_read(text: *const u8, text_len: usize) -> Answer;
         pub fn wirdoku_shape(text: *const u8, text_len: usize) -> Shape;
         pub fn wirdoku_counts(text: *const u8, text_len: usize, bound: usize) -> Sizes;
         pub fn wirdoku_emit(text: *const u8, text_len: usize, bound: usize, out: *mut i32, out_len: usize) -> Sizes;
+        pub fn wirdoku_dimacs(text: *const u8, text_len: usize, bound: usize, out: *mut u8, out_len: usize) -> FileAnswer;
         pub fn wirdoku_size(input: *const u8, input_len: usize, out: *mut i32, out_len: usize) -> Sizes;
         pub fn wirdoku_initial(text: *const u8, text_len: usize) -> StateAnswer;
         pub fn wirdoku_step(text: *const u8, text_len: usize, state: State, byte: u8) -> StateAnswer;
@@ -111,6 +121,11 @@ pub fn counts(text: &[u8], bound: usize) -> Sizes {
 /// Writes the list for a bound from the start of `out`: 1 to 8, 21, 22.
 pub fn emit(text: &[u8], bound: usize, out: &mut [i32]) -> Sizes {
     unsafe { foreign::wirdoku_emit(text.as_ptr(), text.len(), bound, out.as_mut_ptr(), out.len()) }
+}
+
+/// Writes the list for a bound as a DIMACS file from the start of `out`: 1 to 8, 21, 32.
+pub fn dimacs(text: &[u8], bound: usize, out: &mut [u8]) -> FileAnswer {
+    unsafe { foreign::wirdoku_dimacs(text.as_ptr(), text.len(), bound, out.as_mut_ptr(), out.len()) }
 }
 
 /// The size program's question, a bound line and a model text: 9, 1 to 8, 21, 22.

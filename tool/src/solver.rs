@@ -5,7 +5,7 @@ use std::env;
 use std::ffi::OsStr;
 use std::fmt;
 use std::fs;
-use std::io;
+use std::io::{self, Write};
 use std::os::unix::fs::PermissionsExt;
 use std::path::{Path, PathBuf};
 use std::process::{Command, Output, Stdio};
@@ -13,7 +13,6 @@ use std::thread;
 
 use crate::answer;
 pub use crate::answer::Verdict;
-use crate::dimacs;
 use crate::scratch::Scratch;
 
 /// The solvers that can be run, all of them packages of Debian.
@@ -85,43 +84,43 @@ fn is_program(file: &Path) -> bool {
     fs::metadata(file).map_or(false, |data| data.is_file() && data.permissions().mode() & 0o111 != 0)
 }
 
-/// Runs a solver on a list of words (each clause its literals and a 0) with variables 1 to `variables`.
-pub fn solve(solver: Solver, variables: usize, words: &[i32]) -> Result<Verdict, Failure> {
+/// Runs a solver on the bytes of a DIMACS file with variables 1 to `variables`.
+pub fn solve(solver: Solver, variables: usize, file: &[u8]) -> Result<Verdict, Failure> {
     let program = solver.program().ok_or(Failure::Missing(solver))?;
     match solver {
-        Solver::Minisat => solve_by_file(&program, variables, words),
-        Solver::Cadical => solve_by_pipe(solver, Command::new(program).arg("-q"), variables, words),
-        Solver::Picosat => solve_by_pipe(solver, &mut Command::new(program), variables, words),
+        Solver::Minisat => solve_by_file(&program, variables, file),
+        Solver::Cadical => solve_by_pipe(solver, Command::new(program).arg("-q"), variables, file),
+        Solver::Picosat => solve_by_pipe(solver, &mut Command::new(program), variables, file),
     }
 }
 
-/// The list goes in at standard input and the answer, in the competition's format, comes out at standard output.
-fn solve_by_pipe(solver: Solver, command: &mut Command, variables: usize, words: &[i32]) -> Result<Verdict, Failure> {
-    let output = run(command, variables, words).map_err(|error| Failure::Run(solver, error))?;
+/// The file goes in at standard input and the answer, in the competition's format, comes out at standard output.
+fn solve_by_pipe(solver: Solver, command: &mut Command, variables: usize, file: &[u8]) -> Result<Verdict, Failure> {
+    let output = run(command, file).map_err(|error| Failure::Run(solver, error))?;
     let text = String::from_utf8_lossy(&output.stdout);
     judge(solver, &output, answer::competition(&text, variables))
 }
 
 /// MiniSat writes its answer to a file that it is named.
-fn solve_by_file(program: &Path, variables: usize, words: &[i32]) -> Result<Verdict, Failure> {
+fn solve_by_file(program: &Path, variables: usize, file: &[u8]) -> Result<Verdict, Failure> {
     let failed = |error| Failure::Run(Solver::Minisat, error);
     let scratch = Scratch::under(&env::temp_dir()).map_err(failed)?;
     let result = scratch.file("result");
     let mut command = Command::new(program);
     command.arg("-verb=0").arg("/dev/stdin").arg(&result);
-    let output = run(&mut command, variables, words).map_err(failed)?;
+    let output = run(&mut command, file).map_err(failed)?;
     let text = fs::read(&result).unwrap_or_default();
     judge(Solver::Minisat, &output, answer::minisat(&String::from_utf8_lossy(&text), variables))
 }
 
-/// Runs the command with the list as its standard input, which a thread writes while the output is read.
-fn run(command: &mut Command, variables: usize, words: &[i32]) -> io::Result<Output> {
+/// Runs the command with the file as its standard input, which a thread writes while the output is read.
+fn run(command: &mut Command, file: &[u8]) -> io::Result<Output> {
     command.stdin(Stdio::piped()).stdout(Stdio::piped()).stderr(Stdio::piped());
     let mut child = command.spawn()?;
     let input = child.stdin.take();
     thread::scope(|scope| {
         // A solver that ends before it has read all is judged by its answer, so a failing write says nothing.
-        scope.spawn(move || input.map(|pipe| dimacs::write(pipe, variables, words)));
+        scope.spawn(move || input.map(|mut pipe| pipe.write_all(file)));
         child.wait_with_output()
     })
 }
@@ -159,11 +158,11 @@ mod tests {
     fn every_solver_answers() {
         for solver in Solver::ALL {
             // (1 or 2), not 1, (2 or not 3), not 3: one assignment
-            let verdict = solve(solver, 3, &[1, 2, 0, -1, 0, -3, 2, 0, -3, 0]).unwrap();
+            let verdict = solve(solver, 3, b"p cnf 3 4\n1 2 0\n-1 0\n-3 2 0\n-3 0\n").unwrap();
             assert_eq!(verdict, Verdict::Satisfiable(vec![0, 1, 0]), "{}", solver.name());
-            let verdict = solve(solver, 1, &[1, 0, -1, 0]).unwrap();
+            let verdict = solve(solver, 1, b"p cnf 1 2\n1 0\n-1 0\n").unwrap();
             assert_eq!(verdict, Verdict::Unsatisfiable, "{}", solver.name());
-            let verdict = solve(solver, 2, &[-1, 0]).unwrap();
+            let verdict = solve(solver, 2, b"p cnf 2 1\n-1 0\n").unwrap();
             assert!(matches!(verdict, Verdict::Satisfiable(bytes) if bytes.len() == 2 && bytes[0] == 0));
         }
     }

@@ -195,7 +195,7 @@ fn the_list_in_dimacs_form() {
                     -4 -1 6 0\n-4 -2 7 0\n-5 1 0\n-5 7 0\n6 7 0\n-6 -7 0\n7 0\n";
     assert_eq!((outcome.status, outcome.out.as_str(), outcome.err.as_str()), (0, expected, ""));
     let outcome = wirdoku(&["dimacs", &model("logger_b.txt"), "--bound", "3"]);
-    assert!(outcome.out.starts_with("p cnf 68 424\n"));
+    assert!(outcome.out.len() == 4_824 && outcome.out.starts_with("p cnf 68 424\n"));
     assert_eq!(outcome.out.lines().count(), 425);
     assert_eq!(outcome.out.split_whitespace().count(), 4 + 1516);
 }

@@ -3,7 +3,7 @@
 mod common;
 
 use common::model_text;
-use wirdoku::library::{self, Answer, Shape, Sizes, State, StateAnswer};
+use wirdoku::library::{self, Answer, FileAnswer, Shape, Sizes, State, StateAnswer};
 
 const UNTOUCHED: u8 = 77;
 
@@ -29,6 +29,10 @@ fn sizes(number: u8, line: usize, variables: usize, clauses: usize, words: usize
     Sizes { number, line, variables, clauses, words }
 }
 
+fn file_answer(number: u8, line: usize, bytes: usize) -> FileAnswer {
+    FileAnswer { number, line, bytes }
+}
+
 fn state(location: u8, v0: u8, x0: u8) -> State {
     State { location, counters: [v0, 0, 0, 0], clocks: [x0, 0, 0, 0] }
 }
@@ -42,12 +46,16 @@ macro_rules! layout {
     ($name:literal, $value:expr, $($field:ident)*) => {{
         let value = $value;
         let start = &value as *const _ as usize;
-        let mut lines = format!("{} 0 {}\n", $name, std::mem::size_of_val(&value));
-        $(
-            let offset = &value.$field as *const _ as usize - start;
-            lines += &format!("{}.{} {} {}\n", $name, stringify!($field), offset, std::mem::size_of_val(&value.$field));
-        )*
-        lines
+        let line = |field: &str, place: usize, size: usize| format!("{}{} {} {}\n", $name, field, place - start, size);
+        [
+            line("", start, std::mem::size_of_val(&value)),
+            $(line(
+                concat!(".", stringify!($field)),
+                &value.$field as *const _ as usize,
+                std::mem::size_of_val(&value.$field),
+            ),)*
+        ]
+        .concat()
     }};
 }
 
@@ -59,6 +67,7 @@ fn structs_have_the_headers_layout() {
     );
     let found = layout!("wirdoku_answer", Answer::default(), number place)
         + &layout!("wirdoku_sizes", Sizes::default(), number line variables clauses words)
+        + &layout!("wirdoku_file", FileAnswer::default(), number line bytes)
         + &shape
         + &layout!("wirdoku_state", State::default(), location counters clocks)
         + &layout!("wirdoku_state_answer", StateAnswer::default(), number line state);
@@ -129,6 +138,27 @@ fn lists_are_written_from_the_start_and_nothing_beyond() {
     assert_eq!(library::emit(b"x", 1, &mut out), sizes(2, 1, 0, 0, 0));
     assert_eq!(out, [i32::MIN; 50]);
     assert_eq!(library::emit(&a(), 1, &mut []), sizes(22, 0, 0, 0, 51));
+}
+
+#[test]
+fn files() {
+    let whole = "p cnf 7 16\n1 2 0\n-1 -2 0\n1 0\n3 4 5 0\n-3 -4 0\n-3 -5 0\n-4 -5 0\n-3 -1 6 0\n-3 -2 7 0\n\
+                 -4 -1 6 0\n-4 -2 7 0\n-5 1 0\n-5 7 0\n6 7 0\n-6 -7 0\n7 0\n";
+    let mut out = [UNTOUCHED; 134];
+    assert_eq!(library::dimacs(&a(), 1, &mut out[..132]), file_answer(32, 0, 133));
+    assert_eq!(library::dimacs(&a(), 1, &mut []), file_answer(32, 0, 133));
+    assert_eq!(library::dimacs(&a(), 65, &mut out), file_answer(21, 0, 0));
+    assert_eq!(library::dimacs(&a(), usize::MAX, &mut []), file_answer(21, 0, 0));
+    assert_eq!(library::dimacs(b"locations=2\nx", 65, &mut out), file_answer(2, 2, 0));
+    assert_eq!(out, [UNTOUCHED; 134]);
+    assert_eq!(library::dimacs(&a(), 1, &mut out), file_answer(0, 0, 133));
+    assert_eq!((&out[..133], out[133]), (whole.as_bytes(), UNTOUCHED));
+    let mut exact = [UNTOUCHED; 133];
+    assert_eq!(library::dimacs(&a(), 1, &mut exact), file_answer(0, 0, 133));
+    assert_eq!(exact, whole.as_bytes());
+    for (text, bound, bytes) in [(a(), 0, 32), (a(), 2, 249), (b(), 0, 211), (b(), 3, 4_824), (b(), 64, 124_483)] {
+        assert_eq!(library::dimacs(&text, bound, &mut []), file_answer(32, 0, bytes));
+    }
 }
 
 #[test]

@@ -1,10 +1,12 @@
-//! Solvers that are missing, fail or lie.
+//! What solvers read; solvers that are missing, fail or lie.
 
 mod common;
 
+use std::fs;
 use std::os::unix::fs::symlink;
 
-use common::{command, installed, model, outcome, Folder, Outcome, SOLVERS};
+use common::{command, installed, model, model_text, outcome, wirdoku, Folder, Outcome, SOLVERS};
+use wirdoku::library;
 
 /// Reads the list to its end without any other program, as a solver does.
 const READ_ALL: &str = "while read -r line; do :; done";
@@ -32,6 +34,23 @@ fn no_solver_at_all() {
     for solver in SOLVERS {
         let message = format!("the solver {0} is not on the path (Debian's package {0})\n", solver);
         with_path(&folder, &["check", &path, "--solver", solver]).assert_stopped(3, &message);
+    }
+}
+
+/// What a solver reads is the library's file, byte for byte, and so is what `dimacs` writes.
+#[test]
+fn solvers_read_the_librarys_bytes() {
+    let path = model("logger_b.txt");
+    let mut file = vec![0; 124_483];
+    assert_eq!(library::dimacs(model_text("logger_b.txt").as_bytes(), 64, &mut file).number, 0);
+    assert_eq!(wirdoku(&["dimacs", &path, "--bound", "64"]).out.into_bytes(), file);
+    for solver in SOLVERS {
+        let folder = Folder::new();
+        let copy = folder.path().join("copy");
+        folder.script(solver, &format!("/bin/cat >'{}'\nexit 1", copy.display()));
+        let outcome = with_path(&folder, &["check", &path, "--bound", "64", "--quiet"]);
+        outcome.assert_stopped(3, &format!("the solver {} gave no answer: ", solver));
+        assert_eq!(fs::read(&copy).unwrap(), file, "{}", solver);
     }
 }
 
