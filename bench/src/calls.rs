@@ -3,16 +3,19 @@
 //! order that module table names, and all must agree.
 
 use reference::assign;
+use reference::dimacs;
 use reference::list;
 use reference::step;
 use reference::subject::Subject;
 use reference::text::read;
 use wirdoku::library;
 
+use crate::fast::fast;
+use crate::files::formatted;
 use crate::input;
 use crate::measure::{keep, Rounds};
 use crate::plain;
-use crate::table::{Row, Work};
+use crate::table::{FileRow, Row, Work};
 
 /// All calls on a model for a bound; those that need a run only if it has one.
 pub fn rows(input: &Subject, bound: usize) -> Result<Vec<Row>, String> {
@@ -76,6 +79,50 @@ pub fn emission(input: &Subject, bound: usize) -> Result<Row, String> {
     ]);
     agree(input, "emit", buffers.windows(2).all(|pair| pair[0] == pair[1]))?;
     Ok(row(input, "emit", Some(bound), vec![(words, "words")], rounds))
+}
+
+/// Bytes a word that are always enough for a file, and for its first line.
+const BYTES_A_WORD: usize = 12;
+const FIRST_LINE: usize = 64;
+
+/// The DIMACS file, into a buffer of its length and into one with room to spare.
+pub fn filing(input: &Subject, bound: usize) -> Result<FileRow, String> {
+    let (text, model) = (input.text.as_slice(), &input.model);
+    let bytes = same_files(input, bound)?;
+    let mut buffers = lent(7, bytes);
+    let [exact, a, b, c] = &mut buffers;
+    let mut spare = vec![7; FIRST_LINE + BYTES_A_WORD * library::counts(text, bound).words];
+    let rounds = Rounds::of(&mut [
+        &mut || keep(library::dimacs(text, bound, exact)),
+        &mut || keep(library::dimacs(text, bound, &mut spare)),
+        &mut || keep(fast(&read(text).model, bound, a)),
+        &mut || keep(formatted(&read(text).model, bound, b)),
+        &mut || keep(fast(model, bound, c)),
+        &mut || keep(library::read(text)),
+    ]);
+    Ok(FileRow { model: input.name.clone(), bound, bytes, rounds })
+}
+
+/// The length of the file, in which all agree, as they do in its bytes, in what is
+/// beyond it, and in that a buffer with a byte less is refused.
+fn same_files(input: &Subject, bound: usize) -> Result<usize, String> {
+    let (text, model) = (input.text.as_slice(), &input.model);
+    let file = dimacs::file(model, bound).map_err(|refusal| format!("{refusal:?}"))?.into_bytes();
+    let bytes = file.len();
+    let expected = [&file[..], &[7]].concat();
+    let mut buffers = lent(7, bytes + 1);
+    let [a, b, c, _] = &mut buffers;
+    let told = library::dimacs(text, bound, a);
+    let mut agreed = (told.number, told.bytes) == (0, bytes);
+    agreed &= fast(model, bound, b) == Some(Ok(bytes)) && formatted(model, bound, c) == Some(Ok(bytes));
+    agreed &= buffers[..3].iter().all(|written| *written == expected);
+    let mut short = vec![7; bytes - 1];
+    let told = library::dimacs(text, bound, &mut short);
+    agreed &= (told.number, told.bytes) == (32, bytes);
+    agreed &= fast(model, bound, &mut short) == Some(Err(bytes)) && formatted(model, bound, &mut short) == Some(Err(bytes));
+    agreed &= short.iter().all(|byte| *byte == 7);
+    agree(input, "dimacs", agreed)?;
+    Ok(bytes)
 }
 
 /// The search for a false clause in a list that has none, and the run.

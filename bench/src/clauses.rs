@@ -24,6 +24,15 @@ pub trait Visitor {
 
 /// Tells the whole list for a bound.
 pub fn visit<V: Visitor>(model: &Model, layout: &Layout, bound: usize, visitor: &mut V) -> Result<(), V::End> {
+    start(model, layout, visitor)?;
+    for step in 0..bound {
+        self::step(model, layout, step * layout.step(), visitor)?;
+    }
+    visitor.unit(bound * layout.step() + usize::from(model.target))
+}
+
+/// State 0 and the initial values.
+pub fn start<V: Visitor>(model: &Model, layout: &Layout, visitor: &mut V) -> Result<(), V::End> {
     state(model, layout, 0, visitor)?;
     visitor.unit(usize::from(model.init))?;
     for (group, counter) in layout.counters().iter().zip(model.used_counters()) {
@@ -32,10 +41,7 @@ pub fn visit<V: Visitor>(model: &Model, layout: &Layout, bound: usize, visitor: 
     for group in layout.clocks() {
         visitor.unit(group.first)?;
     }
-    for step in 0..bound {
-        self::step(model, layout, step * layout.step(), visitor)?;
-    }
-    visitor.unit(bound * layout.step() + usize::from(model.target))
+    Ok(())
 }
 
 fn group<V: Visitor>(group: Group, visitor: &mut V) -> Result<(), V::End> {
@@ -78,7 +84,7 @@ fn failing<V: Visitor>(layout: &Layout, block: usize, condition: usize, atoms: &
 }
 
 /// A step from the state block that begins at `block`.
-fn step<V: Visitor>(model: &Model, layout: &Layout, block: usize, visitor: &mut V) -> Result<(), V::End> {
+pub fn step<V: Visitor>(model: &Model, layout: &Layout, block: usize, visitor: &mut V) -> Result<(), V::End> {
     let choice = block + layout.state;
     let next = block + layout.step();
     group(Group { first: choice, length: layout.choices }, visitor)?;

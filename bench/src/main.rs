@@ -5,6 +5,8 @@
 
 mod calls;
 mod clauses;
+mod fast;
+mod files;
 mod input;
 mod layout;
 mod measure;
@@ -47,6 +49,13 @@ fn run() -> Result<(), String> {
         if let Some(row) = calls::search(&full, bound)? {
             row.print();
         }
+    }
+    table::head("DIMACS files", &table::FILE_COLUMNS);
+    for input in [&greatest, &full].into_iter().chain(&shipped) {
+        calls::filing(input, MAX_BOUND)?.print();
+    }
+    for bound in input::GROWTH {
+        calls::filing(&greatest, bound)?.print();
     }
     for input in [&greatest, &full].into_iter().chain(&shipped) {
         memory::on_a_small_stack(input)?;

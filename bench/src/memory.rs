@@ -17,6 +17,7 @@ pub fn on_a_small_stack(input: &Subject) -> Result<(), String> {
     let text = input.text.clone();
     let (run, assignment) = input::run(input, MAX_BOUND).unwrap_or_default();
     let mut lent = vec![0; library::counts(&text, MAX_BOUND).words];
+    let mut file = vec![0; library::dimacs(&text, MAX_BOUND, &mut []).bytes];
     let mut numbered = b"bound=64\n".to_vec();
     numbered.extend(&text);
     let mut written = assignment.clone();
@@ -25,6 +26,7 @@ pub fn on_a_small_stack(input: &Subject) -> Result<(), String> {
         library::shape(&text);
         library::counts(&text, MAX_BOUND);
         library::emit(&text, MAX_BOUND, &mut lent);
+        library::dimacs(&text, MAX_BOUND, &mut file);
         library::size(&numbered, &mut lent);
         let state = library::initial(&text).state;
         library::step(&text, state, 0);

@@ -42,6 +42,59 @@ pub struct Row {
     pub rounds: Rounds,
 }
 
+pub const FILE_COLUMNS: [&str; 14] = [
+    "model",
+    "k",
+    "bytes",
+    "library",
+    "bytes a second",
+    "room to spare",
+    "bytes a second",
+    "plain Rust, for speed",
+    "plain Rust, `write!`",
+    "speed / library",
+    "speed / room to spare",
+    "`write!` / library",
+    "less reading: library, speed",
+    "speed / library",
+];
+
+/// A row of the DIMACS files. Its sides: the library with a buffer of the file's
+/// length and with room to spare, plain Rust for speed and with `write!`, that for
+/// speed on a record that was read before, and the library's reading alone.
+pub struct FileRow {
+    pub model: String,
+    pub bound: usize,
+    pub bytes: usize,
+    pub rounds: Rounds,
+}
+
+impl FileRow {
+    pub fn print(&self) {
+        let [exact, spare, fast, formatted, act, read] = [0, 1, 2, 3, 4, 5];
+        let median = |side: usize| self.rounds.median(|t| t[side]);
+        let beside = |one: usize, other: usize| ratio(self.rounds.median(|t| t[one] / t[other]));
+        let less_reading = self.rounds.median(|t| t[exact] - t[read]);
+        let fields = [
+            self.model.clone(),
+            self.bound.to_string(),
+            grouped(self.bytes),
+            time(median(exact)),
+            speed(self.bytes, median(exact)),
+            time(median(spare)),
+            speed(self.bytes, median(spare)),
+            time(median(fast)),
+            time(median(formatted)),
+            beside(fast, exact),
+            beside(fast, spare),
+            beside(formatted, exact),
+            format!("{}, {}", time(less_reading), time(median(act))),
+            ratio(self.rounds.median(|t| t[act] / (t[exact] - t[read]))),
+        ];
+        println!("| {} |", fields.join(" | "));
+    }
+}
+
 pub fn head(title: &str, columns: &[&str]) {
     println!("\n### {title}\n");
     println!("| {} |", columns.join(" | "));
