@@ -43,10 +43,6 @@ pub text-cons : (z : ℤ) (ws : List ℤ) → wordsText (z ∷ ws) ≡ wordText 
 unfolding wordsText flatMap
 text-cons z ws = refl
 
-pub text-each : (n : ℕ) (f : ℕ → List ℤ) → wordsText (each n f) ≡ each n (λ i. wordsText (f i))
-unfolding wordsText
-text-each = flat-each wordText
-
 -- the text of the word at an index
 abbrev pub textAt : List ℤ → ℕ → List ℕ
 textAt ws i = wordText (getD ws i (pos 0))
@@ -86,14 +82,6 @@ pub sign-none : (z : ℤ) → ltZ z (pos 0) ≡ false → signText z ≡ []
 sign-none z h = rw (sym (negative-test z) ∙ h)
 
 -- ---- the lines of clauses
-pub lines-none : linesOf [] ≡ []
-unfolding linesOf
-lines-none = flat-none clauseLine
-
-pub lines-append : (cs ds : List Clause) → linesOf (cs ++ ds) ≡ linesOf cs ++ linesOf ds
-unfolding linesOf
-lines-append = flat-app clauseLine
-
 pub lines-each : (n : ℕ) (f : ℕ → List Clause) → linesOf (each n f) ≡ each n (λ i. linesOf (f i))
 unfolding linesOf
 lines-each = flat-each clauseLine

@@ -25,7 +25,7 @@ use Rattle.emission.proofs.CutLaws.{cut-joined, row-pieces-most, piece-words-mo
 use Rattle.parts.specs.Numbering.{mostVariables}
 use Rattle.dimacs.specs.File.{linesOf, firstLine, file}
 use Rattle.dimacs.specs.Written.{wordsText, Taken}
-use Rattle.dimacs.specs.Pages.{mostPageBytes, rowCount, pagesIn, pageOf}
+use Rattle.dimacs.specs.Pages.{mostPageBytes, mostPages, rowCount, pagesIn, pageOf}
 use Rattle.dimacs.proofs.LineLaws.{lines-each, lines-are, lines-short, first-line-most}
 
 module _ (m : Model) (k : ℕ) where
@@ -95,7 +95,7 @@ module _ (m : Model) (ok : T (wellFormed m)) (k : ℕ) (h : k ≤ 64) where
       let c : length (clauses m k) < 2 ^ 64 = omega (arith, list-clauses-most m ok k h) in
       omega (arith, first-line-most (variables m k) (length (clauses m k)) v c)
 
-  pub pages-most : (r : ℕ) → pagesIn m k r ≤ 90
+  pub pages-most : (r : ℕ) → pagesIn m k r ≤ mostPages
   pages-most zero = omega (arith, pages-first m k 0 refl)
   pages-most (suc r) = omega (arith, pages-suc m k r, row-pieces-most m ok k r)
 

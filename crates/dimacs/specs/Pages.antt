@@ -20,6 +20,13 @@ mostPageBytes = 65536
 abbrev pub rowCount : ℕ → ℕ
 rowCount k = k + 3
 
+-- The most rows, for 64 steps; and the most pages of a row: the choice, 64 delays and edges, 9 groups and 16 invariants of a state.
+abbrev pub mostRows : ℕ
+mostRows = 67
+
+abbrev pub mostPages : ℕ
+mostPages = 90
+
 -- How many pages row r has.
 unfoldable pub pagesIn : Model → ℕ → ℕ → ℕ
 pagesIn m k r = cond (eqb r 0) 1 (rowPieces m k (r - 1))

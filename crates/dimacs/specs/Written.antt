@@ -25,7 +25,8 @@ wordText z =
 unfoldable pub wordsText : List ℤ → List ℕ
 wordsText ws = flatMap wordText ws
 
--- The text was counted up to `end`, and written if it fits: then it stands from `at` on and nothing else changed.
+-- The text was counted up to `end`, and written if it fits: then it stands from `at` on and nothing else changed. If it does not fit, what the
+-- buffer holds is free, but for its length.
 pub record Taken (text old new : List ℕ) (at end : ℕ) : Type 0 where
   pub ends : end ≡ at + length text
   pub long : length new ≡ length old

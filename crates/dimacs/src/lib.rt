@@ -23,7 +23,7 @@ ghost use Rattle.dimacs.specs.File.{file};
 ghost use Rattle.dimacs.specs.Written.{Needed, Printed};
 ghost use Rattle.counts.specs.KnownCounts.{KnownCounts};
 ghost use Rattle.emission.specs.Cut.{mostPieceWords};
-ghost use Rattle.dimacs.specs.Pages.{mostPageBytes, rowCount, pagesIn, pageOf, hasFile, rowsToPrint, pagesToPrint, pageText};
+ghost use Rattle.dimacs.specs.Pages.{mostPageBytes, mostRows, mostPages, rowCount, pagesIn, pageOf, hasFile, rowsToPrint, pagesToPrint, pageText};
 ghost use Rattle.dimacs.specs.Request.{requestRefused, textRequest, requestReport, requestTold};
 
 mod lines;
@@ -121,7 +121,7 @@ fn has_file(m: Model, bound: usize) -> bool
 
 // How many rows there are to print.
 pub fn rows_to_print(m: Model, bound: usize) -> usize
-    ensures { λ r. ⌜ (r ≡ rowsToPrint m bound) × (r ≤ 67) ⌝ }
+    ensures { λ r. ⌜ (r ≡ rowsToPrint m bound) × (r ≤ mostRows) ⌝ }
 {
     if !has_file(m, bound) {
         return 0;
@@ -131,7 +131,7 @@ pub fn rows_to_print(m: Model, bound: usize) -> usize
 
 // How many pages of row `row` there are to print.
 pub fn pages_to_print(m: Model, bound: usize, row: usize) -> usize
-    ensures { λ r. ⌜ (r ≡ pagesToPrint m bound row) × (r ≤ 90) ⌝ }
+    ensures { λ r. ⌜ (r ≡ pagesToPrint m bound row) × (r ≤ mostPages) ⌝ }
 {
     if !has_file(m, bound) {
         return 0;

@@ -18,12 +18,12 @@ ghost use Rattle.emission.specs.Writable.{Lent};
 ghost use Rattle.emission.specs.Cut.{mostPieceWords};
 ghost use Rattle.dimacs.specs.File.{file};
 ghost use Rattle.dimacs.specs.Written.{Taken};
-ghost use Rattle.dimacs.specs.Pages.{mostPageBytes, rowCount, pagesIn, pageOf};
+ghost use Rattle.dimacs.specs.Pages.{mostPageBytes, mostPages, rowCount, pagesIn, pageOf};
 
 // How many pages row `row` has.
 pub fn pages_of(m: Model, b: GroupTable, bound: usize, row: usize) -> usize
     requires { ⌜ Known m b × (bound ≤ 64) ⌝ }
-    ensures { λ r. ⌜ (r ≡ pagesIn m bound row) × (r ≤ 90) ⌝ }
+    ensures { λ r. ⌜ (r ≡ pagesIn m bound row) × (r ≤ mostPages) ⌝ }
 {
     if row == 0 {
         return 1;
@@ -71,7 +71,7 @@ fn take_row(
     at: usize,
 ) -> usize
     requires { ⌜ Known m b × KnownTotals m z × KnownCounts m bound n × Lent b (now first) (now size) × (bound ≤ 64) × (row < rowCount bound) × (mostPieceWords ≤ length (now words)) × (at ≤ 2 ^ 61) ⌝ }
-    ensures { λ r. ⌜ Taken (each (pagesIn m bound row) (pageOf m bound row)) (now (out .entry)) (now (out .exit)) at r × (r ≤ at + 90 * mostPageBytes) × (length (now (words .exit)) ≡ length (now (words .entry))) ⌝ }
+    ensures { λ r. ⌜ Taken (each (pagesIn m bound row) (pageOf m bound row)) (now (out .entry)) (now (out .exit)) at r × (r ≤ at + mostPages * mostPageBytes) × (length (now (words .exit)) ≡ length (now (words .entry))) ⌝ }
 {
     let mut end = at;
     for p in 0..pages_of(m, b, bound, row) {

@@ -6,7 +6,7 @@ use lib.ListN.{length}
 use Rattle.model.specs.Indexed.{each}
 use Rattle.emission.proofs.ListPieces.{lent}
 use Rattle.dimacs.specs.Written.{Taken}
-use Rattle.dimacs.specs.Pages.{mostPageBytes, rowCount, pagesIn, pageOf}
+use Rattle.dimacs.specs.Pages.{mostPageBytes, mostPages, rowCount, pagesIn, pageOf}
 use Rattle.dimacs.proofs.LineLaws.{taken-as, taken-each-none, taken-each}
 use Rattle.dimacs.proofs.PageLaws.{pages-joined}
 use borrow.Author.Needs.{needs}
@@ -16,7 +16,7 @@ use Rattle.dimacs.proofs.pages.take_file.Tie as tie
 abbrev Inv-loop : tie.InvT-loop
 Inv-loop m z b n bound words₀ out₀ first size end₀ row₀ row-end words out end row =
     (row ≤ rowCount bound) × Taken (each row (λ r. each (pagesIn m bound r) (pageOf m bound r))) out₀ out 0 end
-    × (end ≤ row * (90 * mostPageBytes)) × (length words ≡ length words₀)
+    × (end ≤ row * (mostPages * mostPageBytes)) × (length words ≡ length words₀)
 
 abbrev μ-loop : tie.MeasureT-loop
 μ-loop m z b n bound words₀ out₀ first size end₀ row₀ row-end words out end row = row-end - row
