@@ -10,5 +10,6 @@ pub mod OneHot
 pub mod DemandProofs
 pub mod PieceClauses
 pub mod Within
+pub mod Raised
 pub mod Searching
 pub mod Claims
