@@ -66,11 +66,6 @@ pub wrote-tail : {cs ds : List Clause} {old mid new : List ℤ} {a b n : ℕ} �
     → WroteClauses (cs ++ ds) old (take b mid ++ (new ++ drop (length mid - b) (drop b mid))) a (b + n)
 wrote-tail {cs} {ds} p q = record { words = buffer.wrote-as (words-append cs ds) (buffer.wrote-tail (p .words) (q .words)) }
 
--- the first piece goes into the tail that begins at 0
-pub wrote-first : {ds : List Clause} {old new : List ℤ} {n : ℕ} → WroteClauses ds (take (length old - 0) (drop 0 old)) new 0 n
-    → WroteClauses ds old (take 0 old ++ (new ++ drop (length old - 0) (drop 0 old))) 0 (0 + n)
-wrote-first {ds} {old} q = wrote-tail {ds = ds} (wrote-none old 0 (omega arith)) q
-
 pub room-first : {cs : List Clause} (ds : List Clause) {l : List ℤ} {a : ℕ} → RoomFor (cs ++ ds) l a → RoomFor cs l a
 room-first {cs} ds h = record { words = buffer.room-first (wordsOf ds) (buffer.room-as (words-append cs ds) (h .words)) }
 

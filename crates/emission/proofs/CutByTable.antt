@@ -8,7 +8,8 @@ use lib.ListN.{length}
 use Rattle.model.specs.declared.Model.{Model}
 use Rattle.model.specs.Indexed.{each}
 use Rattle.model.specs.Record.{invariantAt}
-use Rattle.model.specs.Automaton.{groupSize}
+use Rattle.model.specs.Automaton.{ceiling, groupSize}
+use Rattle.model.proofs.FormLaws.{choices-is}
 use Rattle.list.specs.Items.{offset, blockAt, invariantOf, edgeOf}
 use Rattle.list.specs.Clauses.{oneHotWidth, groupClauses, clausesOf}
 use Rattle.list.proofs.PieceClauses.{next-block}
@@ -18,10 +19,11 @@ use Rattle.parts.specs.Pieces.{Known, atomPiece, delayPieces}
 use Rattle.parts.proofs.GroupLaws.{first-is, size-is}
 use Rattle.parts.proofs.KnownLaws.{known-groups, known-choices, known-top, at-most-nine, location-piece-of, choice-piece-of, delay-piece-of}
 use Rattle.emission.specs.Written.{RoomFor}
-use Rattle.emission.specs.Writable.{Lent}
+use Rattle.emission.specs.Writable.{Lent, edgeIn}
 use Rattle.emission.specs.Cut.{mostPieceWords, stateCount, statePiece, stepPiece, rowPieces, pieceOf}
 use Rattle.emission.proofs.TableLaws.{groupBy, first-at, size-at}
-use Rattle.emission.proofs.CutLaws.{state-group, state-invariant, step-choice, step-delay, step-edge, step-state, piece-words-most}
+use Rattle.emission.proofs.ListPieces.{edge-clauses-are}
+use Rattle.emission.proofs.CutLaws.{each-1, state-group, state-invariant, step-choice, step-delay, step-edge, step-state, piece-words-most}
 
 module _ {m : Model} {b : GroupTable} (k : Known m b) where
   -- ---- a piece of state clauses
@@ -51,10 +53,15 @@ module _ {m : Model} {b : GroupTable} (k : Known m b) where
     delay-is e h = here ∙ step-delay m o p e (omega (arith, known-top k)) ∙ sym (delay-piece-of k o (p - 1))
 
     pub edge-is : b .top + 1 < p → p ≤ b .choices
-        → stepPiece m (blockAt oneHotWidth m t) p ≡ clausesOf (edgeOf oneHotWidth m o (p - (1 + (b .top + 1))))
+        → stepPiece m (blockAt oneHotWidth m t) p ≡ each 1 (λ i. edgeIn b (m .edges) o (p - (1 + (b .top + 1)) + i))
     edge-is h l =
+        let e = p - (1 + (b .top + 1)) in
+        let z : p - (ceiling m + 2) ≡ e = omega (arith, known-top k) in
+        let one : e ≡ e + 0 = omega arith in
         here ∙ step-edge m o p (omega (arith, known-top k)) (omega (arith, known-choices k)) ∙
-        ap (λ (n : ℕ). clausesOf (edgeOf oneHotWidth m o (p - n))) (omega (arith, known-top k))
+        ap (λ (n : ℕ). clausesOf (edgeOf oneHotWidth m o n)) z ∙
+        edge-clauses-are k o e (omega (arith, known-choices k, known-top k, choices-is m)) ∙ ap (edgeIn b (m .edges) o) one ∙
+        sym (each-1 (λ i. edgeIn b (m .edges) o (e + i)))
 
   pub state-after-is : (t next p : ℕ) → next ≡ blockAt oneHotWidth m (t + 1) → b .choices < p
       → stepPiece m (blockAt oneHotWidth m t) p ≡ statePiece m next (p - (1 + b .choices))

@@ -31,7 +31,7 @@ use Rattle.parts.proofs.GroupLaws.{over-groups, many-le}
 use Rattle.counts.proofs.CountLaws.{Most}
 use Rattle.counts.proofs.GroupLaws.{counted-group, group-32}
 use Rattle.counts.proofs.PieceBounds.{edge-most, invariant-most, delay-most, initial-most, end-most, choice-most}
-use Rattle.emission.specs.Cut.{mostPieceWords, groupCount, stateCount, statePiece, stepCount, stepPiece, rowPieces, pieceOf}
+use Rattle.emission.specs.Cut.{mostPieceWords, groupCount, stateCount, statePiece, stepCount, stepPiece, rowPieces, pieceOf, rowOf}
 
 -- ---- a test that is known
 module _ {A : Type 0} {t : Bool} (x y : A) where
@@ -105,7 +105,8 @@ module _ (m : Model) where
 abbrev both : {a b x y : List Clause} → a ≡ x → b ≡ y → a ++ b ≡ x ++ y
 both p q = ap₂ (λ (u v : List Clause). u ++ v) p q
 
-each-1 : (f : ℕ → List Clause) → each 1 f ≡ f 0
+-- one piece alone
+pub each-1 : (f : ℕ → List Clause) → each 1 f ≡ f 0
 each-1 f = each-more 0 f ∙ ap (λ (l : List Clause). l ++ f 0) (each-zero f)
 
 -- n pieces are two stretches of pieces
@@ -154,16 +155,15 @@ module _ (m : Model) where
           step-state m o (1 + (ceiling m + 1) + m .used + i) (omega (arith, choices-is m)) ∙ ap (statePiece m (nextBlock oneHotWidth m o)) q
 
   -- ---- rows
-  abbrev row : ℕ → ℕ → List Clause
-  row k r = each (rowPieces m k r) (pieceOf m k r)
-
-  start-joined : (k : ℕ) → row k 0 ≡ clausesOf (startItems oneHotWidth m)
+  -- row 0, joined, is the start
+  pub start-joined : (k : ℕ) → rowOf m k 0 ≡ clausesOf (startItems oneHotWidth m)
   start-joined k =
       two (stateCount m) 1 (statePiece m 0) (λ i. clausesOf (initialItems oneHotWidth m)) (row-start m k 0 refl) (λ i h. start-state m k 0 i refl h)
       (λ i h. start-initial m k 0 (stateCount m + i) refl (omega arith)) ∙
       both (state-joined 0) (each-1 (λ i. clausesOf (initialItems oneHotWidth m))) ∙ sym (start-piece m)
 
-  row-joined : (k t : ℕ) → t < k → row k (1 + t) ≡ clausesOf (stepItems oneHotWidth m (blockAt oneHotWidth m t))
+  -- row t + 1 is the step from state t
+  pub row-joined : (k t : ℕ) → t < k → rowOf m k (1 + t) ≡ clausesOf (stepItems oneHotWidth m (blockAt oneHotWidth m t))
   row-joined k t h =
       let e : 1 + t - 1 ≡ t = omega arith in
       let o = blockAt oneHotWidth m t in
@@ -171,21 +171,27 @@ module _ (m : Model) where
       each-cong (stepCount m) (pieceOf m k (1 + t)) (stepPiece m o)
       (λ p l. of-step m k (1 + t) p (λ q. omega arith) (omega arith) ∙ ap (λ (s : ℕ). stepPiece m (blockAt oneHotWidth m s) p) e) ∙ step-joined o
 
-  end-joined : (k r : ℕ) → k < r → row k r ≡ clausesOf (endItems oneHotWidth m k)
+  -- every row after k is the end
+  pub end-joined : (k r : ℕ) → k < r → rowOf m k r ≡ clausesOf (endItems oneHotWidth m k)
   end-joined k r h =
       ap (λ (n : ℕ). each n (pieceOf m k r)) (row-end m k r h) ∙ each-1 (pieceOf m k r) ∙ of-end m k r 0 h
 
 -- Of any model, the pieces make up the list, row after row.
-pub cut-joined : (m : Model) (k : ℕ) → clauses m k ≡ each (k + 2) (λ r. each (rowPieces m k r) (pieceOf m k r))
+pub cut-joined : (m : Model) (k : ℕ) → clauses m k ≡ each (k + 2) (rowOf m k)
 cut-joined m k =
     let step : ℕ → List Clause = λ t. clausesOf (stepItems oneHotWidth m (blockAt oneHotWidth m t)) in
     let n : k + 2 ≡ 1 + k + 1 = omega arith in
     clauses-pieces m k ∙ sym (
-    two (1 + k) 1 (row m k) (λ i. clausesOf (endItems oneHotWidth m k)) n (λ i h. refl) (λ i h. end-joined m k (1 + k + i) (omega arith)) ∙
+    two (1 + k) 1 (rowOf m k) (λ i. clausesOf (endItems oneHotWidth m k)) n (λ i h. refl) (λ i h. end-joined m k (1 + k + i) (omega arith)) ∙
     both (two 1 k (λ i. clausesOf (startItems oneHotWidth m)) step refl
-    (λ i h. let z : i ≡ 0 = omega arith in ap (row m k) z ∙ start-joined m k) (row-joined m k) ∙
+    (λ i h. let z : i ≡ 0 = omega arith in ap (rowOf m k) z ∙ start-joined m k) (row-joined m k) ∙
     ap (λ (l : List Clause). l ++ each k step) (each-1 (λ i. clausesOf (startItems oneHotWidth m))))
     (each-1 (λ i. clausesOf (endItems oneHotWidth m k))))
+
+-- The rows from the first on make up the list.
+pub rows-from-first : (m : Model) (k : ℕ) → clauses m k ≡ each (k + 2) (λ i. rowOf m k (0 + i))
+rows-from-first m k =
+    cut-joined m k ∙ each-cong (k + 2) (rowOf m k) (λ i. rowOf m k (0 + i)) (λ i h. let e : i ≡ 0 + i = omega arith in ap (rowOf m k) e)
 
 -- ---- how many pieces a row has, and how many words a piece
 module _ (m : Model) (ok : T (wellFormed m)) where
@@ -245,36 +251,47 @@ choice-words m k r h l e =
     ∙ sym (counted-group (o + stateWidth oneHotWidth m) 64 .words-are)
 
 -- ---- the variables that the words of a piece name
-abbrev Named : ℤ → Type 0
-Named w = natAbs w ≤ mostVariables
+-- A word is 0 or names a variable of at most M.
+abbrev Named : ℕ → ℤ → Type 0
+Named M w = natAbs w ≤ M
 
-module _ {N : ℕ} (most : N ≤ mostVariables) where
-  word-named : (l : Literal) → index l < N → Named (word l)
+module _ {N M : ℕ} (most : N ≤ M) where
+  -- The word of a literal that has one of the first N variables.
+  word-named : (l : Literal) → index l < N → Named M (word l)
   word-named (bare i) h = omega arith
   word-named (negated i) h =
       let e : natAbs (negℤ (pos (i + 1))) ≡ suc i = ap (λ (n : ℕ). natAbs (negℤ (pos n))) (add-one i) in
       omega arith
 
-  literals-named : (c : Clause) → ClauseInside N c → All Named (map word c)
+  -- The words of a clause's literals.
+  literals-named : (c : Clause) → ClauseInside N c → All (Named M) (map word c)
   literals-named [] h = tt
   literals-named (l ∷ c) h = (word-named l (h .0), literals-named c (h .1))
 
-  words-named : (cs : List Clause) → All (ClauseInside N) cs → All Named (wordsOf cs)
+  -- The words of clauses that name the first N variables alone.
+  pub words-named : (cs : List Clause) → All (ClauseInside N) cs → All (λ w. natAbs w ≤ M) (wordsOf cs)
   unfolding wordsOf clauseWords
   words-named [] h = tt
   words-named (c ∷ cs) h =
-      all-app Named (map word c ++ (pos 0 ∷ [])) (wordsOf cs) .1
-      (all-app Named (map word c) (pos 0 ∷ []) .1 (literals-named c (h .0), (omega arith, tt)), words-named cs (h .1))
+      all-app (Named M) (map word c ++ (pos 0 ∷ [])) (wordsOf cs) .1
+      (all-app (Named M) (map word c) (pos 0 ∷ []) .1 (literals-named c (h .0), (omega arith, tt)), words-named cs (h .1))
+
+-- Of a well-formed model, the clauses of a row name the list's variables alone,
+pub row-inside : (m : Model) → T (wellFormed m) → (k r : ℕ) → r ≤ k + 1 → All (ClauseInside (variables m k)) (rowOf m k r)
+row-inside m ok k r l =
+    let N : ℕ = variables m k in
+    let P : List Clause → Type 0 = All (ClauseInside N) in
+    all-each (ClauseInside N) (k + 2) (rowOf m k) .0 (subst P (cut-joined m k) (clauses-inside m ok k)) r (omega arith)
+
+-- and so do those of a piece.
+pub piece-clauses-inside : (m : Model) → T (wellFormed m) → (k r p : ℕ) → r ≤ k + 1 → p < rowPieces m k r
+    → All (ClauseInside (variables m k)) (pieceOf m k r p)
+piece-clauses-inside m ok k r p l q = all-each (ClauseInside (variables m k)) (rowPieces m k r) (pieceOf m k r) .0 (row-inside m ok k r l) p q
 
 -- Of a well-formed model and a bound of at most 64, every word of a piece names a variable of at most 21,776 or is 0.
 pub piece-inside : (m : Model) → T (wellFormed m) → (k r p : ℕ) → k ≤ 64 → r ≤ k + 1 → p < rowPieces m k r
     → All (λ w. natAbs w ≤ mostVariables) (wordsOf (pieceOf m k r p))
-piece-inside m ok k r p h l q =
-    let N : ℕ = variables m k in
-    let P : List Clause → Type 0 = All (ClauseInside N) in
-    let rows = all-each (ClauseInside N) (k + 2) (λ r. each (rowPieces m k r) (pieceOf m k r)) .0 (subst P (cut-joined m k) (clauses-inside m ok k)) in
-    let pieces = all-each (ClauseInside N) (rowPieces m k r) (pieceOf m k r) .0 (rows r (omega arith)) in
-    words-named (variables-le m (formed m ok) k h) (pieceOf m k r p) (pieces p q)
+piece-inside m ok k r p h l q = words-named (variables-le m (formed m ok) k h) (pieceOf m k r p) (piece-clauses-inside m ok k r p l q)
 
 -- The same of the whole list.
 pub list-inside : (m : Model) → T (wellFormed m) → (k : ℕ) → k ≤ 64 → All (λ w. natAbs w ≤ mostVariables) (wordsOf (clauses m k))

@@ -1,5 +1,5 @@
 -- The part of an atom, an update, a reset or a delay, case by case, by the lent slices of the table.
-use mathlib.Core.Path.{_≡_, sym, ap, subst, _∙_}
+use mathlib.Core.Path.{_≡_, refl, sym, ap, subst, _∙_}
 use mathlib.Core.Bool.{Bool, cond}
 use mathlib.Core.List.{List, [], _∷_}
 use Prim.Native.Nat.{ℕ, _+_, _-_, _≤_, _<_}
@@ -8,27 +8,31 @@ use borrow.Author.Tests.{lt-ltb, le-ltb}
 use lib.Dec.{leb}
 use lib.IntN.{ℤ}
 use lib.ListN.{getD}
-use Rattle.model.specs.declared.Relation.{Relation}
 use Rattle.model.specs.declared.Atom.{Atom}
+use Rattle.model.specs.declared.AtomSlot.{AtomSlot}
 use Rattle.model.specs.declared.Atom.the-variants.{Blank, OnClock, OnCounter}
 use Rattle.model.specs.declared.Update.{Update}
 use Rattle.model.specs.declared.Update.the-variants.{Constant, Sum, Keep as KeepIt}
 use Rattle.model.specs.declared.ClockUpdate.{ClockUpdate}
 use Rattle.model.specs.declared.ClockUpdate.the-variants.{Unchanged, Reset}
 use Rattle.model.specs.declared.Edge.{Edge}
+use Rattle.model.specs.Indexed.{each}
 use Rattle.model.specs.Record.{atomAt, updateAt, resetAt}
 use Rattle.model.proofs.IndexedLaws.{each-zero}
 use Rattle.list.specs.Clauses.{bare, negated, one}
+use Rattle.list.proofs.ListLaws.{each-cong}
 use Rattle.parts.specs.Numbering.{mostVariables}
 use Rattle.parts.specs.declared.Rule.the-variants.{Keep, Rise, Shift, Set, Forbid}
 use Rattle.parts.specs.declared.Part.{Part}
 use Rattle.parts.specs.declared.GroupTable.{GroupTable}
 use Rattle.parts.specs.Rules.{partClauses, Fits}
 use Rattle.parts.specs.StateBlock.{firstAt, Bounded}
+use Rattle.parts.specs.Pieces.{atomPiece}
 use Rattle.parts.specs.PartsOf.{AtomIn, UpdateIn, nextAt, atomPart, leadsPart, greatestAt, updatePart, resetPart, delayPart}
 use Rattle.parts.proofs.PartPieces.{part-is, set-is}
 use Rattle.parts.proofs.EdgeParts.{source-part, target-part, guard-part, counter-part, clock-part}
-use Rattle.emission.specs.Writable.{Lent, AtomFits, UpdateFits, EdgeFits}
+use Rattle.emission.specs.Compared.{comparison}
+use Rattle.emission.specs.Writable.{Lent, atomTable, AtomFits, UpdateFits, EdgeFits}
 use Rattle.emission.proofs.TableLaws.{excludeBy, leadsBy, setBy, exclude-lent, leads-lent, set-lent}
 
 -- a part that fits, under another name
@@ -36,22 +40,46 @@ pub fits-as : {p q : Part} → p ≡ q → Fits p mostVariables → Fits q mostV
 fits-as e f = subst (λ (p : Part). Fits p mostVariables) e f
 
 -- ---- atoms
-pub blank-is : (b : GroupTable) (x o : ℕ) {atom : Atom} → atom ≡ Blank → partClauses x (atomPart b o atom) ≡ []
-blank-is b x o e = ap (λ (t : Atom). partClauses x (atomPart b o t)) e ∙ part-is x 0 0 0 0 Forbid ∙ each-zero _
+-- the table has the group that an atom names
+pub group-in : {b : GroupTable} {o : ℕ} (atom : Atom) → AtomFits b o atom → comparison (b .vars) atom .group < 9
+group-in Blank f = omega arith
+group-in (OnClock c relation constant) f = f .named
+group-in (OnCounter c relation constant) f = f .named
+
+-- group 0 stands for a blank slot, which asks nothing
+pub blank-is : (b : GroupTable) (x o : ℕ) (atom : Atom) → comparison (b .vars) atom .group ≡ 0 → partClauses x (atomPart b o atom) ≡ []
+blank-is b x o Blank e = part-is x 0 0 0 0 Forbid ∙ each-zero _
+blank-is b x o (OnClock c relation constant) e = absurd (omega arith)
+blank-is b x o (OnCounter c relation constant) e = absurd (omega arith)
 
 module _ {b : GroupTable} {first size : List ℕ} (l : Lent b first size) (o : ℕ) where
-  module _ {atom : Atom} (c : ℕ) (relation : Relation) (constant : ℕ) where
-    pub clock-is : atom ≡ OnClock c relation constant → atomPart b o atom ≡ excludeBy first size o (1 + b .vars + c) relation constant
-    clock-is e = ap (atomPart b o) e ∙ exclude-lent l o (1 + b .vars + c) relation constant
+  -- any other group is under the comparison
+  pub compared-is : (atom : Atom) → let c = comparison (b .vars) atom in (c .group ≡ 0 → ⊥)
+      → atomPart b o atom ≡ excludeBy first size o (c .group) (c .relation) (c .constant)
+  compared-is Blank h = absurd (h refl)
+  compared-is (OnClock x relation constant) h = exclude-lent l o (1 + b .vars + x) relation constant
+  compared-is (OnCounter x relation constant) h = exclude-lent l o (1 + x) relation constant
 
-    pub clock-in : atom ≡ OnClock c relation constant → AtomFits b o atom → 1 + b .vars + c < 9
-    clock-in e f = subst (AtomIn b) e (f .named)
+  -- an atom asks the same by both tables
+  atom-by : (atom : Atom) → atomPart b o atom ≡ atomPart (atomTable (b .vars) first size) o atom
+  atom-by Blank = refl
+  atom-by (OnClock x relation constant) = exclude-lent l o (1 + b .vars + x) relation constant
+  atom-by (OnCounter x relation constant) = exclude-lent l o (1 + x) relation constant
 
-    pub counter-is : atom ≡ OnCounter c relation constant → atomPart b o atom ≡ excludeBy first size o (1 + c) relation constant
-    counter-is e = ap (atomPart b o) e ∙ exclude-lent l o (1 + c) relation constant
+  named-by : (atom : Atom) → AtomIn b atom → AtomIn (atomTable (b .vars) first size) atom
+  named-by Blank h = h
+  named-by (OnClock x relation constant) h = h
+  named-by (OnCounter x relation constant) h = h
 
-    pub counter-in : atom ≡ OnCounter c relation constant → AtomFits b o atom → 1 + c < 9
-    counter-in e f = subst (AtomIn b) e (f .named)
+  -- an atom that can be written by the one can be by the other
+  pub atom-fits-by : (atom : Atom) → AtomFits b o atom → AtomFits (atomTable (b .vars) first size) o atom
+  atom-fits-by atom f = record { named = named-by atom (f .named); fits = fits-as (atom-by atom) (f .fits) }
+
+  -- four slots ask the same by both
+  pub atoms-by : (x : ℕ) (atoms : List AtomSlot) → each 4 (atomPiece b o x atoms) ≡ each 4 (atomPiece (atomTable (b .vars) first size) o x atoms)
+  atoms-by x atoms =
+      each-cong 4 (atomPiece b o x atoms) (atomPiece (atomTable (b .vars) first size) o x atoms)
+      (λ k h. ap (partClauses x) (atom-by (atomAt atoms k)))
 
   -- ---- updates
   module _ {u : Update} (i : ℕ) where

@@ -6,5 +6,6 @@ pub mod TableLaws
 pub mod LeafLaws
 pub mod ListPieces
 pub mod CutLaws
+pub mod CutRaised
 pub mod CutByTable
 pub mod EmitLaws

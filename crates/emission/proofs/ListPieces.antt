@@ -16,19 +16,19 @@ use Rattle.model.specs.Form.{wellFormed}
 use Rattle.model.proofs.IndexedLaws.{length-list}
 use Rattle.model.proofs.FormLaws.{formed, state-of-totals, stateSize-le, choices-is}
 use Rattle.list.specs.Items.{offset, blockAt, startItems, initialItems, stateItems, endItems, edgesItems, edgeOf}
-use Rattle.list.specs.Clauses.{Clause, bare, one, oneHotWidth, clausesOf, clauses}
+use Rattle.list.specs.Clauses.{Clause, bare, one, oneHotWidth, clausesOf}
 use Rattle.list.proofs.ListLaws.{each-cong}
-use Rattle.list.proofs.PieceClauses.{start-piece, end-piece, edges-piece, clauses-pieces}
+use Rattle.list.proofs.PieceClauses.{start-piece, end-piece, edges-piece}
 use Rattle.list.proofs.OneHot.{block-is}
 use Rattle.parts.specs.declared.GroupTable.{GroupTable}
 use Rattle.parts.specs.StateBlock.{componentAt, groupTable, sizeAt}
 use Rattle.parts.specs.Numbering.{variableNumber, mostVariables}
-use Rattle.parts.specs.Pieces.{Known, groupPiece, locationPiece, frontPiece, edgePiece, edgeClauses, stepClauses}
+use Rattle.parts.specs.Pieces.{Known, groupPiece, locationPiece, frontPiece, edgeClauses, stepClauses}
 use Rattle.parts.proofs.NumberingLaws.{variable-number, block-most}
 use Rattle.parts.proofs.PartFits.{locations-in}
 use Rattle.parts.proofs.KnownLaws.{wf, known-vars, known-state, known-top, known-locations, location-size}
 use Rattle.parts.proofs.KnownLaws.{atom-in, update-in, invariant-fits, edge-fits-of, edge-piece-of, state-piece-of, step-piece-of}
-use Rattle.emission.specs.Writable.{Lent, InvariantsFit, EdgeFits}
+use Rattle.emission.specs.Writable.{Lent, InvariantsFit, EdgeFits, EdgesFit, edgeIn}
 
 -- the target's number is one more than its variable
 pub end-is : (m : Model) (k n : ℕ) → n ≡ variableNumber m k (m .target) → clausesOf (endItems oneHotWidth m k) ≡ one (bare (n - 1) ∷ [])
@@ -84,21 +84,23 @@ module _ {m : Model} {b : GroupTable} (k : Known m b) where
         parts = edge-fits-of k o mostVariables h e l;
       }
 
-  -- an edge, and all edges, where the first edge's choice has the variable `start`
-  pub edge-clauses-are : (o start e : ℕ) → start ≡ o + b .state + b .top + 1 → e < m .used
-      → clausesOf (edgeOf oneHotWidth m o e) ≡ each (b .groups + 5) (edgePiece (start + e) b (edgeAt m e) o)
+  -- the same of as many edges as the model has, or fewer
+  pub edges-fit : (o n : ℕ) → o + stateSize m + choices m + stateSize m ≤ mostVariables → n ≤ m .used → EdgesFit b (m .edges) o n
+  edges-fit o n h l = record {
+    choices-in = omega (arith, known-state k, known-top k, choices-is m);
+    edges-le = omega (arith, wf k .used-le);
+    fit = λ e q. edge-writable o h e (omega arith);
+  }
+
+  -- an edge, and all edges
+  pub edge-clauses-are : (o e : ℕ) → e < m .used → clausesOf (edgeOf oneHotWidth m o e) ≡ edgeIn b (m .edges) o e
   unfolding edgeClauses
-  edge-clauses-are o start e z l = sym (edge-piece-of k o (start + e) e l (omega (arith, z, known-state k, known-top k)))
+  edge-clauses-are o e l = sym (edge-piece-of k o (o + b .state + b .top + 1 + e) e l (omega (arith, known-state k, known-top k)))
 
-  pub edges-are : (o start : ℕ) → start ≡ o + b .state + b .top + 1
-      → clausesOf (edgesItems oneHotWidth m o) ≡ each (m .used) (λ e. each (b .groups + 5) (edgePiece (start + e) b (edgeAt m e) o))
-  edges-are o start z =
-      edges-piece m o ∙ each-cong (m .used) (λ e. clausesOf (edgeOf oneHotWidth m o e)) (λ e. each (b .groups + 5) (edgePiece (start + e) b (edgeAt m e) o))
-      (λ e l. edge-clauses-are o start e z l)
-
-  pub choice-below : (o start e : ℕ) → start ≡ o + b .state + b .top + 1 → o + stateSize m + choices m + stateSize m ≤ mostVariables → e < m .used
-      → start + e < mostVariables
-  choice-below o start e z h l = omega (arith, z, known-state k, known-top k, choices-is m)
+  pub edges-are : (o : ℕ) → clausesOf (edgesItems oneHotWidth m o) ≡ each (m .used) (λ i. edgeIn b (m .edges) o (0 + i))
+  edges-are o =
+      edges-piece m o ∙ each-cong (m .used) (λ e. clausesOf (edgeOf oneHotWidth m o e)) (λ i. edgeIn b (m .edges) o (0 + i))
+      (λ e l. let z : e ≡ 0 + e = omega arith in edge-clauses-are o e l ∙ ap (edgeIn b (m .edges) o) z)
 
   -- ---- the start, a step, the whole list
   abbrev pub statePieces : ℕ → List Clause
@@ -128,7 +130,3 @@ module _ {m : Model} {b : GroupTable} (k : Known m b) where
     where
       nine : (f : GroupTable → List ℕ) → length (f (groupTable m)) ≡ 9 → length (f b) ≡ 9
       nine f h = subst (λ (x : GroupTable). length (f x) ≡ 9) (sym (k .is)) h
-
-pub clauses-are : (m : Model) (n : ℕ) → clauses m n ≡ clausesOf (startItems oneHotWidth m) ++ each n (stepClauses m) ++ clausesOf (endItems oneHotWidth m n)
-unfolding stepClauses
-clauses-are m n = clauses-pieces m n

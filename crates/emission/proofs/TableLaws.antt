@@ -20,7 +20,7 @@ use Rattle.parts.specs.declared.GroupTable.{GroupTable}
 use Rattle.parts.specs.PartsOf.{nextAt, excludePart, leadsPart, setPart}
 use Rattle.parts.specs.StateBlock.{componentAt, groupTable, firstAt, sizeAt}
 use Rattle.parts.specs.Pieces.{Known, groupPiece, initialPiece}
-use Rattle.emission.specs.Writable.{Lent}
+use Rattle.emission.specs.Writable.{Lent, atomTable}
 use Rattle.emission.specs.Initial.{initialIn}
 
 -- ---- parts and pieces by the slices
@@ -47,6 +47,10 @@ module _ {b : GroupTable} {first size : List ℕ} (l : Lent b first size) where
 
   pub size-at : (g : ℕ) → getD size g 0 ≡ sizeAt b g
   size-at g = ap (λ (f : List ℕ). getD f g 0) (l .size-is)
+
+  -- the slices are also those of the table that atoms are read by
+  pub lent-atoms : Lent (atomTable (b .vars) first size) first size
+  lent-atoms = record { first-is = refl; size-is = refl; first-long = l .first-long; size-long = l .size-long }
 
   pub exclude-lent : (o g : ℕ) (relation : Relation) (constant : ℕ) → excludePart b o g relation constant ≡ excludeBy first size o g relation constant
   exclude-lent o g relation constant =

@@ -4,6 +4,7 @@ use mathlib.Core.List.{List}
 use Prim.Native.Nat.{ℕ, _+_, _-_}
 use lib.Dec.{eqb, ltb, leb}
 use Rattle.model.specs.declared.Model.{Model}
+use Rattle.model.specs.Indexed.{each}
 use Rattle.model.specs.Automaton.{ceiling, choices, groupSize}
 use Rattle.list.specs.Items.{offset, blockAt, nextBlock, invariantOf, initialItems, choiceItems, delayItems, edgeOf, endItems}
 use Rattle.list.specs.Clauses.{Clause, oneHotWidth, groupClauses, clausesOf}
@@ -48,3 +49,15 @@ module _ (m : Model) where
   pieceOf k r p =
       cond (eqb r 0) (cond (ltb p stateCount) (statePiece 0 p) (clausesOf (initialItems oneHotWidth m)))
       (cond (leb r k) (stepPiece (blockAt oneHotWidth m (r - 1)) p) (clausesOf (endItems oneHotWidth m k)))
+
+  -- Row r: its pieces, in order.
+  abbrev pub rowOf : ℕ → ℕ → List Clause
+  rowOf k r = each (rowPieces k r) (pieceOf k r)
+
+-- The row of the same kind that begins at the first state block: the start; the one step of the list for 1; the end of the list for 0. Row r of the list
+-- for k is this one, moved on to its own block.
+abbrev pub baseRow : ℕ → ℕ
+baseRow r = cond (eqb r 0) 0 1
+
+abbrev pub baseBound : ℕ → ℕ → ℕ
+baseBound k r = cond (leb r k) 1 0

@@ -13,16 +13,13 @@ ghost use mathlib.Core.Path.{_≡_};
 ghost use Prim.Native.Nat.{ℕ, _+_, _-_, _<_, _≤_};
 ghost use Rattle.model.specs.Indexed.{each};
 ghost use Rattle.model.specs.Record.{updateAt, resetAt};
-ghost use Rattle.model.specs.Automaton.{stateSize, choices};
-ghost use Rattle.list.specs.Items.{edgesItems};
-ghost use Rattle.list.specs.Clauses.{oneHotWidth, clausesOf};
 ghost use Rattle.parts.specs.Numbering.{mostVariables};
 ghost use Rattle.parts.specs.Rules.{partClauses, Fits};
 ghost use Rattle.parts.specs.StateBlock.{Bounded};
 ghost use Rattle.parts.specs.PartsOf.{greatestAt, updatePart, resetPart};
-ghost use Rattle.parts.specs.Pieces.{Known, edgePiece};
+ghost use Rattle.parts.specs.Pieces.{edgePiece};
 ghost use Rattle.emission.specs.Written.{RoomFor, WroteClauses};
-ghost use Rattle.emission.specs.Writable.{Lent, UpdateFits, EdgeFits};
+ghost use Rattle.emission.specs.Writable.{Lent, UpdateFits, EdgeFits, EdgesFit, edgeIn};
 
 // Counter `i`, by its update.
 fn put_update(
@@ -138,7 +135,7 @@ fn put_resets(
 }
 
 // The edge `e`, which is choice `x`: source, target, guard, counters, clocks.
-pub fn put_edge(
+fn put_edge(
     b: GroupTable,
     first: &[u16],
     size: &[u16],
@@ -155,28 +152,31 @@ pub fn put_edge(
     let target = put_implication(x, o + e.source as usize, out, at);
     let guarded = put_implication(x, next + e.target as usize, out, target);
     let guard = e.guard;
-    let counters = put_atoms(b, first, size, o, x, guard, out, guarded);
+    let counters = put_atoms(b.vars, first, size, o, x, guard, out, guarded);
     let clocks = put_updates(b, first, size, x, o, e, out, counters);
     put_resets(b, first, size, x, o, e, out, clocks)
 }
 
-// Each edge; edge e is choice M + 1 + e.
+// `count` of the edges, from edge `from` on; edge e is choice M + 1 + e. All edges of a step and one alone are written here, so that `put_edge` has
+// one caller and is compiled in place.
 pub fn put_edges(
-    m: Model,
     b: GroupTable,
     first: &[u16],
     size: &[u16],
+    edges: [Edge; Model::EDGES],
     o: usize,
+    from: usize,
+    count: usize,
     out: &mut [i32],
     at: usize,
 ) -> usize
-    requires { ⌜ Known m b × Lent b (now first) (now size) × (o + stateSize m + choices m + stateSize m ≤ mostVariables) × RoomFor (clausesOf (edgesItems oneHotWidth m o)) (now out) at ⌝ }
-    ensures { λ r. ⌜ WroteClauses (clausesOf (edgesItems oneHotWidth m o)) (now (out .entry)) (now (out .exit)) at r ⌝ }
+    requires { ⌜ Lent b (now first) (now size) × Bounded b × EdgesFit b edges o (from + count) × RoomFor (each count (λ i. edgeIn b edges o (from + i))) (now out) at ⌝ }
+    ensures { λ r. ⌜ WroteClauses (each count (λ i. edgeIn b edges o (from + i))) (now (out .entry)) (now (out .exit)) at r ⌝ }
 {
     let start = o + b.state + b.top as usize + 1;
-    let edges = m.edges;
     let mut end = at;
-    for e in 0..m.used as usize {
+    for i in 0..count {
+        let e = from + i;
         let edge = edges[e];
         end = put_edge(b, first, size, start + e, o, edge, out, end);
     }

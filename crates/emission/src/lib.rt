@@ -14,6 +14,7 @@ use parts::group_table;
 use parts::numbering::block_start;
 use parts::numbering::variable_number;
 use parts::smaller;
+use pieces::put_rows;
 ghost use mathlib.Core.Path.{_≡_};
 ghost use Prim.Native.Nat.{ℕ, _+_, _<_, _≤_, min};
 ghost use lib.Dec.{T};
@@ -102,7 +103,9 @@ fn put_step(
     let next = block_start(m, z, t + 1);
     let delays = put_choice(b, o, out, 0);
     let edges = put_delays(b, first, size, o, out, delays);
-    let state = put_edges(m, b, first, size, o, out, edges);
+    let listed = m.edges;
+    let used = m.used as usize;
+    let state = put_edges(b, first, size, listed, o, 0, used, out, edges);
     let invariants = m.invariants;
     put_state(b, first, size, invariants, next, out, state)
 }
@@ -121,19 +124,7 @@ fn put_list(m: Model, z: Totals, b: GroupTable, bound: usize, out: &mut [i32]) -
     requires { ⌜ Known m b × KnownTotals m z × (bound ≤ 64) × RoomFor (clauses m bound) (now out) 0 ⌝ }
     ensures { λ r. ⌜ WroteClauses (clauses m bound) (now (out .entry)) (now (out .exit)) 0 r ⌝ }
 {
-    let firsts = b.first;
-    let sizes = b.size;
-    let first: &[u16] = &firsts;
-    let size: &[u16] = &sizes;
-    let mut at: usize = 0;
-    let n = put_start(m, z, b, first, size, &mut out[at..]);
-    at += n;
-    for t in 0..bound {
-        let n = put_step(m, z, b, first, size, t, &mut out[at..]);
-        at += n;
-    }
-    let n = put_end(m, z, bound, &mut out[at..]);
-    at + n
+    put_rows(m, z, b, bound, 0, bound + 2, out)
 }
 
 // Writes the list into the buffer, at most `limit` words: 20, 21, 22.

@@ -1,7 +1,8 @@
 -- put_edge: the pieces of an edge, kind after kind.
 use native.Mathlib.Omega.{arith}
 use Rattle.parts.proofs.EdgeKinds.{edge-kinds}
-use Rattle.emission.proofs.LeafLaws.{source-in, target-in, guard-fits, updates-fit, resets-fit}
+use Rattle.emission.proofs.TableLaws.{lent-atoms}
+use Rattle.emission.proofs.LeafLaws.{atom-fits-by, atoms-by, source-in, target-in, guard-fits, updates-fit, resets-fit}
 use Rattle.emission.proofs.ClauseLaws.{wrote-then, room-first, room-then, wrote-as, room-as}
 use borrow.Author.Needs.{needs}
 use Rattle.emission.proofs.edge.put_edge.Statement.{statement}
@@ -58,12 +59,13 @@ put-atoms-requires c κs =
     let at-first = at-second .before .before .before .before in
     let start = at-first .before .before .before .before .before .before .before in
     let a = start .args in
-    let p = start .pre in (
-      p .0,
+    let p = start .pre in
+    let ends = wrote-then (at-first .put-implication .ensures) (at-second .put-implication2 .ensures) in (
+      lent-atoms (p .0),
       omega arith,
-      guard-fits (p .2) (p .3),
-      room-then (wrote-then (at-first .put-implication .ensures) (at-second .put-implication2 .ensures))
-          (room-first _ (room-first _ (room-as (edge-kinds (a .b) (a .x) (a .o) (a .e) (p .2 .vars-in)) (p .4)))),
+      (λ k l. atom-fits-by (p .0) (a .o) _ (guard-fits (p .2) (p .3) k l)),
+      room-as (atoms-by (p .0) (a .o) (a .x) (a .e .guard)) (room-then ends
+          (room-first _ (room-first _ (room-as (edge-kinds (a .b) (a .x) (a .o) (a .e) (p .2 .vars-in)) (p .4))))),
     )
 
 put-updates-requires : tie.Need-put-updates-requires
@@ -78,7 +80,8 @@ put-updates-requires c κs =
       omega arith,
       p .2 .vars-le,
       updates-fit (p .2) (p .3),
-      room-then (wrote-then (wrote-then (at-first .put-implication .ensures) (at-second .put-implication2 .ensures)) (at-put-atoms .put-atoms .ensures))
+      room-then (wrote-then (wrote-then (at-first .put-implication .ensures) (at-second .put-implication2 .ensures))
+          (wrote-as (atoms-by (p .0) (a .o) (a .x) (a .e .guard)) (at-put-atoms .put-atoms .ensures)))
           (room-first _ (room-as (edge-kinds (a .b) (a .x) (a .o) (a .e) (p .2 .vars-in)) (p .4))),
     )
 
@@ -91,12 +94,13 @@ put-resets-requires c κs =
     let start = at-first .before .before .before .before .before .before .before in
     let a = start .args in
     let p = start .pre in
-    let ends = wrote-then (at-first .put-implication .ensures) (at-second .put-implication2 .ensures) in (
+    let ends = wrote-then (at-first .put-implication .ensures) (at-second .put-implication2 .ensures) in
+    let guard = wrote-as (atoms-by (p .0) (a .o) (a .x) (a .e .guard)) (at-put-atoms .put-atoms .ensures) in (
       p .0,
       omega arith,
       p .2,
       resets-fit (p .2) (p .3),
-      room-then (wrote-then (wrote-then ends (at-put-atoms .put-atoms .ensures)) (at-put-updates .put-updates .ensures))
+      room-then (wrote-then (wrote-then ends guard) (at-put-updates .put-updates .ensures))
           (room-as (edge-kinds (a .b) (a .x) (a .o) (a .e) (p .2 .vars-in)) (p .4)),
     )
 
@@ -112,7 +116,8 @@ returns c =
     let start = at-first .before .before .before .before .before .before .before in
     let a = start .args in
     let ends = wrote-then (at-first .put-implication .ensures) (at-second .put-implication2 .ensures) in
-    let counters = wrote-then (wrote-then ends (at-put-atoms .put-atoms .ensures)) (at-put-updates .put-updates .ensures) in
+    let guard = wrote-as (atoms-by (start .pre .0) (a .o) (a .x) (a .e .guard)) (at-put-atoms .put-atoms .ensures) in
+    let counters = wrote-then (wrote-then ends guard) (at-put-updates .put-updates .ensures) in
     wrote-as (edge-kinds (a .b) (a .x) (a .o) (a .e) (start .pre .2 .vars-in)) (wrote-then counters (c .before .put-resets .ensures))
 
 pub put-edge-spec : {M : Type 1} → statement M

@@ -1,10 +1,13 @@
 -- put_state_piece: a group by the lent slices, or the atoms of a location's invariant.
 use native.Mathlib.Omega.{arith}
+use mathlib.Core.Path.{_∙_}
+use Rattle.emission.proofs.LeafLaws.{atom-fits-by, atoms-by}
 use Rattle.emission.proofs.CutByTable.{group-is, invariant-is}
 use Rattle.emission.proofs.ClauseLaws.{wrote-as, room-as}
 use Rattle.emission.proofs.ListPieces.{invariants-fit}
-use Rattle.emission.proofs.TableLaws.{first-at, size-at}
-use Prim.Native.Nat.{_-_, _<_}
+use Rattle.emission.proofs.TableLaws.{first-at, size-at, lent-atoms}
+use Prim.Native.Nat.{_+_, _-_, _<_}
+use Rattle.model.specs.Record.{atomAt, invariantAt}
 use Rattle.parts.specs.StateBlock.{sizeAt}
 use Rattle.parts.proofs.KnownLaws.{wf, known-groups, at-most-nine, known-in, known-locations, location-size}
 use borrow.Author.Needs.{needs}
@@ -87,11 +90,13 @@ put-atoms-requires c κs =
     let p = start .pre in
     let a = start .args in
     let k = p .0 in
-    let l : a .piece - a .b .groups < sizeAt (a .b) 0 = omega (arith, location-size k, known-groups k) in (
-      p .1,
+    let j = a .piece - a .b .groups in
+    let whole = invariant-is k (a .o) (a .piece) (first-test .if1 .left) (p .3) ∙ atoms-by (p .1) (a .o) (a .o + j) (invariantAt (a .m) j) in
+    let l : j < sizeAt (a .b) 0 = omega (arith, location-size k, known-groups k) in (
+      lent-atoms (p .1),
       omega (arith, location-size k, known-locations k, p .2),
-      invariants-fit k (a .o) (p .2) .atoms (a .piece - a .b .groups) l,
-      room-as (invariant-is k (a .o) (a .piece) (first-test .if1 .left) (p .3)) (p .4),
+      (λ i q. atom-fits-by (p .1) (a .o) (atomAt (invariantAt (a .m) j) i) (invariants-fit k (a .o) (p .2) .atoms j l i q)),
+      room-as whole (p .4),
     )
 
 same-length-2 : tie.Need-same-length-2
@@ -104,7 +109,9 @@ returns-2 c =
     let start = first-test .before .before .before .before in
     let p = start .pre in
     let a = start .args in
-    wrote-as (invariant-is (p .0) (a .o) (a .piece) (first-test .if1 .left) (p .3)) (at-put-atoms .put-atoms .ensures)
+    let j = a .piece - a .b .groups in
+    let whole = invariant-is (p .0) (a .o) (a .piece) (first-test .if1 .left) (p .3) ∙ atoms-by (p .1) (a .o) (a .o + j) (invariantAt (a .m) j) in
+    wrote-as whole (at-put-atoms .put-atoms .ensures)
 
 pub put-state-piece-spec : {M : Type 1} → statement M
 put-state-piece-spec =

@@ -2,7 +2,7 @@
 use native.Mathlib.Omega.{arith}
 use Rattle.emission.proofs.CutByTable.{choice-is, delay-is, edge-is, state-after-is}
 use Rattle.emission.proofs.ClauseLaws.{wrote-as, room-as}
-use Rattle.emission.proofs.ListPieces.{block-below, step-below}
+use Rattle.emission.proofs.ListPieces.{block-below, step-below, edges-fit}
 use Rattle.parts.proofs.KnownLaws.{known-bounded, known-choices, known-top, block-in, step-in}
 use Rattle.parts.specs.Numbering.{mostVariables}
 use Prim.Native.Nat.{_+_, _≤_}
@@ -61,25 +61,25 @@ cast-delays c = search needs
 add-delays : tie.Need-add-delays
 add-delays c = search needs
 
-add-put-edge-piece : tie.Need-add-put-edge-piece
-add-put-edge-piece c = search needs
+add-put-edges : tie.Need-add-put-edges
+add-put-edges c = search needs
 
-sub-put-edge-piece : tie.Need-sub-put-edge-piece
-sub-put-edge-piece c = search needs
+sub-put-edges : tie.Need-sub-put-edges
+sub-put-edges c = search needs
 
-put-edge-piece-requires : tie.Need-put-edge-piece-requires
-put-edge-piece-requires c κs =
-    let second-test = c .before in
+put-edges-requires : tie.Need-put-edges-requires
+put-edges-requires c κs =
+    let second-test = c .before .before in
     let at-block-start2 = second-test .before .before in
     let first-test = at-block-start2 .before in
     let start = first-test .before .before .before .before in
     let p = start .pre in
     let a = start .args in
     let o = at-block-start2 .block-start2 in (
-      p .0,
       p .2,
-      omega (arith, o .ensures, step-below (p .0) (a .t) (p .3)),
-      omega (arith, known-choices (p .0), known-top (p .0), choices-is (a .m)),
+      known-bounded (p .0),
+      edges-fit (p .0) (o .result) _ (omega (arith, o .ensures, step-below (p .0) (a .t) (p .3)))
+          (omega (arith, known-choices (p .0), known-top (p .0), choices-is (a .m))),
       room-as (edge-is (p .0) (a .t) _ (a .piece) (o .ensures) (second-test .if2 .taken) (first-test .if1 .left)) (p .5),
     )
 
@@ -88,14 +88,14 @@ same-length-2 c = search needs
 
 returns-2 : tie.Need-returns-2
 returns-2 c =
-    let at-put-edge-piece = c .before in
-    let second-test = at-put-edge-piece .before .before in
+    let at-put-edges = c .before in
+    let second-test = at-put-edges .before .before .before in
     let at-block-start2 = second-test .before .before in
     let first-test = at-block-start2 .before in
     let start = first-test .before .before .before .before in
     let a = start .args in
     let whole = edge-is (start .pre .0) (a .t) _ (a .piece) (at-block-start2 .block-start2 .ensures) (second-test .if2 .taken) (first-test .if1 .left) in
-    wrote-as whole (at-put-edge-piece .put-edge-piece .ensures)
+    wrote-as whole (at-put-edges .put-edges .ensures)
 
 put-choice-requires : tie.Need-put-choice-requires
 put-choice-requires c κs =
@@ -161,5 +161,5 @@ returns-4 c =
 pub put-step-piece-spec : {M : Type 1} → statement M
 put-step-piece-spec =
     tie.close (tie.spec add-block-start block-start-requires add-put-state-piece sub-put-state-piece put-state-piece-requires same-length returns
-    block-start-requires-2 cast-delays add-delays add-put-edge-piece sub-put-edge-piece put-edge-piece-requires same-length-2 returns-2 put-choice-requires
+    block-start-requires-2 cast-delays add-delays add-put-edges sub-put-edges put-edges-requires same-length-2 returns-2 put-choice-requires
     same-length-3 returns-3 sub-put-delay put-delay-requires same-length-4 returns-4)

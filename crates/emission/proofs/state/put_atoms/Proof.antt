@@ -2,6 +2,7 @@
 use mathlib.Core.Path.{_≡_}
 use Prim.Native.Nat.{_-_, _≤_}
 use Rattle.emission.specs.Written.{WroteClauses}
+use Rattle.emission.specs.Writable.{atomTable}
 use Rattle.emission.proofs.ClauseLaws.{wrote-each, wrote-each-none, room-each}
 use native.Mathlib.Omega.{arith}
 use borrow.Author.Needs.{needs}
@@ -11,10 +12,11 @@ use Rattle.emission.proofs.state.put_atoms.Statement.{statement}
 use Rattle.emission.proofs.state.put_atoms.Tie as tie
 
 abbrev Inv-loop : tie.InvT-loop
-Inv-loop b first size o x out₀ at atoms end₀ k₀ out end k = (k ≤ 4) × WroteClauses (each k (atomPiece b o x atoms)) out₀ out end₀ end
+Inv-loop vars first size o x out₀ at atoms end₀ k₀ out end k =
+    (k ≤ 4) × WroteClauses (each k (atomPiece (atomTable vars first size) o x atoms)) out₀ out end₀ end
 
 abbrev μ-loop : tie.MeasureT-loop
-μ-loop b first size o x out₀ at atoms end₀ k₀ out end k = 4 - k
+μ-loop vars first size o x out₀ at atoms end₀ k₀ out end k = 4 - k
 
 loop-holds : tie.Need-loop-holds Inv-loop μ-loop
 loop-holds c = (omega arith, wrote-each-none _ _ _ (omega (arith, c .before .before .pre .3 .words .room)))

@@ -2,13 +2,15 @@
 use native.Mathlib.Omega.{arith}
 use borrow.Author.Needs.{needs}
 use Rattle.model.specs.Indexed.{each}
+use Rattle.model.specs.Record.{atomAt}
 use Rattle.parts.specs.StateBlock.{sizeAt}
-use Rattle.emission.specs.Writable.{invariantPiece}
-use Rattle.emission.proofs.TableLaws.{size-at}
+use Rattle.emission.specs.Writable.{atomsOf, invariantPiece}
+use Rattle.emission.proofs.TableLaws.{size-at, lent-atoms}
 use mathlib.Core.Path.{_≡_}
-use Prim.Native.Nat.{_-_, _≤_, _<_}
+use Prim.Native.Nat.{_+_, _-_, _≤_, _<_}
 use Rattle.emission.specs.Written.{WroteClauses}
-use Rattle.emission.proofs.ClauseLaws.{wrote-each, wrote-each-none, room-each}
+use Rattle.emission.proofs.ClauseLaws.{wrote-each, wrote-each-none, room-each, wrote-as, room-as}
+use Rattle.emission.proofs.LeafLaws.{atom-fits-by, atoms-by}
 use Rattle.emission.proofs.state.put_invariants.Statement.{statement}
 use Rattle.emission.proofs.state.put_invariants.Tie as tie
 
@@ -48,7 +50,13 @@ put-atoms-requires c κs =
     let start = turn .before .before .before .before in
     let p = start .pre in
     let h : turn .loop .l < sizeAt (start .args .b) 0 = omega (arith, size-at (start .pre .0) 0) in
-    (p .0, omega (arith, size-at (p .0) 0, p .1 .locations-in), p .1 .atoms (turn .loop .l) h, room-each _ _ _ (turn .loop .inv .1) h (p .2))
+    let o = start .args .o in
+    let l = turn .loop .l in (
+      lent-atoms (p .0),
+      omega (arith, size-at (p .0) 0, p .1 .locations-in),
+      (λ k q. atom-fits-by (p .0) o (atomAt (atomsOf (start .args .t4) l) k) (p .1 .atoms l h k q)),
+      room-as (atoms-by (p .0) o (o + l) (atomsOf (start .args .t4) l)) (room-each _ _ _ (turn .loop .inv .1) h (p .2)),
+    )
 
 add-l : tie.Need-add-l Inv-loop μ-loop
 add-l c =
@@ -59,7 +67,13 @@ loop-less : tie.Need-loop-less Inv-loop μ-loop
 loop-less c = search needs
 
 loop-again : tie.Need-loop-again Inv-loop μ-loop
-loop-again c = (omega arith, wrote-each _ _ (c .before .before .before .before .before .before .loop .inv .1) (c .before .put-atoms .ensures))
+loop-again c =
+    let turn = c .before .before .before .before .before .before in
+    let start = turn .before .before .before .before in
+    let a = start .args in
+    let l = turn .loop .l in
+    let same = atoms-by (start .pre .0) (a .o) (a .o + l) (atomsOf (a .t4) l) in
+    (omega arith, wrote-each _ _ (turn .loop .inv .1) (wrote-as same (c .before .put-atoms .ensures)))
 
 same-length : tie.Need-same-length Inv-loop μ-loop
 same-length c = search needs
