@@ -123,7 +123,8 @@ module _ {A : Type 0} where
   pub room-tail : {q mid : List A} {b : ℕ} → Room q mid b → Room q (take (length mid - b) (drop b mid)) 0
   room-tail h = record { room = simp (length-take, length-drop) (omega (arith, h .room)) }
 
-  each-le : (f : ℕ → List A) (i n : ℕ) → i ≤ n → length (each i f) ≤ length (each n f)
+  -- the first pieces are no longer than all
+  pub each-le : (f : ℕ → List A) (i n : ℕ) → i ≤ n → length (each i f) ≤ length (each n f)
   each-le f i n h =
       le-ind (λ (k : ℕ). length (each i f) ≤ length (each k f)) (le-refl (length (each i f)))
       (λ k _ ih. rw (each-suc k f, length-append (each k f) (f k)) (omega arith)) n h

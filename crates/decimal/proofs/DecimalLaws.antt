@@ -97,9 +97,6 @@ digits-most (suc most) n h =
 pub digits-most-five : (n : ℕ) → n < 100000 → length (digits n) ≤ 5
 digits-most-five n h = digits-most 4 n h
 
-pub digits-most-ten : (n : ℕ) → n < 2 ^ 32 → length (digits n) ≤ 10
-digits-most-ten n h = digits-most 9 n (omega arith)
-
 pub digits-most-twenty : (n : ℕ) → n < 2 ^ 64 → length (digits n) ≤ 20
 digits-most-twenty n h = digits-most 19 n (omega arith)
 
@@ -110,6 +107,17 @@ digits-least (suc least) n h =
     let p = pow-succ' 10 least in
     let ten : 10 ≤ n = omega (arith, p, one-le-pow least 10 (omega arith)) in
     omega (arith, length-step n ten, digits-least least (n / 10) (omega (arith, p)))
+
+-- a larger number has no fewer
+pub digits-rise : (k n : ℕ) → n ≤ k → length (digits n) ≤ length (digits k)
+digits-rise =
+    digits-ind (λ k. (n : ℕ) → n ≤ k → length (digits n) ≤ length (digits k))
+    (λ k l n h. omega (arith, length-small k l, length-small n (omega arith)))
+    (λ k l ih n h.
+    ⊎-elim
+    (λ (s : n < 10). omega (arith, length-small n s, digits-some k))
+    (λ (s : 10 ≤ n). omega (arith, length-step n s, length-step k l, ih (n / 10) (omega arith)))
+    (lt-or-le n 10))
 
 -- five steps
 pub length-five : (n : ℕ) → 100000 ≤ n → length (digits n) ≡ length (digits (n / 100000)) + 5

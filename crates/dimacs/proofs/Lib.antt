@@ -1,5 +1,7 @@
-mod Signed
 pub mod LineLaws
+mod RowLaws
+mod BaseLaws
+mod TextLaws
 pub mod ReadBackLaws
 pub mod PageLaws
 pub mod FileLaws

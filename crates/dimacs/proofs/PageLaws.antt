@@ -5,8 +5,7 @@ use Prim.Native.Nat.{ℕ, zero, suc, _+_, _-_, _≤_, _<_, _^_}
 use native.Mathlib.Omega.{arith}
 use lib.Dec.{T}
 use lib.IntN.{ℤ, natAbs}
-use lib.ListN.{length, take, drop}
-use lib.Seq.{take-at}
+use lib.ListN.{length}
 use borrow.Author.Tests.{eq-eqb, ne-eqb}
 use Rattle.model.specs.declared.Model.{Model}
 use Rattle.model.specs.Indexed.{each}
@@ -20,13 +19,11 @@ use Rattle.counts.specs.declared.ListCounts.{ListCounts}
 use Rattle.counts.specs.KnownCounts.{KnownCounts}
 use Rattle.counts.proofs.PieceBounds.{list-clauses-most}
 use Rattle.emission.specs.Cut.{rowPieces, pieceOf}
-use Rattle.emission.specs.Written.{WroteClauses}
 use Rattle.emission.proofs.CutLaws.{cut-joined, row-pieces-most, piece-words-most, piece-inside}
 use Rattle.parts.specs.Numbering.{mostVariables}
 use Rattle.dimacs.specs.File.{linesOf, firstLine, file}
-use Rattle.dimacs.specs.Written.{wordsText, Taken}
 use Rattle.dimacs.specs.Pages.{mostPageBytes, mostPages, rowCount, pagesIn, pageOf}
-use Rattle.dimacs.proofs.LineLaws.{lines-each, lines-are, lines-short, first-line-most}
+use Rattle.dimacs.proofs.LineLaws.{lines-each, lines-short, first-line-most}
 
 module _ (m : Model) (k : ℕ) where
   -- ---- a row and a page by its row's number
@@ -99,30 +96,18 @@ module _ (m : Model) (ok : T (wellFormed m)) (k : ℕ) (h : k ≤ 64) where
   pages-most zero = omega (arith, pages-first m k 0 refl)
   pages-most (suc r) = omega (arith, pages-suc m k r, row-pieces-most m ok k r)
 
-  -- no page is longer than its buffer
+  -- no piece is longer than a page's buffer
+  pub piece-most : (r p : ℕ) → r ≤ k + 1 → p < rowPieces m k r → length (linesOf (pieceOf m k r p)) ≤ mostPageBytes
+  piece-most r p l q =
+      let words = wordsOf (pieceOf m k r p) in
+      let short = lines-short (pieceOf m k r p) (less-than words (piece-inside m ok k r p h l q)) in
+      omega (arith, short, piece-words-most m ok k r p q)
+
+  -- nor is a page
   pub page-most : (r p : ℕ) → r < rowCount k → p < pagesIn m k r → length (pageOf m k r p) ≤ mostPageBytes
   page-most zero p l q = rw (page-first m k 0 p refl) first-most
-  page-most (suc r) p l q =
-      let in-row : p < rowPieces m k r = omega (arith, pages-suc m k r) in
-      let words = wordsOf (pieceOf m k r p) in
-      let short = lines-short (pieceOf m k r p) (less-than words (piece-inside m ok k r p h (omega arith) in-row)) in
-      rw (page-suc m k r p) (omega (arith, short, piece-words-most m ok k r p in-row))
+  page-most (suc r) p l q = rw (page-suc m k r p) (piece-most r p (omega arith) (omega (arith, pages-suc m k r)))
 
--- ---- a page that was taken
-module _ (m : Model) (k r p : ℕ) where
-  -- the first line, by the counts
-  pub first-page : (n : ListCounts) → KnownCounts m k n → r ≡ 0 → firstLine (n .variables) (n .clauses) ≡ pageOf m k r p
-  first-page n known e = (λ i. firstLine (known .variables i) (known .clauses i)) ∙ sym (page-first m k r p e)
-
-  -- the words of a piece
-  pub piece-page : {old new : List ℤ} {n : ℕ} → WroteClauses (pieceOf m k (r - 1) p) old new 0 n → (r ≡ 0 → ⊥) → wordsText (take n new) ≡ pageOf m k r p
-  piece-page {old} {new} {n} w e =
-      let cs = wordsOf (pieceOf m k (r - 1) p) in
-      let long : length cs ≡ n = omega (arith, w .words .ends) in
-      let front : take n new ≡ cs = ap (take n) (w .words .list) ∙ take-at cs (drop n old) n long in
-      ap wordsText front ∙ sym (lines-are (pieceOf m k (r - 1) p)) ∙ sym (page-later m k r p e)
-
-  -- where it ends
-  pub page-ends : T (wellFormed m) → k ≤ 64 → r < rowCount k → p < pagesIn m k r → {text old new : List ℕ} {a e : ℕ} → text ≡ pageOf m k r p
-      → Taken text old new a e → e ≤ a + mostPageBytes
-  page-ends ok h l q t w = omega (arith, w .ends, ap length t, page-most m ok k h r p l q)
+-- ---- the first page, by the counts
+pub first-page : (m : Model) (k r p : ℕ) (n : ListCounts) → KnownCounts m k n → r ≡ 0 → firstLine (n .variables) (n .clauses) ≡ pageOf m k r p
+first-page m k r p n known e = (λ i. firstLine (known .variables i) (known .clauses i)) ∙ sym (page-first m k r p e)

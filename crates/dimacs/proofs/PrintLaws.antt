@@ -13,7 +13,8 @@ use Rattle.model.specs.Form.{wellFormed}
 use Rattle.model.proofs.IndexedLaws.{T-true}
 use Rattle.list.proofs.ListLaws.{each-cong}
 use Rattle.dimacs.specs.File.{file}
-use Rattle.dimacs.specs.Written.{Taken, Printed}
+use Rattle.buffer.specs.Buffers.{Room, Wrote}
+use Rattle.dimacs.specs.Written.{Printed}
 use Rattle.dimacs.specs.Pages.{mostPageBytes, rowCount, pagesIn, pageOf, hasFile, rowsToPrint, pagesToPrint, pageText, printed}
 use Rattle.dimacs.proofs.PageLaws.{pages-joined}
 
@@ -103,7 +104,8 @@ printed-none l e = rw e (record { bytes = refl; fits = omega arith; left = refl 
 pub printed-as : {p q old new : List ℕ} {n : ℕ} → p ≡ q → Printed q old new n → Printed p old new n
 printed-as h w = rw h w
 
-pub page-printed : {text old new : List ℕ} {n : ℕ} → Taken text old new 0 n → length text ≤ mostPageBytes → mostPageBytes ≤ length old → Printed text old new n
-page-printed {text} {old} {new} {n} w h l =
-    let fits : n ≤ length old = omega (arith, w .ends, h, l) in
-    record { bytes = omega (arith, w .ends); fits = fits; left = w .wrote fits .list }
+pub page-room : {text old : List ℕ} → length text ≤ mostPageBytes → mostPageBytes ≤ length old → Room text old 0
+page-room h l = record { room = omega arith }
+
+pub page-printed : {text old new : List ℕ} {n : ℕ} → Wrote text old new 0 n → Printed text old new n
+page-printed w = record { bytes = omega (arith, w .ends); fits = w .fits; left = w .list }

@@ -1,5 +1,7 @@
 pub mod File
 pub mod Written
+pub mod Texts
+pub mod Rows
 pub mod ReadBack
 pub mod DimacsCall
 pub mod Pages

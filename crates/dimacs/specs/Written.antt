@@ -7,7 +7,6 @@ use lib.Dec.{eqb}
 use lib.IntN.{ℤ, natAbs}
 use lib.ListN.{length, drop}
 use Rattle.new_values.specs.NewValues.{isNegative}
-use Rattle.buffer.specs.Buffers.{Wrote}
 use Rattle.decimal.specs.Decimal.{digits, digit}
 use Rattle.dimacs.specs.File.{space, lineFeed}
 
@@ -24,13 +23,6 @@ wordText z =
 -- Words, in order.
 unfoldable pub wordsText : List ℤ → List ℕ
 wordsText ws = flatMap wordText ws
-
--- The text was counted up to `end`, and written if it fits: then it stands from `at` on and nothing else changed. If it does not fit, what the
--- buffer holds is free, but for its length.
-pub record Taken (text old new : List ℕ) (at end : ℕ) : Type 0 where
-  pub ends : end ≡ at + length text
-  pub long : length new ≡ length old
-  pub wrote : end ≤ length old → Wrote text old new at end
 
 -- The text, of n bytes, was written from the start, and nothing else changed.
 pub record Printed (text old new : List ℕ) (n : ℕ) : Type 0 where

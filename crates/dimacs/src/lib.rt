@@ -5,29 +5,36 @@ use form::well_formed;
 use model::Model;
 use model::Totals;
 use pages::pages_of;
-use pages::take_file;
-use pages::take_page;
+use pages::put_page;
 use parts::GroupTable;
 use parts::group_table;
+use rows::file_bytes;
+use rows::put_file;
 use text::BoundRead;
 use text::ReadAnswer;
 use text::read_item;
 ghost use mathlib.Core.Path.{_≡_};
 ghost use Prim.Native.Nat.{_<_, _≤_};
+ghost use lib.Dec.{T};
 ghost use lib.ListN.{length};
 ghost use Rattle.model.specs.Bounds.{KnownTotals};
+ghost use Rattle.model.specs.Form.{wellFormed};
 ghost use Rattle.parts.specs.Pieces.{Known};
 ghost use Rattle.text.specs.Text.{readTold};
 ghost use Rattle.dimacs.specs.DimacsCall.{fileReport, fileLeft, fileTold};
 ghost use Rattle.dimacs.specs.File.{file};
 ghost use Rattle.dimacs.specs.Written.{Needed, Printed};
+ghost use Rattle.dimacs.specs.Texts.{entryCount};
 ghost use Rattle.counts.specs.KnownCounts.{KnownCounts};
 ghost use Rattle.emission.specs.Cut.{mostPieceWords};
+ghost use Rattle.emission.specs.Writable.{Lent};
 ghost use Rattle.dimacs.specs.Pages.{mostPageBytes, mostRows, mostPages, rowCount, pagesIn, pageOf, hasFile, rowsToPrint, pagesToPrint, pageText};
 ghost use Rattle.dimacs.specs.Request.{requestRefused, textRequest, requestReport, requestTold};
 
 mod lines;
 mod pages;
+mod rows;
+mod texts;
 
 // What the call answers.
 pub enum FileAnswer {
@@ -38,8 +45,10 @@ pub enum FileAnswer {
 }
 
 impl FileAnswer {
-    // The most words of a piece, and the most bytes of a page.
+    // The most words of a piece, the entries of a table of texts, and the most bytes of a page.
     pub const WORDS: usize = 6113;
+
+    pub const TEXTS: usize = 1217;
 
     pub const PAGE: usize = 65536;
 
@@ -72,21 +81,72 @@ fn bytes_needed(
     z: Totals,
     b: GroupTable,
     n: ListCounts,
+    one: ListCounts,
+    first: &[u16],
+    size: &[u16],
     bound: usize,
     words: &mut [i32],
+    texts: &mut [u64],
     room: usize,
 ) -> usize
-    requires { ⌜ Known m b × KnownTotals m z × KnownCounts m bound n × (bound ≤ 64) × (mostPieceWords ≤ length (now words)) ⌝ }
-    ensures { λ r. ⌜ Needed (file m bound) room r × (length (now (words .exit)) ≡ length (now (words .entry))) ⌝ }
+    requires { ⌜ Known m b × KnownTotals m z × KnownCounts m bound n × KnownCounts m 1 one × Lent b (now first) (now size) × (bound ≤ 64) × (mostPieceWords ≤ length (now words)) × (length (now texts) ≡ entryCount) ⌝ }
+    ensures { λ r. ⌜ Needed (file m bound) room r × (length (now (words .exit)) ≡ length (now (words .entry))) × (length (now (texts .exit)) ≡ entryCount) ⌝ }
 {
     if 7 * n.words + 48 <= room {
         return 0;
     }
-    let mut none = [0u8; 1];
-    take_file(m, z, b, n, bound, words, &mut none)
+    file_bytes(m, z, b, n, one, first, size, bound, words, texts)
 }
 
-// The file for `bound`: 20, 21, 32. Where it might not fit, it is counted before its first byte is written.
+// The file, if it fits, of a well-formed record and a bound of at most 64: 32. Where it might not fit, it is counted before its first byte is written.
+fn write_if_it_fits(m: Model, z: Totals, bound: usize, out: &mut [u8]) -> FileAnswer
+    requires { ⌜ T (wellFormed m) × KnownTotals m z × (bound ≤ 64) ⌝ }
+    ensures { λ r. ⌜ fileTold r ≡ fileReport m bound (length (now (out .entry))) ⌝ }
+    ensures { λ r. ⌜ now (out .exit) ≡ fileLeft m bound (now (out .entry)) ⌝ }
+{
+    let b = group_table(m, z);
+    let n = list_counts(m, z, b, bound);
+    let one = list_counts(m, z, b, 1);
+    let firsts = b.first;
+    let sizes = b.size;
+    let first: &[u16] = &firsts;
+    let size: &[u16] = &sizes;
+    let mut words = [0i32; FileAnswer::WORDS];
+    let mut texts = [0u64; FileAnswer::TEXTS];
+    let room = out.len();
+    let needed = bytes_needed(
+        m,
+        z,
+        b,
+        n,
+        one,
+        first,
+        size,
+        bound,
+        &mut words,
+        &mut texts,
+        room,
+    );
+    if room < needed {
+        return FileAnswer::BufferTooShort { bytes: needed };
+    }
+    let bytes = put_file(
+        m,
+        z,
+        b,
+        n,
+        one,
+        first,
+        size,
+        bound,
+        &mut words,
+        &mut texts,
+        out,
+    );
+    FileAnswer::Written { bytes }
+}
+
+// The file for `bound`: 20, 21, 32.
 pub fn write_file(m: Model, bound: usize, out: &mut [u8]) -> FileAnswer
     ensures { λ r. ⌜ fileTold r ≡ fileReport m bound (length (now (out .entry))) ⌝ }
     ensures { λ r. ⌜ now (out .exit) ≡ fileLeft m bound (now (out .entry)) ⌝ }
@@ -97,16 +157,7 @@ pub fn write_file(m: Model, bound: usize, out: &mut [u8]) -> FileAnswer
     if Model::STEPS < bound {
         return FileAnswer::BoundTooLarge;
     }
-    let z = m.totals();
-    let b = group_table(m, z);
-    let n = list_counts(m, z, b, bound);
-    let mut words = [0i32; FileAnswer::WORDS];
-    let needed = bytes_needed(m, z, b, n, bound, &mut words, out.len());
-    if out.len() < needed {
-        return FileAnswer::BufferTooShort { bytes: needed };
-    }
-    let bytes = take_file(m, z, b, n, bound, &mut words, out);
-    FileAnswer::Written { bytes }
+    write_if_it_fits(m, m.totals(), bound, out)
 }
 
 // There is a file: neither 20 nor 21.
@@ -159,7 +210,21 @@ fn written_page(
     let first: &[u16] = &firsts;
     let size: &[u16] = &sizes;
     let mut words = [0i32; FileAnswer::WORDS];
-    take_page(m, z, b, n, first, size, bound, row, p, &mut words, out, 0)
+    let mut texts = [0u64; FileAnswer::TEXTS];
+    put_page(
+        m,
+        z,
+        b,
+        n,
+        first,
+        size,
+        bound,
+        row,
+        p,
+        &mut words,
+        &mut texts,
+        out,
+    )
 }
 
 // Page `p` of row `row`: nothing where there is no file or no such page, and in a buffer of less than a page.
