@@ -68,7 +68,7 @@ pub record HasText (texts : List ℕ) (z : ℤ) : Type 0 where
 unfoldable pub raisedWord : ℕ → ℤ → ℤ
 raisedWord o z = cond (eqb (natAbs z) 0) (pos 0) (cond (isNegative z) (negℤ (pos (o + natAbs z))) (pos (o + natAbs z)))
 
--- The table of the words of up to n variables, raised by o.
+-- The table of the words of up to n variables, raised by o. The entries of other words are free.
 pub record TextsOf (o n : ℕ) (texts : List ℕ) : Type 0 where
   pub long : length texts ≡ entryCount
   pub texts-are : (z : ℤ) → natAbs z ≤ n → entryText texts z ≡ wordText (raisedWord o z)

@@ -1,6 +1,6 @@
 // The clause list as text, row after row: row 0 is the start, then the steps, then the end. A row is written from the words of the row of its kind
 // that begins at the first state block, with a table of the texts of its own numbers. A row of few enough words is written at once, and the words of
-// one step are those of all; else piece after piece.
+// one step are those of all; else piece after piece. What `words` and `texts` hold afterwards is free, but for how long they are.
 use crate::FileAnswer;
 use crate::lines::first_line_bytes;
 use crate::lines::put_first_line;
@@ -18,7 +18,7 @@ use parts::GroupTable;
 use parts::numbering::block_start;
 ghost use mathlib.Core.Path.{_≡_};
 ghost use mathlib.Core.Bool.{true};
-ghost use Prim.Native.Nat.{ℕ, _+_, _*_, _-_, _<_, _≤_, _^_};
+ghost use Prim.Native.Nat.{_+_, _-_, _<_, _≤_};
 ghost use lib.Dec.{T};
 ghost use lib.ListN.{length};
 ghost use Rattle.model.specs.Indexed.{each};

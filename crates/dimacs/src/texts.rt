@@ -1,7 +1,7 @@
 // Words as text, by a table of the texts of numbers: each clause a line. An entry of the table is a text of at most 7 bytes, the first byte
 // lowest; the highest byte says how many they are.
 ghost use mathlib.Core.Path.{_≡_};
-ghost use Prim.Native.Nat.{ℕ, _+_, _*_, _/_, _%_, _<_, _≤_, _^_};
+ghost use Prim.Native.Nat.{_+_, _*_, _/_, _%_, _<_, _≤_, _^_};
 ghost use lib.IntN.{natAbs};
 ghost use lib.ListN.{length, take, getD};
 ghost use Rattle.list.specs.Lists.{All};

@@ -11,7 +11,7 @@ use model::Relation;
 use parts::GroupTable;
 ghost use mathlib.Core.Path.{_≡_};
 ghost use mathlib.Core.List.{_++_};
-ghost use Prim.Native.Nat.{ℕ, _+_, _<_, _≤_};
+ghost use Prim.Native.Nat.{ℕ, _+_, _<_};
 ghost use Rattle.model.specs.Indexed.{each};
 ghost use Rattle.model.specs.Record.{atomAt};
 ghost use Rattle.parts.specs.Numbering.{mostVariables};
