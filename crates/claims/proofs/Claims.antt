@@ -1,22 +1,40 @@
 -- What is claimed of the calls, the page to read first: demands 2 and 3 and the corollary on the shortest run, of the words that emission leaves in the
 -- lent buffer, of any solver's assignment to them, and of what the conversions and the walker answer and leave; that the DIMACS file has those words; the
--- same of the calls for C on a text; and the rows. specs/Words.antt, Calls.antt, Files.antt, Texts.antt and Cases.antt say what the statements mean; each
--- proof is cited.
+-- same of the calls for C on a text; that updates happen in their written order; and the rows. specs/Words.antt, Calls.antt, Files.antt, Texts.antt and
+-- Cases.antt say what the statements mean; each proof is cited.
 use mathlib.Core.Path.{_≡_}
-use mathlib.Core.List.{List}
+use mathlib.Core.Logic.{_↔_}
+use mathlib.Core.List.{List, _++_}
+use mathlib.Core.Option.{some}
 use Prim.Native.Nat.{ℕ, _≤_}
 use lib.Dec.{T}
 use lib.IntN.{ℤ}
 use lib.ListN.{length, take}
+use Rattle.model.specs.declared.Counter.{Counter}
+use Rattle.model.specs.declared.Edge.{Edge}
 use Rattle.model.specs.declared.Model.{Model}
-use Rattle.model.specs.Automaton.{variables}
+use Rattle.model.specs.declared.State.{State}
+use Rattle.model.specs.Indexed.{each}
+use Rattle.model.specs.Record.{updateAt}
+use Rattle.model.specs.Automaton.{variables, value, counter, listed, updated, edgeStep}
 use Rattle.model.specs.Form.{wellFormed}
+use Rattle.model.proofs.FormLaws.{WellFormed, WellFormedEdge}
+use Rattle.model.proofs.StepLaws
+use Rattle.model.proofs.StepLaws.{Shaped, EdgeBy, NoneEarlier}
 use Rattle.list.specs.Lists.{All}
+use Rattle.list.specs.Items.{sourceItems, targetItems, guardItems, resetsItems, edgeItems}
 use Rattle.list.specs.Clauses.{clauses, words}
 use Rattle.list.specs.Assignments.{satisfied}
 use Rattle.emission.specs.EmitCall.{EmitReport}
 use Rattle.dimacs.specs.DimacsCall.{FileReport}
 use Rattle.dimacs.specs.File.{file}
+use Rattle.list.proofs.SourcesBefore
+use Rattle.list.proofs.SourcesBefore.{itemsFromBefore}
+use Rattle.text.specs.bytes.Faulty.{faultNumber}
+use Rattle.text.specs.declared.updates.SetRead.{SetRead}
+use Rattle.text.specs.updates.Sets.{setFaults, updateSlots, orderSlots}
+use Rattle.text.specs.updates.Written.{afterItems}
+use Rattle.text.proofs.Laws.Written
 use Rattle.samples.specs.Models.{modelB}
 use Rattle.claims.specs.Words.{clausesIn, readBack, wordsTrue}
 use Rattle.claims.specs.Calls.{Calls, callsWith, recordCalls, Emitted, variablesTold, clausesTold, wordsLeft, ListSolvable, NamesVariable}
@@ -134,6 +152,25 @@ text-shortest = Texts.text-shortest
 -- No call for C answers 20.
 pub never-20 : Never20
 never-20 = Texts.never-20
+
+-- ---- updates in their written order
+-- The counters after the updates of an edge are the fold over the items of its set line, as they are written: each reads what those before it left, and
+-- the first that leaves its range refuses the edge.
+pub written-order : (vars : ℕ) (items : List SetRead) → vars ≤ 4 → faultNumber (setFaults vars items) ≡ 0
+    → (x : Edge) → x .updates ≡ updateSlots items → x .order ≡ orderSlots items
+    → (counters : List Counter) (vs : List ℕ) → updated counters x vs (listed x) ≡ afterItems counters vs items
+written-order = Written.updated-items
+
+-- An edge in which no update reads a counter that is set earlier steps as if all updates read the values from before the edge, and is listed so.
+pub no-earlier-steps : (m : Model) → WellFormed m → (e : Edge) → WellFormedEdge m e → (s t : State) → Shaped m s → NoneEarlier m e
+    → (edgeStep m e s ≡ some t) ↔ EdgeBy (λ i w. value s (counter w)) m e s t
+no-earlier-steps = StepLaws.no-earlier-steps
+
+pub no-earlier-lists : (width : ℕ → ℕ) (m : Model) (o c : ℕ) (e : Edge) → NoneEarlier m e
+    → edgeItems width m o c e
+    ≡ sourceItems width m o c e ++ targetItems width m o c e ++ guardItems width m o c e ++ each (m .vars) (λ i. itemsFromBefore width m o c i (updateAt e i))
+    ++ resetsItems width m o c e
+no-earlier-lists = SourcesBefore.no-earlier-lists
 
 -- ---- the rows
 -- P1 to P10, and the lists of the small models: every row holds.

@@ -1,11 +1,11 @@
 -- The rows, by evaluation: every definition that they reach is unfolded.
 use mathlib.Core.List.{flatMap}
 use lib.Dec.{T}
-use Rattle.model.specs.Indexed.{each, listBelow, allBelow, maxBelow, sumBelow}
+use Rattle.model.specs.Indexed.{each, listBelow, allBelow, maxBelow, sumBelow, firstBelow}
 use Rattle.model.specs.Automaton.{greatestConstant, ceiling, stateSize, choices, variables, allHold, invariantHolds, initialState, delayed, delayStep}
-use Rattle.model.specs.Automaton.{countersInRange, afterEdge, edgeAllowed, edgeStep, step}
+use Rattle.model.specs.Automaton.{listed, applied, updated, placeIn, setEarlier, afterEdge, edgeAllowed, edgeStep, step}
 use Rattle.model.specs.Run.{walk, start, isRun}
-use Rattle.model.specs.Form.{wellFormed, headFormed, eachFormed, filledFromFirst, atomsFormed, updatesFormed, resetsFormed, edgeFormed}
+use Rattle.model.specs.Form.{wellFormed, headFormed, eachFormed, filledFromFirst, atomsFormed, updatesFormed, orderFormed, resetsFormed, edgeFormed}
 use Rattle.model.specs.Form.{countersFormed, invariantsFormed, edgesFormed}
 use Rattle.list.specs.Items.{groupItems, invariantItems, stateItems, initialItems, startItems, choiceItems, delayItems, delaysItems, sourceItems}
 use Rattle.list.specs.Items.{targetItems, guardItems, updatesItems, resetsItems, edgeItems, edgesItems, stepItems, endItems, bodyItems, items}
@@ -16,15 +16,17 @@ use Rattle.encode.specs.EncodeCall.{encodeReport, encodeLeft}
 use Rattle.decode.specs.DecodeCall.{firstWrongByte, decodeReport, decodeLeft}
 use Rattle.emission.specs.EmitCall.{emitReport, emitLeft}
 use Rattle.samples.specs.Models.{modelA, waitingA, modelB}
-use Rattle.claims.specs.RowModels.{clockRelations, counterRelations, counterUpdates, twoOfEach}
+use Rattle.claims.specs.RowModels.{clockRelations, counterRelations, counterUpdates, twoOfEach, raisedThenCopied, copiedThenRaised, twoOrders}
 use Rattle.claims.specs.RowWords.{clockRelationsWords, counterRelationsWords, counterUpdatesWords, twoOfEachWords}
+use Rattle.claims.specs.RowWords.{raisedThenCopiedWords, copiedThenRaisedWords, twoOrdersWords}
 use Rattle.claims.specs.Cases.{holds, rows, allRowsHold}
 
 pub all-rows : T allRowsHold
-unfolding modelA waitingA modelB clockRelations counterRelations counterUpdates twoOfEach clockRelationsWords counterRelationsWords counterUpdatesWords
-    twoOfEachWords flatMap each listBelow allBelow maxBelow sumBelow greatestConstant ceiling stateSize choices variables allHold invariantHolds
-    initialState delayed delayStep countersInRange afterEdge edgeAllowed edgeStep step walk start isRun wellFormed headFormed eachFormed filledFromFirst
-    atomsFormed updatesFormed resetsFormed edgeFormed countersFormed invariantsFormed edgesFormed groupItems invariantItems stateItems initialItems
+unfolding modelA waitingA modelB clockRelations counterRelations counterUpdates twoOfEach raisedThenCopied copiedThenRaised twoOrders clockRelationsWords
+    counterRelationsWords counterUpdatesWords twoOfEachWords raisedThenCopiedWords copiedThenRaisedWords twoOrdersWords flatMap each listBelow allBelow
+    maxBelow sumBelow firstBelow greatestConstant ceiling stateSize choices variables allHold invariantHolds initialState delayed delayStep listed applied
+    updated placeIn setEarlier afterEdge edgeAllowed edgeStep step walk start isRun wellFormed headFormed eachFormed filledFromFirst atomsFormed
+    updatesFormed orderFormed resetsFormed edgeFormed countersFormed invariantsFormed edgesFormed groupItems invariantItems stateItems initialItems
     startItems choiceItems delayItems delaysItems sourceItems targetItems guardItems updatesItems resetsItems edgeItems edgesItems stepItems endItems
     bodyItems items clauseWords wordsOf one members pairs groupClauses clauses words satisfied trueBefore firstFalse placeOfTrue runOf stateBytes
     stepsBytes assignmentOf walkSteps walkReport encodeReport encodeLeft firstWrongByte decodeReport decodeLeft emitReport emitLeft holds rows allRowsHold

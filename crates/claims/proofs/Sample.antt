@@ -6,11 +6,11 @@ use native.Mathlib.Omega.{arith}
 use lib.Dec.{T}
 use lib.IntN.{pos}
 use lib.ListN.{length, replicate, length-replicate}
-use Rattle.model.specs.Indexed.{listBelow, allBelow, maxBelow}
-use Rattle.model.specs.Automaton.{greatestConstant, ceiling, choices, allHold, invariantHolds, initialState, delayed, delayStep, countersInRange}
-use Rattle.model.specs.Automaton.{afterEdge, edgeAllowed, edgeStep, step}
+use Rattle.model.specs.Indexed.{listBelow, allBelow, maxBelow, sumBelow, firstBelow}
+use Rattle.model.specs.Automaton.{greatestConstant, ceiling, choices, allHold, invariantHolds, initialState, delayed, delayStep, listed, applied}
+use Rattle.model.specs.Automaton.{updated, placeIn, afterEdge, edgeAllowed, edgeStep, step}
 use Rattle.model.specs.Run.{walk, start, isRun}
-use Rattle.model.specs.Form.{wellFormed, headFormed, eachFormed, filledFromFirst, atomsFormed, updatesFormed, resetsFormed, edgeFormed}
+use Rattle.model.specs.Form.{wellFormed, headFormed, eachFormed, filledFromFirst, atomsFormed, updatesFormed, orderFormed, resetsFormed, edgeFormed}
 use Rattle.model.specs.Form.{countersFormed, invariantsFormed, edgesFormed}
 use Rattle.list.specs.Clauses.{words}
 use Rattle.list.specs.Demands.{RunOfSteps}
@@ -20,13 +20,13 @@ use Rattle.claims.proofs.Accepted.{emits}
 use Rattle.claims.proofs.CallProofs.{demand-2}
 
 pub B-formed : T (wellFormed modelB)
-unfolding modelB allBelow wellFormed headFormed eachFormed filledFromFirst atomsFormed updatesFormed resetsFormed edgeFormed
-    countersFormed invariantsFormed edgesFormed
+unfolding modelB allBelow sumBelow firstBelow listed placeIn wellFormed headFormed eachFormed filledFromFirst atomsFormed updatesFormed orderFormed
+    resetsFormed edgeFormed countersFormed invariantsFormed edgesFormed
 B-formed = tt
 
 B-run : RunOfSteps modelB 3 (5 ∷ 3 ∷ 7 ∷ [])
-unfolding modelB listBelow allBelow maxBelow greatestConstant ceiling choices allHold invariantHolds initialState delayed
-    delayStep countersInRange afterEdge edgeAllowed edgeStep step walk start isRun
+unfolding modelB listBelow allBelow maxBelow sumBelow greatestConstant ceiling choices allHold invariantHolds initialState delayed
+    delayStep listed applied updated afterEdge edgeAllowed edgeStep step walk start isRun
 B-run = record { long = refl; ends = tt }
 
 pub B-emitted : Emitted (recordCalls modelB) 3

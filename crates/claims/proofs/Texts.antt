@@ -12,7 +12,7 @@ use lib.ListN.{length, drop}
 use borrow.Author.Tests.{eq-eqb, eqb-true}
 use Rattle.model.specs.declared.Model.{Model}
 use Rattle.model.specs.declared.State.{State}
-use Rattle.model.specs.Indexed.{maybe}
+use Rattle.model.specs.Indexed.{listBelow, allBelow, maybe}
 use Rattle.model.specs.Record.{blankModel}
 use Rattle.model.specs.Automaton.{choices, variables, initialState, step}
 use Rattle.model.specs.Form.{wellFormed, stateFormed}
@@ -34,7 +34,7 @@ use Rattle.text.specs.declared.bytes.NumberRead.the-variants.{Malformed, Number
 use Rattle.text.specs.bytes.Faulty.{faultNumber, lineNumber, anyOf, risesFrom}
 use Rattle.text.specs.declared.bytes.Faults.{Faults}
 use Rattle.text.specs.atoms.Atoms.{relationAt, atomOf, atomFaults, atomSlots, invItems, whenItems}
-use Rattle.text.specs.updates.Sets.{sumOf, setTo, setOf, setFaults, updateSlots, setItems}
+use Rattle.text.specs.updates.Sets.{sumOf, setTo, setOf, timesSet, setTwice, setFaults, updateSlots, orderSlots, setItems}
 use Rattle.text.specs.resets.Resets.{resetOf, resetFaults, resetSlots, resetItems}
 use Rattle.text.specs.line.Values.{numberFaults, referenceFaults, counterFaults}
 use Rattle.text.specs.lines.Store.{withLocations, withInitial, withTarget, withClocks, withVars, withUsed, withCounter, withInvariant, withEdge, withSource}
@@ -56,7 +56,7 @@ use Rattle.wirdoku.specs.declared.StateAnswer.{StateAnswer}
 use Rattle.claims.specs.Calls.{Calls, recordCalls, Emitted, EmittedWords, EmittedDemand2, EmittedDemand3, EmittedShortest}
 use Rattle.claims.specs.Files.{Filed, FiledBytes}
 use Rattle.claims.specs.Texts.{countsIn, fileIn, textCalls, IsRead, Not20, Never20, RowTexts}
-use Rattle.claims.specs.RowModels.{clockRelations, counterRelations, counterUpdates, twoOfEach}
+use Rattle.claims.specs.RowModels.{clockRelations, counterRelations, counterUpdates, twoOfEach, raisedThenCopied, copiedThenRaised, twoOrders}
 use Rattle.claims.proofs.Accepted.{emits}
 use Rattle.claims.proofs.CallProofs.{words-are, demand-2, demand-3, shortest}
 use Rattle.claims.proofs.Files.{files, filed-bytes}
@@ -382,10 +382,19 @@ never-20 = record {
 
 -- ---- the small models
 pub row-texts : RowTexts
-unfolding firstAt startsWith isDue valueOf numberOf digitsOf splitOn isHyphen itemsOf faultNumber lineNumber anyOf risesFrom relationAt atomOf atomFaults
-    atomSlots invItems whenItems sumOf setTo setOf setFaults updateSlots setItems resetOf resetFaults resetSlots resetItems numberFaults
-    referenceFaults counterFaults withLocations withInitial withTarget withClocks withVars withUsed withCounter withInvariant withEdge withSource
-    withEdgeTarget withGuard withUpdates withResets readLine locationsLine initLine targetLine clocksLine varsLine varLine invLine edgesLine fromLine
-    toLine whenLine setLine resetLine inTurn readHead readCounters readInvariants readEdge readEdges readLines readEnded readReport blankModel
-    clockRelations counterRelations counterUpdates twoOfEach
-row-texts = record { clock-relations = refl; counter-relations = refl; counter-updates = refl; two-of-each = refl }
+unfolding listBelow allBelow firstAt startsWith isDue valueOf numberOf digitsOf splitOn isHyphen itemsOf faultNumber lineNumber anyOf risesFrom
+    relationAt atomOf atomFaults atomSlots invItems whenItems sumOf setTo setOf timesSet setTwice setFaults updateSlots orderSlots setItems resetOf
+    resetFaults resetSlots resetItems numberFaults referenceFaults counterFaults withLocations withInitial withTarget withClocks withVars withUsed
+    withCounter withInvariant withEdge withSource withEdgeTarget withGuard withUpdates withResets readLine locationsLine initLine targetLine
+    clocksLine varsLine varLine invLine edgesLine fromLine toLine whenLine setLine resetLine inTurn readHead readCounters readInvariants readEdge
+    readEdges readLines readEnded readReport blankModel clockRelations counterRelations counterUpdates twoOfEach raisedThenCopied copiedThenRaised
+    twoOrders
+row-texts = record {
+  clock-relations = refl;
+  counter-relations = refl;
+  counter-updates = refl;
+  two-of-each = refl;
+  raised-then-copied = refl;
+  copied-then-raised = refl;
+  two-orders = refl;
+}

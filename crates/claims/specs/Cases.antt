@@ -20,8 +20,9 @@ use Rattle.encode.specs.EncodeCall.{encodeReport, encodeLeft}
 use Rattle.decode.specs.DecodeCall.{decodeReport, decodeLeft}
 use Rattle.emission.specs.EmitCall.{EmitReport, emitReport, emitLeft}
 use Rattle.samples.specs.Models.{modelA, waitingA, modelB}
-use Rattle.claims.specs.RowModels.{clockRelations, counterRelations, counterUpdates, twoOfEach}
+use Rattle.claims.specs.RowModels.{clockRelations, counterRelations, counterUpdates, twoOfEach, raisedThenCopied, copiedThenRaised, twoOrders}
 use Rattle.claims.specs.RowWords.{neg, end, clockRelationsWords, counterRelationsWords, counterUpdatesWords, twoOfEachWords}
+use Rattle.claims.specs.RowWords.{raisedThenCopiedWords, copiedThenRaisedWords, twoOrdersWords}
 
 -- ---- what a row may say
 pub data Fact : Type 0 where
@@ -104,6 +105,7 @@ P n f = record { number = n; says = f }
 unfoldable pub rows : List Row
 rows =
     P 0 (areFormed (modelA ∷ waitingA ∷ modelB ∷ clockRelations ∷ counterRelations ∷ counterUpdates ∷ twoOfEach ∷ [])) ∷
+    P 0 (areFormed (raisedThenCopied ∷ copiedThenRaised ∷ twoOrders ∷ [])) ∷
     P 1 (countsAre modelA 0 2 4 10) ∷
     P 1 (satisfiedBy modelA 0 []) ∷
     P 2 (wordsAre modelA 1 (
@@ -127,7 +129,15 @@ rows =
     P 0 (wordsAre clockRelations 1 clockRelationsWords) ∷
     P 0 (wordsAre counterRelations 1 counterRelationsWords) ∷
     P 0 (wordsAre counterUpdates 1 counterUpdatesWords) ∷
-    P 0 (wordsAre twoOfEach 1 twoOfEachWords) ∷ []
+    P 0 (wordsAre twoOfEach 1 twoOfEachWords) ∷
+    P 0 (countsAre raisedThenCopied 1 15 38 126) ∷
+    P 0 (wordsAre raisedThenCopied 1 raisedThenCopiedWords) ∷
+    P 0 (decodesTo raisedThenCopied 1 (1 ∷ 0 ∷ 1 ∷ 0 ∷ 1 ∷ 0 ∷ 0 ∷ 0 ∷ 1 ∷ 0 ∷ 1 ∷ 0 ∷ 1 ∷ 0 ∷ 1 ∷ []) (2 ∷ [])) ∷
+    P 0 (wordsAre copiedThenRaised 1 copiedThenRaisedWords) ∷
+    P 0 (decodesTo copiedThenRaised 1 (1 ∷ 0 ∷ 1 ∷ 0 ∷ 1 ∷ 0 ∷ 0 ∷ 0 ∷ 1 ∷ 0 ∷ 1 ∷ 0 ∷ 1 ∷ 1 ∷ 0 ∷ []) (2 ∷ [])) ∷
+    P 0 (wordsAre twoOrders 1 twoOrdersWords) ∷
+    P 0 (decodesTo twoOrders 1 (1 ∷ 1 ∷ 0 ∷ 0 ∷ 1 ∷ 0 ∷ 0 ∷ 1 ∷ 0 ∷ 1 ∷ 0 ∷ 1 ∷ 0 ∷ 1 ∷ []) (2 ∷ [])) ∷
+    P 0 (runRefused twoOrders (3 ∷ 3 ∷ []) 28 2) ∷ []
 
 -- Every row holds.
 unfoldable pub allRowsHold : Bool

@@ -74,3 +74,36 @@ twoOfEachWords =
     neg 20 ∷ neg 21 ∷ end ∷ pos 22 ∷ pos 23 ∷ pos 24 ∷ end ∷ neg 22 ∷ neg 23 ∷ end ∷ neg 22 ∷ neg 24 ∷ end ∷ neg 23 ∷ neg 24 ∷ end ∷
     pos 25 ∷ pos 26 ∷ pos 27 ∷ end ∷ neg 25 ∷ neg 26 ∷ end ∷ neg 25 ∷ neg 27 ∷ end ∷ neg 26 ∷ neg 27 ∷ end ∷ pos 28 ∷ pos 29 ∷ pos 30 ∷ end ∷
     neg 28 ∷ neg 29 ∷ end ∷ neg 28 ∷ neg 30 ∷ end ∷ neg 29 ∷ neg 30 ∷ end ∷ neg 18 ∷ neg 30 ∷ end ∷ pos 18 ∷ end ∷ []
+
+unfoldable pub raisedThenCopiedWords : List ℤ
+raisedThenCopiedWords =
+    pos 1 ∷ pos 2 ∷ end ∷ neg 1 ∷ neg 2 ∷ end ∷ pos 3 ∷ pos 4 ∷ end ∷ neg 3 ∷ neg 4 ∷ end ∷ pos 5 ∷ pos 6 ∷ end ∷ neg 5 ∷ neg 6 ∷ end ∷ pos 1 ∷ end ∷
+    pos 3 ∷ end ∷ pos 5 ∷ end ∷ pos 7 ∷ pos 8 ∷ pos 9 ∷ end ∷ neg 7 ∷ neg 8 ∷ end ∷ neg 7 ∷ neg 9 ∷ end ∷ neg 8 ∷ neg 9 ∷ end ∷
+    neg 7 ∷ neg 1 ∷ pos 10 ∷ end ∷ neg 7 ∷ neg 2 ∷ pos 11 ∷ end ∷ neg 7 ∷ neg 3 ∷ pos 12 ∷ end ∷ neg 7 ∷ neg 4 ∷ pos 13 ∷ end ∷
+    neg 7 ∷ neg 5 ∷ pos 14 ∷ end ∷ neg 7 ∷ neg 6 ∷ pos 15 ∷ end ∷ neg 8 ∷ neg 1 ∷ pos 10 ∷ end ∷ neg 8 ∷ neg 2 ∷ pos 11 ∷ end ∷
+    neg 8 ∷ neg 3 ∷ pos 12 ∷ end ∷ neg 8 ∷ neg 4 ∷ pos 13 ∷ end ∷ neg 8 ∷ neg 5 ∷ pos 14 ∷ end ∷ neg 8 ∷ neg 6 ∷ pos 15 ∷ end ∷ neg 9 ∷ pos 1 ∷ end ∷
+    neg 9 ∷ pos 11 ∷ end ∷ neg 9 ∷ neg 3 ∷ pos 13 ∷ end ∷ neg 9 ∷ neg 4 ∷ end ∷ neg 9 ∷ neg 12 ∷ pos 14 ∷ end ∷ neg 9 ∷ neg 13 ∷ pos 15 ∷ end ∷
+    pos 10 ∷ pos 11 ∷ end ∷ neg 10 ∷ neg 11 ∷ end ∷ pos 12 ∷ pos 13 ∷ end ∷ neg 12 ∷ neg 13 ∷ end ∷ pos 14 ∷ pos 15 ∷ end ∷ neg 14 ∷ neg 15 ∷ end ∷
+    pos 11 ∷ end ∷ []
+
+unfoldable pub copiedThenRaisedWords : List ℤ
+copiedThenRaisedWords =
+    pos 1 ∷ pos 2 ∷ end ∷ neg 1 ∷ neg 2 ∷ end ∷ pos 3 ∷ pos 4 ∷ end ∷ neg 3 ∷ neg 4 ∷ end ∷ pos 5 ∷ pos 6 ∷ end ∷ neg 5 ∷ neg 6 ∷ end ∷ pos 1 ∷ end ∷
+    pos 3 ∷ end ∷ pos 5 ∷ end ∷ pos 7 ∷ pos 8 ∷ pos 9 ∷ end ∷ neg 7 ∷ neg 8 ∷ end ∷ neg 7 ∷ neg 9 ∷ end ∷ neg 8 ∷ neg 9 ∷ end ∷
+    neg 7 ∷ neg 1 ∷ pos 10 ∷ end ∷ neg 7 ∷ neg 2 ∷ pos 11 ∷ end ∷ neg 7 ∷ neg 3 ∷ pos 12 ∷ end ∷ neg 7 ∷ neg 4 ∷ pos 13 ∷ end ∷
+    neg 7 ∷ neg 5 ∷ pos 14 ∷ end ∷ neg 7 ∷ neg 6 ∷ pos 15 ∷ end ∷ neg 8 ∷ neg 1 ∷ pos 10 ∷ end ∷ neg 8 ∷ neg 2 ∷ pos 11 ∷ end ∷
+    neg 8 ∷ neg 3 ∷ pos 12 ∷ end ∷ neg 8 ∷ neg 4 ∷ pos 13 ∷ end ∷ neg 8 ∷ neg 5 ∷ pos 14 ∷ end ∷ neg 8 ∷ neg 6 ∷ pos 15 ∷ end ∷ neg 9 ∷ pos 1 ∷ end ∷
+    neg 9 ∷ pos 11 ∷ end ∷ neg 9 ∷ neg 3 ∷ pos 13 ∷ end ∷ neg 9 ∷ neg 4 ∷ end ∷ neg 9 ∷ neg 3 ∷ pos 14 ∷ end ∷ neg 9 ∷ neg 4 ∷ pos 15 ∷ end ∷
+    pos 10 ∷ pos 11 ∷ end ∷ neg 10 ∷ neg 11 ∷ end ∷ pos 12 ∷ pos 13 ∷ end ∷ neg 12 ∷ neg 13 ∷ end ∷ pos 14 ∷ pos 15 ∷ end ∷ neg 14 ∷ neg 15 ∷ end ∷
+    pos 11 ∷ end ∷ []
+
+unfoldable pub twoOrdersWords : List ℤ
+twoOrdersWords =
+    pos 1 ∷ end ∷ pos 2 ∷ pos 3 ∷ end ∷ neg 2 ∷ neg 3 ∷ end ∷ pos 4 ∷ pos 5 ∷ end ∷ neg 4 ∷ neg 5 ∷ end ∷ pos 1 ∷ end ∷ pos 2 ∷ end ∷ pos 5 ∷ end ∷
+    pos 6 ∷ pos 7 ∷ pos 8 ∷ pos 9 ∷ end ∷ neg 6 ∷ neg 7 ∷ end ∷ neg 6 ∷ neg 8 ∷ end ∷ neg 6 ∷ neg 9 ∷ end ∷ neg 7 ∷ neg 8 ∷ end ∷ neg 7 ∷ neg 9 ∷ end ∷
+    neg 8 ∷ neg 9 ∷ end ∷ neg 6 ∷ neg 1 ∷ pos 10 ∷ end ∷ neg 6 ∷ neg 2 ∷ pos 11 ∷ end ∷ neg 6 ∷ neg 3 ∷ pos 12 ∷ end ∷ neg 6 ∷ neg 4 ∷ pos 13 ∷ end ∷
+    neg 6 ∷ neg 5 ∷ pos 14 ∷ end ∷ neg 7 ∷ neg 1 ∷ pos 10 ∷ end ∷ neg 7 ∷ neg 2 ∷ pos 11 ∷ end ∷ neg 7 ∷ neg 3 ∷ pos 12 ∷ end ∷
+    neg 7 ∷ neg 4 ∷ pos 13 ∷ end ∷ neg 7 ∷ neg 5 ∷ pos 14 ∷ end ∷ neg 8 ∷ pos 1 ∷ end ∷ neg 8 ∷ pos 10 ∷ end ∷ neg 8 ∷ neg 4 ∷ pos 11 ∷ end ∷
+    neg 8 ∷ neg 5 ∷ pos 12 ∷ end ∷ neg 8 ∷ neg 11 ∷ pos 13 ∷ end ∷ neg 8 ∷ neg 12 ∷ pos 14 ∷ end ∷ neg 9 ∷ pos 1 ∷ end ∷ neg 9 ∷ pos 10 ∷ end ∷
+    neg 9 ∷ neg 2 ∷ pos 12 ∷ end ∷ neg 9 ∷ neg 3 ∷ end ∷ neg 9 ∷ neg 11 ∷ pos 13 ∷ end ∷ neg 9 ∷ neg 12 ∷ pos 14 ∷ end ∷ pos 10 ∷ end ∷
+    pos 11 ∷ pos 12 ∷ end ∷ neg 11 ∷ neg 12 ∷ end ∷ pos 13 ∷ pos 14 ∷ end ∷ neg 13 ∷ neg 14 ∷ end ∷ pos 10 ∷ end ∷ []

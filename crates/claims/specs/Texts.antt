@@ -23,7 +23,8 @@ use Rattle.wirdoku.specs.TextCall.{textReport, countedSizes, shapeOf, refusedSh
 use Rattle.wirdoku.specs.declared.FileReply.{FileReply}
 use Rattle.claims.specs.Calls.{Calls}
 use Rattle.claims.specs.RowModels.{clockRelations, clockRelationsText, counterRelations, counterRelationsText}
-use Rattle.claims.specs.RowModels.{counterUpdates, counterUpdatesText, twoOfEach, twoOfEachText}
+use Rattle.claims.specs.RowModels.{counterUpdates, counterUpdatesText, twoOfEach, twoOfEachText, raisedThenCopied, raisedThenCopiedText}
+use Rattle.claims.specs.RowModels.{copiedThenRaised, copiedThenRaisedText, twoOrders, twoOrdersText}
 
 -- ---- the calls of which the demands are said
 -- The text is read.
@@ -89,3 +90,6 @@ pub record RowTexts : Type 0 where
   pub counter-relations : readReport (textOf counterRelationsText) ≡ readAccepted counterRelations
   pub counter-updates : readReport (textOf counterUpdatesText) ≡ readAccepted counterUpdates
   pub two-of-each : readReport (textOf twoOfEachText) ≡ readAccepted twoOfEach
+  pub raised-then-copied : readReport (textOf raisedThenCopiedText) ≡ readAccepted raisedThenCopied
+  pub copied-then-raised : readReport (textOf copiedThenRaisedText) ≡ readAccepted copiedThenRaised
+  pub two-orders : readReport (textOf twoOrdersText) ≡ readAccepted twoOrders

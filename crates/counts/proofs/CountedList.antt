@@ -61,13 +61,13 @@ module _ {m : Model} {b : GroupTable} (k : Known m b) where
         ∙ four (sizeAt b) (b .groups) ∙ ap (λ (n : ℕ). n * 4) (members-are k));
   }
     where
-      kept : (g : ℕ) (t : Bool) → length (partClauses x (leadsPart b o g g (cond t Keep (Rise d (b .top))))) ≡ sizeAt b g
-      kept g true = part-count x (leadsPart b o g g Keep) ∙ omega (arith, sum-const (sizeAt b g) 1)
-      kept g false = part-count x (leadsPart b o g g (Rise d (b .top))) ∙ omega (arith, sum-const (sizeAt b g) 1)
+      kept : (g : ℕ) (t : Bool) → length (partClauses x (leadsPart b o o g g (cond t Keep (Rise d (b .top))))) ≡ sizeAt b g
+      kept g true = part-count x (leadsPart b o o g g Keep) ∙ omega (arith, sum-const (sizeAt b g) 1)
+      kept g false = part-count x (leadsPart b o o g g (Rise d (b .top))) ∙ omega (arith, sum-const (sizeAt b g) 1)
 
-      kept-words : (g : ℕ) (t : Bool) → length (wordsOf (partClauses x (leadsPart b o g g (cond t Keep (Rise d (b .top)))))) ≡ sizeAt b g * 4
-      kept-words g true = part-words x (leadsPart b o g g Keep) ∙ sum-const (sizeAt b g) 4
-      kept-words g false = part-words x (leadsPart b o g g (Rise d (b .top))) ∙ sum-const (sizeAt b g) 4
+      kept-words : (g : ℕ) (t : Bool) → length (wordsOf (partClauses x (leadsPart b o o g g (cond t Keep (Rise d (b .top)))))) ≡ sizeAt b g * 4
+      kept-words g true = part-words x (leadsPart b o o g g Keep) ∙ sum-const (sizeAt b g) 4
+      kept-words g false = part-words x (leadsPart b o o g g (Rise d (b .top))) ∙ sum-const (sizeAt b g) 4
 
   -- the choice's group and the delays
   front-counted : {p q : ℕ} (o : ℕ) → ((first : ℕ) → Counted (groupClauses first (b .choices)) p q)

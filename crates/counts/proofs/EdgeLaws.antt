@@ -38,10 +38,10 @@ atom-kind b o Blank = refl
 atom-kind b o (OnClock x relation constant) = refl
 atom-kind b o (OnCounter x relation constant) = refl
 
-update-kind : (b : GroupTable) (o i : ℕ) (u : Update) → kind (updatePart b o i u) ≡ kind (updatePart b 0 i u)
-update-kind b o i KeepIt = refl
-update-kind b o i (Constant n) = refl
-update-kind b o i (Sum w z) = refl
+update-kind : (b : GroupTable) (o : ℕ) (order : List ℕ) (i : ℕ) (u : Update) → kind (updatePart b o order i u) ≡ kind (updatePart b 0 order i u)
+update-kind b o order i KeepIt = refl
+update-kind b o order i (Constant n) = refl
+update-kind b o order i (Sum w z) = refl
 
 reset-kind : (b : GroupTable) (o i : ℕ) (u : ClockUpdate) → kind (resetPart b o i u) ≡ kind (resetPart b 0 i u)
 reset-kind b o i Unchanged = refl
@@ -53,7 +53,7 @@ picked b e j p q r s o =
     cond p (setPart o (sizeAt b 0) (Set (e .source)))
     (cond q (setPart (nextAt b o) (sizeAt b 0) (Set (e .target)))
     (cond r (atomPart b o (atomAt (e .guard) (j - 2)))
-    (cond s (updatePart b o (j - 6) (updateAt e (j - 6))) (resetPart b o (j - 6 - b .vars) (resetAt e (j - 6 - b .vars))))))
+    (cond s (updatePart b o (e .order) (j - 6) (updateAt e (j - 6))) (resetPart b o (j - 6 - b .vars) (resetAt e (j - 6 - b .vars))))))
 
 edge-kind : (b : GroupTable) (e : Edge) (o j : ℕ) → kind (edgePart b e o j) ≡ kind (edgePart b e 0 j)
 unfolding edgePart
@@ -63,7 +63,7 @@ edge-kind b e o j = by (eqb j 0) (eqb j 1) (ltb j 6) (ltb (j - 6) (b .vars))
     by true q r s = refl
     by false true r s = refl
     by false false true s = atom-kind b o (atomAt (e .guard) (j - 2))
-    by false false false true = update-kind b o (j - 6) (updateAt e (j - 6))
+    by false false false true = update-kind b o (e .order) (j - 6) (updateAt e (j - 6))
     by false false false false = reset-kind b o (j - 6 - b .vars) (resetAt e (j - 6 - b .vars))
 
 -- ---- so their clauses and words are counted at 0
@@ -82,10 +82,10 @@ module _ (b : GroupTable) (h : Bounded b) (o : ℕ) where
   atom-small (OnClock x relation constant) = h .size-le (1 + b .vars + x)
   atom-small (OnCounter x relation constant) = h .size-le (1 + x)
 
-  update-small : (i : ℕ) (u : Update) → updatePart b o i u .size ≤ 32
-  update-small i KeepIt = h .size-le (1 + i)
-  update-small i (Constant n) = omega arith
-  update-small i (Sum w z) = h .size-le (1 + w)
+  update-small : (order : List ℕ) (i : ℕ) (u : Update) → updatePart b o order i u .size ≤ 32
+  update-small order i KeepIt = h .size-le (1 + i)
+  update-small order i (Constant n) = omega arith
+  update-small order i (Sum w z) = h .size-le (1 + w)
 
   reset-small : (i : ℕ) (u : ClockUpdate) → resetPart b o i u .size ≤ 32
   reset-small i Unchanged = h .size-le (1 + b .vars + i)
@@ -99,7 +99,7 @@ module _ (b : GroupTable) (h : Bounded b) (o : ℕ) where
       by true q r s = omega arith
       by false true r s = omega arith
       by false false true s = atom-small (atomAt (e .guard) (j - 2))
-      by false false false true = update-small (j - 6) (updateAt e (j - 6))
+      by false false false true = update-small (e .order) (j - 6) (updateAt e (j - 6))
       by false false false false = reset-small (j - 6 - b .vars) (resetAt e (j - 6 - b .vars))
 
   -- the clauses of an atom have two literals

@@ -1,5 +1,5 @@
 -- The part of an atom, an update, a reset or a delay, case by case, by the lent slices of the table.
-use mathlib.Core.Path.{_≡_, refl, sym, ap, subst, _∙_}
+use mathlib.Core.Path.{_≡_, refl, sym, ap, ap₂, subst, _∙_}
 use mathlib.Core.Bool.{Bool, cond}
 use mathlib.Core.List.{List, [], _∷_}
 use Prim.Native.Nat.{ℕ, _+_, _-_, _≤_, _<_}
@@ -28,7 +28,7 @@ use Rattle.parts.specs.declared.GroupTable.{GroupTable}
 use Rattle.parts.specs.Rules.{partClauses, Fits}
 use Rattle.parts.specs.StateBlock.{firstAt, Bounded}
 use Rattle.parts.specs.Pieces.{atomPiece}
-use Rattle.parts.specs.PartsOf.{AtomIn, UpdateIn, nextAt, atomPart, leadsPart, greatestAt, updatePart, resetPart, delayPart}
+use Rattle.parts.specs.PartsOf.{AtomIn, UpdateIn, nextAt, atomPart, leadsPart, greatestAt, readAt, updatePart, resetPart, delayPart}
 use Rattle.parts.proofs.PartPieces.{part-is, set-is}
 use Rattle.parts.proofs.EdgeParts.{source-part, target-part, guard-part, counter-part, clock-part}
 use Rattle.emission.specs.Compared.{comparison}
@@ -82,29 +82,29 @@ module _ {b : GroupTable} {first size : List ℕ} (l : Lent b first size) (o : �
       (λ k h. ap (partClauses x) (atom-by (atomAt atoms k)))
 
   -- ---- updates
-  module _ {u : Update} (i : ℕ) where
-    pub keep-is : u ≡ KeepIt → updatePart b o i u ≡ leadsBy first size o (nextAt b o) (1 + i) (1 + i) Keep
-    keep-is e = ap (updatePart b o i) e ∙ leads-lent l o (1 + i) (1 + i) Keep
+  module _ {u : Update} (order : List ℕ) (i : ℕ) where
+    pub keep-is : u ≡ KeepIt → updatePart b o order i u ≡ leadsBy first size o (nextAt b o) (1 + i) (1 + i) Keep
+    keep-is e = ap (updatePart b o order i) e ∙ leads-lent l o o (1 + i) (1 + i) Keep
 
     pub constant-is : (n : ℕ) {greatest : ℕ} → greatest ≡ greatestAt b i → u ≡ Constant n
-        → updatePart b o i u ≡ setBy first size (nextAt b o) (1 + i) (cond (leb n greatest) (Set n) Forbid)
+        → updatePart b o order i u ≡ setBy first size (nextAt b o) (1 + i) (cond (leb n greatest) (Set n) Forbid)
     constant-is n g e =
-        ap (updatePart b o i) e ∙ set-lent l o (1 + i) (cond (leb n (greatestAt b i)) (Set n) Forbid) ∙
+        ap (updatePart b o order i) e ∙ set-lent l o (1 + i) (cond (leb n (greatestAt b i)) (Set n) Forbid) ∙
         ap (λ (t : ℕ). setBy first size (nextAt b o) (1 + i) (cond (leb n t) (Set n) Forbid)) (sym g)
 
-    pub sum-is : (w : ℕ) (z : ℤ) {greatest : ℕ} → greatest ≡ greatestAt b i → u ≡ Sum w z
-        → updatePart b o i u ≡ leadsBy first size o (nextAt b o) (1 + w) (1 + i) (Shift z greatest)
-    sum-is w z g e =
-        ap (updatePart b o i) e ∙ leads-lent l o (1 + w) (1 + i) (Shift z (greatestAt b i)) ∙
-        ap (λ (t : ℕ). leadsBy first size o (nextAt b o) (1 + w) (1 + i) (Shift z t)) (sym g)
+    pub sum-is : (w : ℕ) (z : ℤ) {from greatest : ℕ} → from ≡ readAt b o order w i → greatest ≡ greatestAt b i → u ≡ Sum w z
+        → updatePart b o order i u ≡ leadsBy first size from (nextAt b o) (1 + w) (1 + i) (Shift z greatest)
+    sum-is w z r g e =
+        ap (updatePart b o order i) e ∙ leads-lent l (readAt b o order w i) o (1 + w) (1 + i) (Shift z (greatestAt b i)) ∙
+        ap₂ (λ (s t : ℕ). leadsBy first size s (nextAt b o) (1 + w) (1 + i) (Shift z t)) (sym r) (sym g)
 
-    pub sum-in : (w : ℕ) (z : ℤ) → u ≡ Sum w z → UpdateFits b o i u → 1 + w < 9
+    pub sum-in : (w : ℕ) (z : ℤ) → u ≡ Sum w z → UpdateFits b o order i u → 1 + w < 9
     sum-in w z e f = subst UpdateIn e (f .named)
 
   -- ---- resets
   module _ {u : ClockUpdate} (i : ℕ) where
     pub unchanged-is : u ≡ Unchanged → resetPart b o i u ≡ leadsBy first size o (nextAt b o) (1 + b .vars + i) (1 + b .vars + i) Keep
-    unchanged-is e = ap (resetPart b o i) e ∙ leads-lent l o (1 + b .vars + i) (1 + b .vars + i) Keep
+    unchanged-is e = ap (resetPart b o i) e ∙ leads-lent l o o (1 + b .vars + i) (1 + b .vars + i) Keep
 
     pub reset-is : u ≡ Reset → resetPart b o i u ≡ setBy first size (nextAt b o) (1 + b .vars + i) (Set 0)
     reset-is e = ap (resetPart b o i) e ∙ set-lent l o (1 + b .vars + i) (Set 0)
@@ -117,18 +117,18 @@ module _ {b : GroupTable} {first size : List ℕ} (l : Lent b first size) (o : �
   -- ---- delays
   pub delay-kept : (d g : ℕ) → g < 1 + b .vars → delayPart b o d g ≡ leadsBy first size o (nextAt b o) g g Keep
   delay-kept d g h =
-      ap (λ (t : Bool). leadsPart b o g g (cond t Keep (Rise d (b .top)))) (lt-ltb g (1 + b .vars) h) ∙ leads-lent l o g g Keep
+      ap (λ (t : Bool). leadsPart b o o g g (cond t Keep (Rise d (b .top)))) (lt-ltb g (1 + b .vars) h) ∙ leads-lent l o o g g Keep
 
   pub delay-raised : (d g : ℕ) → 1 + b .vars ≤ g → delayPart b o d g ≡ leadsBy first size o (nextAt b o) g g (Rise d (b .top))
   delay-raised d g h =
-      ap (λ (t : Bool). leadsPart b o g g (cond t Keep (Rise d (b .top)))) (le-ltb g (1 + b .vars) h) ∙ leads-lent l o g g (Rise d (b .top))
+      ap (λ (t : Bool). leadsPart b o o g g (cond t Keep (Rise d (b .top)))) (le-ltb g (1 + b .vars) h) ∙ leads-lent l o o g g (Rise d (b .top))
 
 -- ---- the group after lies below mostVariables
 module _ (b : GroupTable) (o i : ℕ) where
-  pub update-after : (u : Update) → Fits (updatePart b o i u) mostVariables → nextAt b o + firstAt b (1 + i) ≤ mostVariables
-  update-after KeepIt f = omega (arith, f .after-in)
-  update-after (Constant n) f = omega (arith, f .after-in)
-  update-after (Sum w z) f = omega (arith, f .after-in)
+  pub update-after : (order : List ℕ) (u : Update) → Fits (updatePart b o order i u) mostVariables → nextAt b o + firstAt b (1 + i) ≤ mostVariables
+  update-after order KeepIt f = omega (arith, f .after-in)
+  update-after order (Constant n) f = omega (arith, f .after-in)
+  update-after order (Sum w z) f = omega (arith, f .after-in)
 
   pub reset-after : (u : ClockUpdate) → Fits (resetPart b o i u) mostVariables → nextAt b o + firstAt b (1 + b .vars + i) ≤ mostVariables
   reset-after Unchanged f = omega (arith, f .after-in)
@@ -145,7 +145,7 @@ module _ {b : GroupTable} (h : Bounded b) {o : ℕ} {e : Edge} (f : EdgeFits b o
   pub guard-fits : (k : ℕ) → k < 4 → AtomFits b o (atomAt (e .guard) k)
   guard-fits k l = record { named = f .guards k l; fits = fits-as (guard-part b e o k l) (f .parts (2 + k) (omega (arith, h .vars-in))) }
 
-  pub updates-fit : (i : ℕ) → i < b .vars → UpdateFits b o i (updateAt e i)
+  pub updates-fit : (i : ℕ) → i < b .vars → UpdateFits b o (e .order) i (updateAt e i)
   updates-fit i l = record { named = f .sources i l; fits = fits-as (counter-part b e o i l) (f .parts (6 + i) (omega (arith, h .vars-in))) }
 
   pub resets-fit : (i : ℕ) → i < b .groups - (1 + b .vars) → Fits (resetPart b o i (resetAt e i)) mostVariables

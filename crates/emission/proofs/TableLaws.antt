@@ -29,8 +29,8 @@ excludeBy first size o g relation constant =
     record { rule = Exclude relation constant; before = o + getD first g 0; size = getD size g 0; after = 0; into = 0 }
 
 abbrev pub leadsBy : List ℕ → List ℕ → ℕ → ℕ → ℕ → ℕ → Rule → Part
-leadsBy first size o next g h rule =
-    record { rule = rule; before = o + getD first g 0; size = getD size g 0; after = next + getD first h 0; into = getD size h 0 }
+leadsBy first size from next g h rule =
+    record { rule = rule; before = from + getD first g 0; size = getD size g 0; after = next + getD first h 0; into = getD size h 0 }
 
 abbrev pub setBy : List ℕ → List ℕ → ℕ → ℕ → Rule → Part
 setBy first size next h rule = setPart (next + getD first h 0) (getD size h 0) rule
@@ -56,8 +56,8 @@ module _ {b : GroupTable} {first size : List ℕ} (l : Lent b first size) where
   exclude-lent o g relation constant =
       ap₂ (λ (f s : List ℕ). excludeBy f s o g relation constant) (sym (l .first-is)) (sym (l .size-is))
 
-  pub leads-lent : (o g h : ℕ) (rule : Rule) → leadsPart b o g h rule ≡ leadsBy first size o (nextAt b o) g h rule
-  leads-lent o g h rule = ap₂ (λ (f s : List ℕ). leadsBy f s o (nextAt b o) g h rule) (sym (l .first-is)) (sym (l .size-is))
+  pub leads-lent : (from o g h : ℕ) (rule : Rule) → leadsPart b from o g h rule ≡ leadsBy first size from (nextAt b o) g h rule
+  leads-lent from o g h rule = ap₂ (λ (f s : List ℕ). leadsBy f s from (nextAt b o) g h rule) (sym (l .first-is)) (sym (l .size-is))
 
   pub set-lent : (o h : ℕ) (rule : Rule) → setPart (nextAt b o + firstAt b h) (sizeAt b h) rule ≡ setBy first size (nextAt b o) h rule
   set-lent o h rule = ap₂ (λ (f s : List ℕ). setBy f s (nextAt b o) h rule) (sym (l .first-is)) (sym (l .size-is))

@@ -35,9 +35,9 @@ pub record AtomFits (b : GroupTable) (o : ℕ) (atom : Atom) : Type 0 where
   pub fits : Fits (atomPart b o atom) mostVariables
 
 -- The same of an update of counter i.
-pub record UpdateFits (b : GroupTable) (o i : ℕ) (u : Update) : Type 0 where
+pub record UpdateFits (b : GroupTable) (o : ℕ) (order : List ℕ) (i : ℕ) (u : Update) : Type 0 where
   pub named : UpdateIn u
-  pub fits : Fits (updatePart b o i u) mostVariables
+  pub fits : Fits (updatePart b o order i u) mostVariables
 
 -- The same of all that an edge asks.
 pub record EdgeFits (b : GroupTable) (o : ℕ) (e : Edge) : Type 0 where

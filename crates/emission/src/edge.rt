@@ -9,6 +9,7 @@ use model::Edge;
 use model::Model;
 use model::Update;
 use parts::GroupTable;
+use parts::read_at;
 ghost use mathlib.Core.Path.{_≡_};
 ghost use Prim.Native.Nat.{ℕ, _+_, _-_, _<_, _≤_};
 ghost use Rattle.model.specs.Indexed.{each};
@@ -28,24 +29,27 @@ fn put_update(
     size: &[u16],
     x: usize,
     o: usize,
+    order: [u8; Model::COUNTERS],
     i: usize,
     greatest: u8,
     update: Update,
     out: &mut [i32],
     at: usize,
 ) -> usize
-    requires { ⌜ Lent b (now first) (now size) × (x < mostVariables) × (i < 4) × (greatest ≡ greatestAt b i) × UpdateFits b o i update × RoomFor (partClauses x (updatePart b o i update)) (now out) at ⌝ }
-    ensures { λ r. ⌜ WroteClauses (partClauses x (updatePart b o i update)) (now (out .entry)) (now (out .exit)) at r ⌝ }
+    requires { ⌜ Lent b (now first) (now size) × (x < mostVariables) × (i < 4) × (greatest ≡ greatestAt b i) × UpdateFits b o order i update × RoomFor (partClauses x (updatePart b o order i update)) (now out) at ⌝ }
+    ensures { λ r. ⌜ WroteClauses (partClauses x (updatePart b o order i update)) (now (out .entry)) (now (out .exit)) at r ⌝ }
 {
     let g = 1 + i;
     let place = first[g] as usize;
-    let after = o + b.state + b.choices + place;
+    let next = o + b.state + b.choices;
+    let after = next + place;
     match update {
         Update::Keep => put_kept(x, o + place, after, size[g] as usize, out, at),
         Update::Constant(n) => put_constant(x, after, n, greatest, out, at),
         Update::Sum { source, offset } => {
             let w = 1 + source as usize;
-            let before = o + first[w] as usize;
+            let from = read_at(order, source, i as u8, o, next);
+            let before = from + first[w] as usize;
             put_shifted(
                 x,
                 before,
@@ -71,17 +75,18 @@ fn put_updates(
     out: &mut [i32],
     at: usize,
 ) -> usize
-    requires { ⌜ Lent b (now first) (now size) × (x < mostVariables) × (b .vars ≤ 4) × ((i : ℕ) → i < b .vars → UpdateFits b o i (updateAt e i)) × RoomFor (each (b .vars) (λ i. partClauses x (updatePart b o i (updateAt e i)))) (now out) at ⌝ }
-    ensures { λ r. ⌜ WroteClauses (each (b .vars) (λ i. partClauses x (updatePart b o i (updateAt e i)))) (now (out .entry)) (now (out .exit)) at r ⌝ }
+    requires { ⌜ Lent b (now first) (now size) × (x < mostVariables) × (b .vars ≤ 4) × ((i : ℕ) → i < b .vars → UpdateFits b o (e .order) i (updateAt e i)) × RoomFor (each (b .vars) (λ i. partClauses x (updatePart b o (e .order) i (updateAt e i)))) (now out) at ⌝ }
+    ensures { λ r. ⌜ WroteClauses (each (b .vars) (λ i. partClauses x (updatePart b o (e .order) i (updateAt e i)))) (now (out .entry)) (now (out .exit)) at r ⌝ }
 {
     let updates = e.updates;
+    let order = e.order;
     let counters = b.counters;
     let mut end = at;
     for i in 0..b.vars {
         let s = updates[i];
         let update = s.update;
         let c = counters[i];
-        end = put_update(b, first, size, x, o, i, c.greatest, update, out, end);
+        end = put_update(b, first, size, x, o, order, i, c.greatest, update, out, end);
     }
     end
 }

@@ -10,10 +10,13 @@ use model::Relation;
 use model::State;
 use model::Update;
 use model::UpdateSlot;
+use model::updates::place_in;
 ghost use mathlib.Core.Path.{_≡_};
 ghost use mathlib.Core.Bool.{cond};
+ghost use Prim.Native.Nat.{_<_};
 ghost use lib.Dec.{ltb};
-ghost use Rattle.model.specs.Form.{isNotEqual, atomFormed, isBlank, noGap, eachFormed, filledFromFirst, atomsFormed, counterFormed, isBlankCounter, counterSlotFormed, countersFormed, invariantsFormed, updateFormed, isKeep, isUnchanged, updateSlotFormed, updatesFormed, resetSlotFormed, resetsFormed, edgeFormed, edgesFormed, headFormed, wellFormed, slotInGroup, countersInGroup, clocksInGroup, stateFormed};
+ghost use Rattle.model.specs.Automaton.{listed};
+ghost use Rattle.model.specs.Form.{isNotEqual, atomFormed, isBlank, noGap, eachFormed, filledFromFirst, atomsFormed, counterFormed, isBlankCounter, counterSlotFormed, countersFormed, invariantsFormed, updateFormed, isUnchanged, updateSlotFormed, updatesFormed, orderSlotFormed, orderFormed, resetSlotFormed, resetsFormed, edgeFormed, edgesFormed, headFormed, wellFormed, slotInGroup, countersInGroup, clocksInGroup, stateFormed};
 
 fn is_not_equal(r: Relation) -> bool
     ensures { λ b. ⌜ b ≡ isNotEqual r ⌝ }
@@ -191,26 +194,13 @@ fn update_formed(u: Update, vars: u8) -> bool
     }
 }
 
-fn is_keep(u: Update) -> bool
-    ensures { λ r. ⌜ r ≡ isKeep u ⌝ }
-{
-    match u {
-        Update::Keep => true,
-        Update::Constant(_) => false,
-        Update::Sum {
-            source: _,
-            offset: _,
-        } => false,
-    }
-}
-
 fn update_slot_formed(u: Update, i: usize, vars: u8) -> bool
     ensures { λ r. ⌜ r ≡ updateSlotFormed vars u i ⌝ }
 {
     if i < vars as usize {
         update_formed(u, vars)
     } else {
-        is_keep(u)
+        u.is_keep()
     }
 }
 
@@ -221,6 +211,37 @@ fn updates_formed(slots: [UpdateSlot; Model::COUNTERS], vars: u8) -> bool
         let s = slots[i];
         let u = s.update;
         if !update_slot_formed(u, i, vars) {
+            return false;
+        }
+    }
+    true
+}
+
+// Slot `k` of the order, of which the first `n` are used.
+fn order_slot_formed(e: Edge, n: usize, k: usize) -> bool
+    requires { ⌜ (n ≡ listed e) × (k < 4) ⌝ }
+    ensures { λ r. ⌜ r ≡ orderSlotFormed e k ⌝ }
+{
+    let order = e.order;
+    let counter = order[k];
+    if k >= n {
+        return counter == 0;
+    }
+    if counter as usize >= Model::COUNTERS {
+        return false;
+    }
+    let s = e.updates[counter as usize];
+    let update = s.update;
+    let kept = update.is_keep();
+    !kept & (place_in(order, counter) == k)
+}
+
+fn order_formed(e: Edge) -> bool
+    ensures { λ r. ⌜ r ≡ orderFormed e ⌝ }
+{
+    let n = e.listed();
+    for k in 0..Model::COUNTERS {
+        if !order_slot_formed(e, n, k) {
             return false;
         }
     }
@@ -274,6 +295,9 @@ fn edge_formed(e: Edge, locations: u8, clocks: u8, vars: u8) -> bool
     }
     let updates = e.updates;
     if !updates_formed(updates, vars) {
+        return false;
+    }
+    if !order_formed(e) {
         return false;
     }
     let resets = e.resets;

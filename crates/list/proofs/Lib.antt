@@ -11,5 +11,6 @@ pub mod DemandProofs
 pub mod PieceClauses
 pub mod Within
 pub mod Raised
+pub mod SourcesBefore
 pub mod Searching
 pub mod Claims

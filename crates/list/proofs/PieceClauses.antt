@@ -205,9 +205,10 @@ module _ (m : Model) where
     unfolding guardItems
     guard-piece = atoms-piece o (choiceMember oneHotWidth m o c ∷ []) (e .guard)
 
-    pub updates-piece : clausesOf (updatesItems oneHotWidth m o c e) ≡ each (m .vars) (λ i. clausesOf (updateItems oneHotWidth m o c i (updateAt e i)))
+    pub updates-piece : clausesOf (updatesItems oneHotWidth m o c e)
+        ≡ each (m .vars) (λ i. clausesOf (updateItems oneHotWidth m o c (e .order) i (updateAt e i)))
     unfolding updatesItems
-    updates-piece = flat-each expand (m .vars) (λ i. updateItems oneHotWidth m o c i (updateAt e i))
+    updates-piece = flat-each expand (m .vars) (λ i. updateItems oneHotWidth m o c (e .order) i (updateAt e i))
 
     pub resets-piece : clausesOf (resetsItems oneHotWidth m o c e) ≡ each (m .clocks) (λ i. clausesOf (resetItems oneHotWidth m o c i (resetAt e i)))
     unfolding resetsItems

@@ -19,12 +19,12 @@ use Rattle.model.specs.declared.Edge.{Edge}
 use Rattle.model.specs.declared.Model.{Model}
 use Rattle.model.specs.Indexed.{each}
 use Rattle.model.specs.Record.{atomAt, updateAt, resetAt, counterAt, invariantAt, edgeAt}
-use Rattle.model.specs.Automaton.{ceiling, choices, Component, loc, counter, clock, groupSize, meets, delayedValue, inRange, shifted}
+use Rattle.model.specs.Automaton.{ceiling, choices, Component, loc, counter, clock, groupSize, meets, delayedValue, inRange, shifted, setEarlier}
 use Rattle.model.proofs.IndexedLaws.{each-zero, each-suc}
 use Rattle.list.specs.Lists.{toList}
 use Rattle.list.specs.Items.{Member, member, Item, group, rule, overComponents, offset, stateWidth, blockAt, nextBlock, stateMember}
 use Rattle.list.specs.Items.{choiceMember, excludeValues, excludeFailing, excludeAllFailing, invariantOf, choiceItems, leads, setsTo}
-use Rattle.list.specs.Items.{delayItems, sourceItems, targetItems, guardItems, updateItems, updatesItems, resetItems, resetsItems}
+use Rattle.list.specs.Items.{delayItems, sourceItems, targetItems, guardItems, readBlock, updateItems, updatesItems, resetItems, resetsItems}
 use Rattle.list.specs.Items.{edgeItems, edgeOf, endItems}
 use Rattle.list.specs.Clauses.{Literal, bare, negated, Clause, one, oneHotWidth, variableOf, members, pairs, groupClauses, expand, clausesOf}
 use Rattle.list.proofs.ListLaws.{each-cong}
@@ -238,11 +238,19 @@ module _ (width : ℕ → ℕ) (m : Model) (d : ℕ) where
       let D : ℕ → Component → List Item = λ o x. leads width m o o t x x (λ v. some (delayedValue m t x v)) in
       maps-over (raiseItem d) m (D (d + o)) (D o) (λ x. leads-up o o t x x (λ v. some (delayedValue m t x v)))
 
+  -- The state block in which an update reads its source.
+  read-up : (after : Bool) (o : ℕ) → cond after (nextBlock width m (d + o)) (d + o) ≡ d + cond after (nextBlock width m o) o
+  read-up true o = omega arith
+  read-up false o = refl
+
   -- A counter's update.
-  update-up : (o c i : ℕ) (u : Update) → updateItems width m (d + o) c i u ≡ up (updateItems width m o c i u)
-  update-up o c i Keep = leads-up o o c (counter i) (counter i) some
-  update-up o c i (Constant n) = sets-up o c (counter i) (inRange (counterAt m i .greatest) n)
-  update-up o c i (Sum w z) = leads-up o o c (counter w) (counter i) (shifted z (counterAt m i .greatest))
+  update-up : (o c : ℕ) (order : List ℕ) (i : ℕ) (u : Update) → updateItems width m (d + o) c order i u ≡ up (updateItems width m o c order i u)
+  update-up o c order i Keep = leads-up o o c (counter i) (counter i) some
+  update-up o c order i (Constant n) = sets-up o c (counter i) (inRange (counterAt m i .greatest) n)
+  update-up o c order i (Sum w z) =
+      let to : ℕ → Option ℕ = shifted z (counterAt m i .greatest) in
+      ap (λ (b : ℕ). leads width m b (d + o) c (counter w) (counter i) to) (read-up (setEarlier order w i) o)
+      ∙ leads-up (readBlock width m o order w i) o c (counter w) (counter i) to
 
   -- A clock's update.
   reset-up : (o c i : ℕ) (u : ClockUpdate) → resetItems width m (d + o) c i u ≡ up (resetItems width m o c i u)
@@ -266,7 +274,7 @@ module _ (width : ℕ → ℕ) (m : Model) (d : ℕ) where
       (ap₂ (λ (a b : Member). rule (a ∷ []) (some b) ∷ []) (choice-up o c) (state-up o loc (e .source)))
       (sets-up o c loc (some (e .target))))
       (atoms-up o (choiceMember width m o c) (e .guard) (choice-up o c)))
-      (maps-each R (m .vars) _ _ (λ i. update-up o c i (updateAt e i))))
+      (maps-each R (m .vars) _ _ (λ i. update-up o c (e .order) i (updateAt e i))))
       (maps-each R (m .clocks) _ _ (λ i. reset-up o c i (resetAt e i)))
 
 -- ---- the clauses of a piece from the state block at d + o, in the first layout

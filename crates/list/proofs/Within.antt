@@ -20,7 +20,7 @@ use Rattle.model.specs.declared.Model.{Model}
 use Rattle.model.specs.Indexed.{each}
 use Rattle.model.specs.Record.{atomAt, updateAt, resetAt, counterAt, invariantAt, edgeAt}
 use Rattle.model.specs.Automaton.{ceiling, choices, variables, Component, loc, counter, clock, Declared, groupSize, initialValue}
-use Rattle.model.specs.Automaton.{meets, delayedValue, inRange, shifted}
+use Rattle.model.specs.Automaton.{meets, delayedValue, inRange, shifted, setEarlier}
 use Rattle.model.specs.Form.{wellFormed}
 use Rattle.model.proofs.IndexedLaws.{some-inj, sum-mono}
 use Rattle.model.proofs.FormLaws.{DeclaredAtom, DeclaredUpdate, WellFormed, WellFormedEdge, formed}
@@ -29,7 +29,8 @@ use Rattle.list.specs.Lists.{All, toList}
 use Rattle.list.specs.Items.{Member, Item, group, rule, overComponents, offset, stateWidth, blockAt, nextBlock, stateMember, choiceMember}
 use Rattle.list.specs.Items.{excludeValues, excludeFailing, excludeAllFailing, groupItems, invariantOf, invariantItems, stateItems}
 use Rattle.list.specs.Items.{initialItems, startItems, choiceItems, leads, setsTo, delayItems, delaysItems, sourceItems, targetItems, guardItems}
-use Rattle.list.specs.Items.{updateItems, updatesItems, resetItems, resetsItems, edgeItems, edgeOf, edgesItems, stepItems, endItems, bodyItems, items}
+use Rattle.list.specs.Items.{readBlock, updateItems, updatesItems, resetItems, resetsItems, edgeItems, edgeOf, edgesItems, stepItems, endItems}
+use Rattle.list.specs.Items.{bodyItems, items}
 use Rattle.list.specs.Clauses.{Literal, bare, negated, Clause, one, oneHotWidth, variableOf, members, pairs, groupClauses, expand, clauses}
 use Rattle.list.proofs.ListLaws.{all-app, all-app₄, all-app₅, all-each, all-flat, all-imp}
 use Rattle.list.proofs.Blocks.{over-components}
@@ -152,27 +153,34 @@ module _ (m : Model) where
       after-inside y p (some u) f = (state-inside next h y p u (f u refl), tt)
 
       module _ (c : ℕ) (hc : c < choices m) where
-        leads-inside : (x y : Component) → Declared m x → Declared m y → (f : ℕ → Option ℕ)
+        leads-inside : (before : ℕ) → before + S ≤ N → (x y : Component) → Declared m x → Declared m y → (f : ℕ → Option ℕ)
             → ((v u : ℕ) → v < groupSize m x → f v ≡ some u → u < groupSize m y)
-            → All (ItemInside N) (leads oneHotWidth m o o c x y f)
-        leads-inside x y p q f g = all-each (ItemInside N) (groupSize m x) _ .1 (λ v l.
-            (((choice-inside c hc, (state-inside o here x p v l, tt)), after-inside y q (f v) (λ u e. g v u l e)), tt))
+            → All (ItemInside N) (leads oneHotWidth m before o c x y f)
+        leads-inside before b x y p q f g = all-each (ItemInside N) (groupSize m x) _ .1 (λ v l.
+            (((choice-inside c hc, (state-inside before b x p v l, tt)), after-inside y q (f v) (λ u e. g v u l e)), tt))
 
         sets-inside : (y : Component) → Declared m y → (v : Option ℕ) → ((u : ℕ) → v ≡ some u → u < groupSize m y)
             → All (ItemInside N) (setsTo oneHotWidth m o c y v)
         sets-inside y q v g = (((choice-inside c hc, tt), after-inside y q v g), tt)
 
-        update-inside : (i : ℕ) → i < m .vars → (u : Update) → DeclaredUpdate m u → All (ItemInside N) (updateItems oneHotWidth m o c i u)
-        update-inside i p Keep q = leads-inside (counter i) (counter i) p p some (λ v u a b. rw (← some-inj b) a)
-        update-inside i p (Constant n) q =
+        -- the state block in which an update reads its source
+        read-inside : (after : Bool) → cond after next o + S ≤ N
+        read-inside true = h
+        read-inside false = here
+
+        update-inside : (order : List ℕ) (i : ℕ) → i < m .vars → (u : Update) → DeclaredUpdate m u
+            → All (ItemInside N) (updateItems oneHotWidth m o c order i u)
+        update-inside order i p Keep q = leads-inside o here (counter i) (counter i) p p some (λ v u a b. rw (← some-inj b) a)
+        update-inside order i p (Constant n) q =
             let greatest = counterAt m i .greatest in
             sets-inside (counter i) p (inRange greatest n) (in-range-lt greatest n)
-        update-inside i p (Sum w z) q =
+        update-inside order i p (Sum w z) q =
             let greatest = counterAt m i .greatest in
-            leads-inside (counter w) (counter i) q p (shifted z greatest) (λ v u a b. shifted-lt z greatest v u b)
+            let b = readBlock oneHotWidth m o order w i in
+            leads-inside b (read-inside (setEarlier order w i)) (counter w) (counter i) q p (shifted z greatest) (λ v u a b. shifted-lt z greatest v u b)
 
         reset-inside : (i : ℕ) → i < m .clocks → (u : ClockUpdate) → All (ItemInside N) (resetItems oneHotWidth m o c i u)
-        reset-inside i p Unchanged = leads-inside (clock i) (clock i) p p some (λ v u a b. rw (← some-inj b) a)
+        reset-inside i p Unchanged = leads-inside o here (clock i) (clock i) p p some (λ v u a b. rw (← some-inj b) a)
         reset-inside i p Reset = sets-inside (clock i) p (some 0) (λ u e. rw (← some-inj e) (omega arith))
 
         edge-inside : (e : Edge) → WellFormedEdge m e → All (ItemInside N) (edgeItems oneHotWidth m o c e)
@@ -187,8 +195,8 @@ module _ (m : Model) where
               (((choice-inside c hc, tt), (state-inside o here loc tt (e .source) (w .source-ok), tt)), tt),
               (((choice-inside c hc, tt), (state-inside next h loc tt (e .target) (w .target-ok), tt)), tt),
               atoms-inside o here (choiceMember oneHotWidth m o c ∷ []) (choice-inside c hc, tt) (e .guard) (w .guard-ok),
-              all-each (ItemInside N) (m .vars) (λ i. updateItems oneHotWidth m o c i (updateAt e i)) .1
-                  (λ i p. update-inside i p (updateAt e i) (w .sets-ok i p)),
+              all-each (ItemInside N) (m .vars) (λ i. updateItems oneHotWidth m o c (e .order) i (updateAt e i)) .1
+                  (λ i p. update-inside (e .order) i p (updateAt e i) (w .sets-ok i p)),
               all-each (ItemInside N) (m .clocks) (λ i. resetItems oneHotWidth m o c i (resetAt e i)) .1
                   (λ i p. reset-inside i p (resetAt e i)),
             )
@@ -199,7 +207,7 @@ module _ (m : Model) where
           let D : Component → List Item = λ x. leads oneHotWidth m o o d x x (λ v. some (delayedValue m d x v)) in
           over-components m (ItemInside N) D .1 (λ x p.
           let to : ℕ → Option ℕ = λ v. some (delayedValue m d x v) in
-          leads-inside d (delay-lt m d l) x x p p to (λ v u a b. rw (← some-inj b) (delayed-lt m d x v a)))
+          leads-inside d (delay-lt m d l) o here x x p p to (λ v u a b. rw (← some-inj b) (delayed-lt m d x v a)))
 
       step-inside : All (ItemInside N) (stepItems oneHotWidth m o)
       unfolding stepItems choiceItems delaysItems edgesItems

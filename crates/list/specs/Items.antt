@@ -16,7 +16,7 @@ use Rattle.model.specs.declared.Edge.{Edge}
 use Rattle.model.specs.declared.Model.{Model}
 use Rattle.model.specs.Indexed.{each, sumBelow}
 use Rattle.model.specs.Record.{atomAt, updateAt, resetAt, counterAt, invariantAt, edgeAt}
-use Rattle.model.specs.Automaton.{ceiling, choices, Component, loc, counter, clock, groupSize, initialValue, meets, delayedValue, inRange, shifted}
+use Rattle.model.specs.Automaton.{ceiling, choices, Component, loc, counter, clock, groupSize, initialValue, meets, delayedValue, inRange, shifted, setEarlier}
 
 -- A member of a group: where the group's variables begin, how many members the group has, and the member's place among them, from 0.
 pub record Member : Type 0 where
@@ -149,17 +149,21 @@ module _ (width : ℕ → ℕ) (m : Model) where
   unfoldable pub guardItems : ℕ → ℕ → Edge → List Item
   guardItems o c e = excludeAllFailing o (choiceMember o c ∷ []) (e .guard)
 
-  -- An edge, per counter: for keep, each value: not edge, not value before, same after; for a constant: not edge, value after, or not edge
-  -- alone if it is out of range; for w plus offset, each value of w: not edge, not value before, result after, or without the last literal if
-  -- it is out of range.
-  abbrev pub updateItems : ℕ → ℕ → ℕ → Update → List Item
-  updateItems o c i Keep = leads o o c (counter i) (counter i) some
-  updateItems o c i (Constant n) = setsTo o c (counter i) (inRange (counterAt m i .greatest) n)
-  updateItems o c i (Sum w z) = leads o o c (counter w) (counter i) (shifted z (counterAt m i .greatest))
+  -- The state block in which an update of counter i reads counter w: that of the state after if w is set earlier, else that of the state before.
+  abbrev pub readBlock : ℕ → List ℕ → ℕ → ℕ → ℕ
+  readBlock o order w i = cond (setEarlier order w i) (nextBlock o) o
 
-  -- An edge: each counter's update.
+  -- An edge, per counter: for keep, each value: not edge, not value before, same after; for a constant: not edge, value after, or not edge
+  -- alone if it is out of range; for w plus offset, each value of w: not edge, not value before (after, if w is set earlier), result after, or
+  -- without the last literal if it is out of range.
+  abbrev pub updateItems : ℕ → ℕ → List ℕ → ℕ → Update → List Item
+  updateItems o c order i Keep = leads o o c (counter i) (counter i) some
+  updateItems o c order i (Constant n) = setsTo o c (counter i) (inRange (counterAt m i .greatest) n)
+  updateItems o c order i (Sum w z) = leads (readBlock o order w i) o c (counter w) (counter i) (shifted z (counterAt m i .greatest))
+
+  -- An edge: each counter's update, by rising counter.
   unfoldable pub updatesItems : ℕ → ℕ → Edge → List Item
-  updatesItems o c e = each (m .vars) (λ i. updateItems o c i (updateAt e i))
+  updatesItems o c e = each (m .vars) (λ i. updateItems o c (e .order) i (updateAt e i))
 
   -- An edge, per clock: reset gives not edge, 0 after; else each value is kept like a counter's.
   abbrev pub resetItems : ℕ → ℕ → ℕ → ClockUpdate → List Item

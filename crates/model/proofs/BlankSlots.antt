@@ -1,5 +1,5 @@
 -- What unused slots hold. "Formed where nothing is declared" (an invariant) and "formed in the blank model" (an edge) say exactly: blank, slot by slot.
-use mathlib.Core.Path.{_≡_, refl}
+use mathlib.Core.Path.{_≡_, refl, sym, subst, _∙_}
 use mathlib.Core.Logic.{_↔_}
 use mathlib.Core.Bool.{Bool, true, false, _&&_, not, cond}
 use mathlib.Core.List.{List}
@@ -14,23 +14,26 @@ use Rattle.model.specs.declared.AtomSlot.{AtomSlot}
 use Rattle.model.specs.declared.Counter.{Counter}
 use Rattle.model.specs.declared.Edge.{Edge}
 use Rattle.model.specs.declared.Model.{Model}
-use Rattle.model.specs.Record.{blankCounter, atomAt, updateAt, resetAt, counterAt, invariantAt, edgeAt}
-use Rattle.model.specs.Form.{isNotEqual, atomFormed, noGap, eachFormed, filledFromFirst, atomsFormed, isKeep, isUnchanged, updateFormed, updateSlotFormed}
-use Rattle.model.specs.Form.{updatesFormed, resetSlotFormed, resetsFormed, edgeFormed, counterFormed, isBlankCounter, counterSlotFormed, countersFormed}
+use Rattle.model.specs.Record.{blankCounter, atomAt, updateAt, counterIn, resetAt, counterAt, invariantAt, edgeAt}
+use Rattle.model.specs.Automaton.{isKeep, listed, placeIn}
+use Rattle.model.specs.Form.{isNotEqual, atomFormed, noGap, eachFormed, filledFromFirst, atomsFormed, isUnchanged, updateFormed, updateSlotFormed}
+use Rattle.model.specs.Form.{updatesFormed, orderSlotFormed, orderFormed, resetSlotFormed, resetsFormed, edgeFormed, counterFormed}
+use Rattle.model.specs.Form.{isBlankCounter, counterSlotFormed, countersFormed}
 use Rattle.model.specs.Form.{invariantSlotFormed, invariantsFormed, edgeSlotFormed, edgesFormed, headFormed, wellFormed}
-use Rattle.model.proofs.IndexedLaws.{and-T, eq-T, all-below}
+use Rattle.model.proofs.IndexedLaws.{and-T, eq-T, cond-F, not-lt, all-below, sum-same, sum-const}
 use Rattle.model.proofs.FormLaws.{atoms-at, edge-parts, keep-is, hold-is, and₃, and₄, no}
 
 -- every slot holds no atom
 abbrev pub NoAtom : List AtomSlot → Type 0
 NoAtom atoms = (k : ℕ) → k < 4 → atomAt atoms k ≡ Blank
 
--- an edge slot is blank: location 0 twice, no atom, keep, no reset
+-- an edge slot is blank: location 0 twice, no atom, keep, a blank order, no reset
 pub record BlankEdge (e : Edge) : Type 0 where
   pub source-0 : e .source ≡ 0
   pub target-0 : e .target ≡ 0
   pub no-atom : NoAtom (e .guard)
   pub keeps : (i : ℕ) → i < 4 → updateAt e i ≡ Keep
+  pub no-order : (k : ℕ) → k < 4 → counterIn (e .order) k ≡ 0
   pub no-reset : (i : ℕ) → i < 4 → resetAt e i ≡ Unchanged
 
 nothing-declared : (a : Atom) → T (atomFormed 0 0 a) → a ≡ Blank
@@ -38,8 +41,9 @@ nothing-declared Blank h = refl
 nothing-declared (OnClock x r c) h = absurd (omega (arith, ltb→lt x 0 (and₃ (ltb x 0) (leb c 30) (not (isNotEqual r)) h .0)))
 nothing-declared (OnCounter v r c) h = absurd (omega (arith, ltb→lt v 0 (and-T (ltb v 0) (leb c 31) .0 h .0)))
 
-and₅-of : (a b c d e : Bool) → T a → T b → T c → T d → T e → T (a && b && c && d && e)
-and₅-of a b c d e p q r s t = and-T (a && b && c && d) e .1 (and-T (a && b && c) d .1 (and-T (a && b) c .1 (and-T a b .1 (p, q), r), s), t)
+and₆-of : (a b c d e f : Bool) → T a → T b → T c → T d → T e → T f → T (a && b && c && d && e && f)
+and₆-of a b c d e f p q r s t u =
+    and-T (a && b && c && d && e) f .1 (and-T (a && b && c && d) e .1 (and-T (a && b && c) d .1 (and-T (a && b) c .1 (and-T a b .1 (p, q), r), s), t), u)
 
 either : (b : Bool) → T (cond b true true)
 either true = tt
@@ -62,26 +66,43 @@ blank-counter c = (
   λ h. rw h tt,
 )
 
+-- no update is listed where all are keep
+keeps-listed : (e : Edge) → ((i : ℕ) → i < 4 → updateAt e i ≡ Keep) → listed e ≡ 0
+unfolding listed
+keeps-listed e h = sum-same (λ i. cond (isKeep (updateAt e i)) 0 1) (λ _. 0) 4 (λ i l. rw (h i l) refl) ∙ sum-const 4 0
+
 pub blank-edge : (e : Edge) → T (edgeFormed 1 0 0 e) ↔ BlankEdge e
-unfolding edgeFormed updatesFormed resetsFormed
+unfolding edgeFormed updatesFormed orderFormed resetsFormed
 blank-edge e = (to, of)
   where
+    -- slot k names a counter that is set, for the first time
+    named : ℕ → Bool
+    named k =
+        ltb (counterIn (e .order) k) 4 && not (isKeep (updateAt e (counterIn (e .order) k))) && eqb (placeIn (e .order) (counterIn (e .order) k)) k
+
     to : T (edgeFormed 1 0 0 e) → BlankEdge e
     to h =
         let g = edge-parts 1 0 0 e h in
+        let keeps : (i : ℕ) → i < 4 → updateAt e i ≡ Keep =
+        λ i l. keep-is (updateAt e i) (no i 0 (updateFormed 0 (updateAt e i)) (isKeep (updateAt e i)) (g .3 i l) (omega arith)) in
         record {
           source-0 = omega (arith, g .0);
           target-0 = omega (arith, g .1);
           no-atom = blank-atoms (e .guard) .0 (g .2);
-          keeps = λ i l. keep-is (updateAt e i) (no i 0 (updateFormed 0 (updateAt e i)) (isKeep (updateAt e i)) (g .3 i l) (omega arith));
-          no-reset = λ i l. hold-is (resetAt e i) (no i 0 true (isUnchanged (resetAt e i)) (g .4 i l) (omega arith));
+          keeps = keeps;
+          no-order =
+              λ k l. eq-T (counterIn (e .order) k) 0 .0
+              (no k (listed e) (named k) (eqb (counterIn (e .order) k) 0) (g .4 k l) (omega (arith, keeps-listed e keeps)));
+          no-reset = λ i l. hold-is (resetAt e i) (no i 0 true (isUnchanged (resetAt e i)) (g .5 i l) (omega arith));
         }
 
     of : BlankEdge e → T (edgeFormed 1 0 0 e)
     of b =
-        and₅-of (ltb (e .source) 1) (ltb (e .target) 1) (atomsFormed 0 0 (e .guard)) (updatesFormed 0 (e .updates)) (resetsFormed 0 (e .resets))
+        and₆-of (ltb (e .source) 1) (ltb (e .target) 1) (atomsFormed 0 0 (e .guard)) (updatesFormed 0 (e .updates)) (orderFormed e) (resetsFormed 0 (e .resets))
         (lt→ltb (e .source) 1 (omega (arith, b .source-0))) (lt→ltb (e .target) 1 (omega (arith, b .target-0))) (blank-atoms (e .guard) .1 (b .no-atom))
         (all-below (λ k. updateSlotFormed 0 (updateAt e k) k) 4 .1 (λ k l. rw (b .keeps k l) (either (ltb k 0))))
+        (all-below (orderSlotFormed e) 4 .1 (λ k l. subst T (sym (cond-F (ltb k (listed e)) (named k) (eqb (counterIn (e .order) k) 0)
+        (not-lt k (listed e) (omega (arith, keeps-listed e (b .keeps)))))) (eq-T (counterIn (e .order) k) 0 .1 (b .no-order k l))))
         (all-below (λ k. resetSlotFormed 0 (resetAt e k) k) 4 .1 (λ k l. rw (b .no-reset k l) (either (ltb k 0))))
 
 -- ---- the unused slots of a well-formed record

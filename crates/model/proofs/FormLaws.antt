@@ -5,7 +5,7 @@ use mathlib.Core.List.{List}
 use Prim.Native.Nat.{ℕ, _+_, _*_, _≤_, _<_}
 use native.Mathlib.Nat.{mul-le-mul}
 use native.Mathlib.Omega.{arith}
-use lib.Dec.{T, leb, ltb, eqb, leb→le, ltb→lt, lt→ltb, not-T}
+use lib.Dec.{T, leb, ltb, eqb, leb→le, ltb→lt, lt→ltb}
 use lib.IntN.{natAbs}
 use Rattle.model.specs.declared.Atom.{Atom}
 use Rattle.model.specs.declared.Atom.the-variants.{Blank, OnClock, OnCounter}
@@ -18,13 +18,17 @@ use Rattle.model.specs.declared.Edge.{Edge}
 use Rattle.model.specs.declared.Model.{Model}
 use Rattle.model.specs.declared.Totals.{Totals}
 use Rattle.model.specs.Indexed.{maxBelow, sumBelow}
-use Rattle.model.specs.Record.{atomAt, updateAt, resetAt, counterAt, invariantAt, edgeAt}
-use Rattle.model.specs.Automaton.{clockConstant, greatestConstant, ceiling, counter, groupSize, stateSize, choices, variables, totals}
+use Rattle.model.specs.Record.{atomAt, updateAt, counterIn, resetAt, counterAt, invariantAt, edgeAt}
+use Rattle.model.specs.Automaton.{clockConstant, greatestConstant, ceiling, counter, groupSize, isKeep, listed, placeIn, stateSize, choices}
+use Rattle.model.specs.Automaton.{variables, totals}
 use Rattle.model.specs.Bounds.{KnownTotals}
-use Rattle.model.specs.Form.{isNotEqual, atomFormed, eachFormed, filledFromFirst, atomsFormed, updateFormed, isKeep, isUnchanged, updateSlotFormed}
-use Rattle.model.specs.Form.{updatesFormed, resetSlotFormed, resetsFormed, edgeFormed, counterFormed, isBlankCounter, counterSlotFormed, countersFormed}
+use Rattle.model.specs.Form.{isNotEqual, atomFormed, eachFormed, filledFromFirst, atomsFormed, updateFormed, isUnchanged, updateSlotFormed}
+use Rattle.model.specs.Form.{}
+use Rattle.model.specs.Form.{updatesFormed, orderSlotFormed, orderFormed, resetSlotFormed, resetsFormed, edgeFormed, counterFormed}
+use Rattle.model.specs.Form.{isBlankCounter, counterSlotFormed, countersFormed}
 use Rattle.model.specs.Form.{invariantSlotFormed, invariantsFormed, edgeSlotFormed, edgesFormed, headFormed, wellFormed}
-use Rattle.model.proofs.IndexedLaws.{and-T, eq-T, cond-T, cond-F, all-below, max-below, max-at, sum-below}
+use Rattle.model.proofs.IndexedLaws.{and-T, eq-T, cond-T, cond-F, not-lt, all-below, max-below, max-at, sum-below}
+use Rattle.model.proofs.OrderLaws.{Ordered, listed-le}
 
 -- ---- well-formedness as facts
 abbrev pub DeclaredAtom : Model → Atom → Type 0
@@ -43,6 +47,7 @@ pub record WellFormedEdge (m : Model) (e : Edge) : Type 0 where
   pub guard-ok : (k : ℕ) → k < 4 → DeclaredAtom m (atomAt (e .guard) k)
   pub sets-ok : (i : ℕ) → i < m .vars → DeclaredUpdate m (updateAt e i)
   pub sets-rest : (i : ℕ) → m .vars ≤ i → i < 4 → updateAt e i ≡ Keep
+  pub order-ok : Ordered e
   pub resets-rest : (i : ℕ) → m .clocks ≤ i → i < 4 → resetAt e i ≡ Unchanged
 
 pub record WellFormed (m : Model) : Type 0 where
@@ -69,19 +74,18 @@ and₄ a b c d h = let g = and-T (a && b && c) d .0 h in let f = and₃ a b c (g
 and₅ : (a b c d e : Bool) → T (a && b && c && d && e) → T a × T b × T c × T d × T e
 and₅ a b c d e h = let g = and-T (a && b && c && d) e .0 h in let f = and₄ a b c d (g .0) in (f .0, f .1, f .2, f .3, g .1)
 
+and₆ : (a b c d e f : Bool) → T (a && b && c && d && e && f) → T a × T b × T c × T d × T e × T f
+and₆ a b c d e f h = let x = and-T (a && b && c && d && e) f .0 h in let v = and₅ a b c d e (x .0) in (v .0, v .1, v .2, v .3, v .4, x .1)
+
 and₇ : (a b c d e f g : Bool) → T (a && b && c && d && e && f && g) → T a × T b × T c × T d × T e × T f × T g
 and₇ a b c d e f g h =
-    let y = and-T (a && b && c && d && e && f) g .0 h in
-    let x = and-T (a && b && c && d && e) f .0 (y .0) in let v = and₅ a b c d e (x .0) in (v .0, v .1, v .2, v .3, v .4, x .1, y .1)
-
-nlt : (a b : ℕ) → b ≤ a → T (not (ltb a b))
-nlt a b h = not-T (ltb a b) (λ t. omega (arith, ltb→lt a b t))
+    let y = and-T (a && b && c && d && e && f) g .0 h in let v = and₆ a b c d e f (y .0) in (v .0, v .1, v .2, v .3, v .4, v .5, y .1)
 
 pub yes : (a b : ℕ) (x y : Bool) → T (cond (ltb a b) x y) → a < b → T x
 yes a b x y h l = subst T (cond-T (ltb a b) x y (lt→ltb a b l)) h
 
 pub no : (a b : ℕ) (x y : Bool) → T (cond (ltb a b) x y) → b ≤ a → T y
-no a b x y h l = subst T (cond-F (ltb a b) x y (nlt a b l)) h
+no a b x y h l = subst T (cond-F (ltb a b) x y (not-lt a b l)) h
 
 pub keep-is : (u : Update) → T (isKeep u) → u ≡ Keep
 keep-is Keep h = refl
@@ -119,17 +123,37 @@ atoms-constant clocks vars atoms h = max-below _ 4 30 (λ k l. atom-constant clo
 
 pub edge-parts : (locations clocks vars : ℕ) (e : Edge) → T (edgeFormed locations clocks vars e)
     → (e .source < locations) × (e .target < locations) × T (atomsFormed clocks vars (e .guard))
-    × ((k : ℕ) → k < 4 → T (updateSlotFormed vars (updateAt e k) k)) × ((k : ℕ) → k < 4 → T (resetSlotFormed clocks (resetAt e k) k))
-unfolding edgeFormed updatesFormed resetsFormed
+    × ((k : ℕ) → k < 4 → T (updateSlotFormed vars (updateAt e k) k)) × ((k : ℕ) → k < 4 → T (orderSlotFormed e k))
+    × ((k : ℕ) → k < 4 → T (resetSlotFormed clocks (resetAt e k) k))
+unfolding edgeFormed updatesFormed orderFormed resetsFormed
 edge-parts locations clocks vars e h =
-    let g = and₅ (ltb (e .source) locations) (ltb (e .target) locations) (atomsFormed clocks vars (e .guard)) (updatesFormed vars (e .updates))
-    (resetsFormed clocks (e .resets)) h in (
+    let g = and₆ (ltb (e .source) locations) (ltb (e .target) locations) (atomsFormed clocks vars (e .guard)) (updatesFormed vars (e .updates))
+    (orderFormed e) (resetsFormed clocks (e .resets)) h in (
       ltb→lt (e .source) locations (g .0),
       ltb→lt (e .target) locations (g .1),
       g .2,
       all-below (λ k. updateSlotFormed vars (updateAt e k) k) 4 .0 (g .3),
-      all-below (λ k. resetSlotFormed clocks (resetAt e k) k) 4 .0 (g .4),
+      all-below (orderSlotFormed e) 4 .0 (g .4),
+      all-below (λ k. resetSlotFormed clocks (resetAt e k) k) 4 .0 (g .5),
     )
+
+-- the slots of the order that are used
+pub order-slot : (e : Edge) → ((k : ℕ) → k < 4 → T (orderSlotFormed e k)) → Ordered e
+order-slot e h = record {
+  slot-lt = λ k l. ltb→lt (slot k) 4 (parts k l .0);
+  slot-set = λ k l. parts k l .1;
+  slot-first = λ k l. eq-T (placeIn (e .order) (slot k)) k .0 (parts k l .2);
+}
+  where
+    slot : ℕ → ℕ
+    slot k = counterIn (e .order) k
+
+    parts : (k : ℕ) → k < listed e → T (ltb (slot k) 4) × T (not (isKeep (updateAt e (slot k)))) × T (eqb (placeIn (e .order) (slot k)) k)
+    parts k l =
+        let a = ltb (slot k) 4 in
+        let b = not (isKeep (updateAt e (slot k))) in
+        let c = eqb (placeIn (e .order) (slot k)) k in
+        and₃ a b c (yes k (listed e) (a && b && c) (eqb (slot k) 0) (h k (omega (arith, listed-le e))) l)
 
 edge-formed : (m : Model) → m .vars ≤ 4 → (e : Edge) → T (edgeFormed (m .locations) (m .clocks) (m .vars) e) → WellFormedEdge m e
 edge-formed m le e h =
@@ -143,7 +167,8 @@ edge-formed m le e h =
       sets-ok =
           λ i l. update-declared m (updateAt e i) (yes i (m .vars) (updateFormed (m .vars) (updateAt e i)) (isKeep (updateAt e i)) (g .3 i (omega arith)) l);
       sets-rest = λ i p l. keep-is (updateAt e i) (no i (m .vars) (updateFormed (m .vars) (updateAt e i)) (isKeep (updateAt e i)) (g .3 i l) p);
-      resets-rest = λ i p l. hold-is (resetAt e i) (no i (m .clocks) true (isUnchanged (resetAt e i)) (g .4 i l) p);
+      order-ok = order-slot e (g .4);
+      resets-rest = λ i p l. hold-is (resetAt e i) (no i (m .clocks) true (isUnchanged (resetAt e i)) (g .5 i l) p);
     }
 
 invariant-slot-constant : (b : Bool) (c : ℕ) (atoms : List AtomSlot) → T (cond b (atomsFormed c 0 atoms) (atomsFormed 0 0 atoms)) → greatestConstant atoms ≤ 30

@@ -1,4 +1,4 @@
--- Laws of tests, of what may be missing, and of "each", "all", "the greatest" and "the sum" over an index.
+-- Laws of tests, of what may be missing, and of "each", "all", "the greatest", "the sum" and "the first" over an index.
 use mathlib.Core.Path.{_≡_, refl, sym, ap, subst, _∙_}
 use mathlib.Core.Logic.{_↔_, _⊎_, inl, inr, ⊎-elim}
 use mathlib.Core.Bool.{Bool, true, false, _&&_, not, cond, and-false}
@@ -9,10 +9,10 @@ use native.Mathlib.Nat.{eq-or-lt-of-le, le-of-suc-le-suc, not-suc-le-zero}
 use native.Mathlib.Omega.{arith}
 use native.Mathlib.Numerals.{add-one}
 use borrow.Author.Tests.{not-true, not-false}
-use lib.Dec.{T, leb, eqb, leb→le, nleb→lt, eqb→eq, eqb-refl}
+use lib.Dec.{T, leb, ltb, eqb, leb→le, nleb→lt, ltb→lt, lt→ltb, eqb→eq, eqb-refl, not-T, T-not}
 use lib.ListN.{length, getD, length-append, List·getD-append}
 use lib.Seq.{getD-append-seam}
-use Rattle.model.specs.Indexed.{each, listBelow, allBelow, maxBelow, sumBelow, onlyIf, andThen, isSome, orZero}
+use Rattle.model.specs.Indexed.{each, listBelow, allBelow, maxBelow, sumBelow, firstBelow, onlyIf, andThen}
 
 -- ---- tests
 pub and-T : (a b : Bool) → T (a && b) ↔ (T a × T b)
@@ -49,6 +49,9 @@ pub cond-F : {A : Type 0} (b : Bool) (x y : A) → T (not b) → cond b x y ≡ 
 cond-F true x y h = absurd h
 cond-F false x y h = refl
 
+pub not-lt : (a b : ℕ) → b ≤ a → T (not (ltb a b))
+not-lt a b h = not-T (ltb a b) (λ t. omega (arith, ltb→lt a b t))
+
 -- ---- what may be missing
 pub some-inj : {A : Type 0} {x y : A} → some x ≡ some y → x ≡ y
 some-inj {x} {y} e = cc
@@ -68,18 +71,14 @@ pub then-iff : {A B : Type 0} (x : Option A) (f : A → Option B) (y : B) → (a
 then-iff none f y = (λ e. absurd (some-none e), λ h. absurd (some-none (h .1)))
 then-iff (some a) f y = (λ e. (a, refl, e), λ h. rw (some-inj (h .1)) (h .2))
 
-pub some-is : (x : Option ℕ) → T (isSome x) → x ≡ some (orZero x)
-some-is none h = absurd h
-some-is (some a) h = refl
-
-pub is-some : (x : Option ℕ) (a : ℕ) → x ≡ some a → T (isSome x) × (orZero x ≡ a)
-is-some none a h = absurd (some-none h)
-is-some (some b) a h = (tt, some-inj h)
-
 -- ---- over an index
 -- the last index of a range, or one before it
 pub below-cases : {C : Type 0} (v n : ℕ) → v < suc n → (v ≡ n → C) → (v < n → C) → C
 below-cases v n q f g = ⊎-elim f g (eq-or-lt-of-le (le-of-suc-le-suc q))
+
+-- what holds of every index below n, and of n
+pub below-more : {P : ℕ → Type 0} {n : ℕ} → ((i : ℕ) → i < n → P i) → P n → (i : ℕ) → i < n + 1 → P i
+below-more {P} {n} h here i l = ⊎-elim (λ q. h i q) (λ q. let e : i ≡ n = omega arith in subst P (sym e) here) (lt-or-le i n)
 
 pub all-below : (p : ℕ → Bool) (n : ℕ) → T (allBelow p n) ↔ ((i : ℕ) → i < n → T (p i))
 unfolding allBelow
@@ -123,10 +122,112 @@ unfolding sumBelow
 sum-const zero c = omega arith
 sum-const (suc n) c = omega (arith, sum-const n c)
 
+pub sum-le : (f g : ℕ → ℕ) (n : ℕ) → ((i : ℕ) → i < n → f i ≤ g i) → sumBelow f n ≤ sumBelow g n
+unfolding sumBelow
+sum-le f g zero h = omega arith
+sum-le f g (suc n) h = omega (arith, sum-le f g n (λ i l. h i (omega arith)), h n (omega arith))
+
 pub sum-mono : (f : ℕ → ℕ) (i n : ℕ) → i < n → sumBelow f i + f i ≤ sumBelow f n
 unfolding sumBelow
 sum-mono f i zero p = absurd (not-suc-le-zero p)
 sum-mono f i (suc n) p = below-cases i n p (λ q. rw q (omega arith)) (λ l. omega (arith, sum-mono f i n l))
+
+pub sum-add : (f g : ℕ → ℕ) (n : ℕ) → sumBelow (λ i. f i + g i) n ≡ sumBelow f n + sumBelow g n
+unfolding sumBelow
+sum-add f g zero = omega arith
+sum-add f g (suc n) = omega (arith, sum-add f g n)
+
+-- 1 where a test holds
+abbrev pub oneIf : Bool → ℕ
+oneIf b = cond b 1 0
+
+pub one-if : (b : Bool) → T b → oneIf b ≡ 1
+one-if b t = cond-T b 1 0 t
+
+pub zero-if : (b : Bool) → T (not b) → oneIf b ≡ 0
+zero-if b t = cond-F b 1 0 t
+
+-- one index of n counts
+pub sum-one : (j n : ℕ) → sumBelow (λ i. oneIf (eqb i j)) n ≡ oneIf (ltb j n)
+unfolding sumBelow
+sum-one j zero = sym (zero-if (ltb j 0) (not-lt j 0 (omega arith)))
+sum-one j (suc n) = ⊎-elim
+    (λ l. let e = sum-one j n in
+    let f = one-if (ltb j n) (lt→ltb j n l) in
+    omega (arith, e, f, apart (λ z. omega (arith, z)), one-if (ltb j (suc n)) (lt→ltb j (suc n) (omega arith))))
+    (λ l. let e = sum-one j n in let f = zero-if (ltb j n) (not-lt j n l) in ⊎-elim
+    (λ q. omega (arith, e, f, one-if (eqb n j) (eq-T n j .1 (omega arith)), one-if (ltb j (suc n)) (lt→ltb j (suc n) q)))
+    (λ q. omega (arith, e, f, apart (λ z. omega (arith, z)), zero-if (ltb j (suc n)) (not-lt j (suc n) q)))
+    (lt-or-le j (suc n)))
+    (lt-or-le j n)
+  where
+    apart : (n ≡ j → ⊥) → oneIf (eqb n j) ≡ 0
+    apart h = zero-if (eqb n j) (not-T (eqb n j) (λ t. h (eq-T n j .0 t)))
+
+-- terms that are no greater and have the same sum are the same
+pub sum-equal : (f g : ℕ → ℕ) (n : ℕ) → ((i : ℕ) → i < n → f i ≤ g i) → sumBelow g n ≤ sumBelow f n → (i : ℕ) → i < n → f i ≡ g i
+unfolding sumBelow
+sum-equal f g zero h e i p = absurd (not-suc-le-zero p)
+sum-equal f g (suc n) h e i p =
+    let le = sum-le f g n (λ i l. h i (omega arith)) in
+    below-cases i n p (λ q. rw q (omega (arith, h n (omega arith))))
+    (λ l. sum-equal f g n (λ i l. h i (omega arith)) (omega (arith, h n (omega arith))) i l)
+
+-- ---- the first index
+-- k is the first index below n of which p holds, or n
+pub record First (p : ℕ → Bool) (n k : ℕ) : Type 0 where
+  pub within : k ≤ n
+  pub holds : k < n → T (p k)
+  pub least : (j : ℕ) → j < k → p j ≡ false
+
+first-more : (p : ℕ → Bool) (n k : ℕ) → First p n k → First p (suc n) (cond (ltb k n) k (cond (p n) n (suc n)))
+first-more p n k before = ⊎-elim found (λ f. ⊎-elim (here f) (nowhere f) (split (p n))) (split (ltb k n))
+  where
+    answer : ℕ
+    answer = cond (ltb k n) k (cond (p n) n (suc n))
+
+    found : T (ltb k n) → First p (suc n) answer
+    found t = let l : k < n = ltb→lt k n t in
+        subst (First p (suc n)) (sym (cond-T (ltb k n) k (cond (p n) n (suc n)) t))
+        (record { within = omega arith; holds = λ _. before .holds l; least = before .least })
+
+    last : T (not (ltb k n)) → k ≡ n
+    last f = let q = before .within in ⊎-elim (λ l. absurd (T-not (ltb k n) f (lt→ltb k n l))) (λ l. omega arith) (lt-or-le k n)
+
+    here : T (not (ltb k n)) → T (p n) → First p (suc n) answer
+    here f t = let e = last f in
+        subst (First p (suc n)) (sym (cond-F (ltb k n) k (cond (p n) n (suc n)) f ∙ cond-T (p n) n (suc n) t))
+        (record { within = omega arith; holds = λ _. t; least = λ j l. before .least j (omega arith) })
+
+    nowhere : T (not (ltb k n)) → T (not (p n)) → First p (suc n) answer
+    nowhere f t = let e = last f in
+        subst (First p (suc n)) (sym (cond-F (ltb k n) k (cond (p n) n (suc n)) f ∙ cond-F (p n) n (suc n) t))
+        (record {
+          within = omega arith;
+          holds = λ l. absurd (omega (arith, l));
+          least = λ j l. below-cases j n l (λ q. rw q (not-true (p n) (T-true (not (p n)) .0 t))) (λ q. before .least j (omega arith));
+        })
+
+pub first-law : (p : ℕ → Bool) (n : ℕ) → First p n (firstBelow p n)
+unfolding firstBelow
+first-law p zero = record { within = omega arith; holds = λ l. absurd (not-suc-le-zero l); least = λ j l. absurd (not-suc-le-zero l) }
+first-law p (suc n) = first-more p n (firstBelow p n) (first-law p n)
+
+pub first-unique : {p : ℕ → Bool} {n j k : ℕ} → First p n j → First p n k → j ≡ k
+first-unique {p} {n} {j} {k} a b =
+    let a-le = a .within in
+    let b-le = b .within in
+    ⊎-elim (λ l. absurd (clash j (a .holds (omega arith)) (b .least j l)))
+    (λ l. ⊎-elim (λ q. absurd (clash k (b .holds (omega arith)) (a .least k q))) (λ q. omega arith) (lt-or-le k j)) (lt-or-le j k)
+  where
+    clash : (i : ℕ) → T (p i) → p i ≡ false → ⊥
+    clash i t f = subst T f t
+
+pub first-is : (p : ℕ → Bool) (k n : ℕ) → k < n → T (p k) → ((j : ℕ) → j < k → p j ≡ false) → firstBelow p n ≡ k
+first-is p k n l t h = first-unique (first-law p n) (record { within = omega arith; holds = λ _. t; least = h })
+
+pub first-none : (p : ℕ → Bool) (n : ℕ) → ((j : ℕ) → j < n → p j ≡ false) → firstBelow p n ≡ n
+first-none p n h = first-unique (first-law p n) (record { within = omega arith; holds = λ l. absurd (omega (arith, l)); least = h })
 
 module _ {A : Type 0} where
   pub each-suc : (n : ℕ) (f : ℕ → List A) → each (suc n) f ≡ each n f ++ f n

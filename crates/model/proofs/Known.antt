@@ -5,7 +5,9 @@ use lib.ListN.{length, length-map}
 use mir.Val.{Val}
 use denote.Laws.{Is}
 use Rattle.model.specs.declared.Model.{Model}
+use Rattle.model.specs.declared.Edge.{Edge}
 use Rattle.model.proofs.Model as ModelT
+use Rattle.model.proofs.Edge as EdgeT
 
 pub record Lengths (m : Model) : Type 0 where
   pub counters : length (m .counters) ≡ 4
@@ -18,3 +20,6 @@ lengths m vs g = record {
   invariants = sym (length-map (m .invariants) _) ∙ g .1 .1 .1 .1 .1 .1 .1 .1 .0 .1 .0 .1;
   edges = sym (length-map (m .edges) _) ∙ g .1 .1 .1 .1 .1 .1 .1 .1 .1 .1 .0 .1 .0 .1;
 }
+
+pub updates-long : (e : Edge) (vs : List Val) → Is EdgeT.the-row e vs → length (e .updates) ≡ 4
+updates-long e vs g = sym (length-map (e .updates) _) ∙ g .1 .1 .1 .1 .1 .0 .1 .0 .1

@@ -1,4 +1,5 @@
 pub mod IndexedLaws
+pub mod OrderLaws
 pub mod FormLaws
 pub mod BlankSlots
 pub mod StepLaws

@@ -1,9 +1,9 @@
 -- Steps: what the layers above cite instead of the definitions. All is said component by component.
 use mathlib.Core.Path.{_≡_, refl, sym, ap, subst, _∙_}
 use mathlib.Core.Logic.{_↔_, _⊎_, inl, inr, ⊎-elim}
-use mathlib.Core.Bool.{Bool, true, false, _&&_, cond}
+use mathlib.Core.Bool.{Bool, true, false, not, _&&_, cond}
 use mathlib.Core.List.{List}
-use mathlib.Core.Option.{none, some}
+use mathlib.Core.Option.{Option, none, some}
 use Prim.Native.Nat.{ℕ, _+_, _-_, _≤_, _<_, min}
 use native.Mathlib.Nat.{add-sub-cancel-left}
 use native.Mathlib.Omega.{arith}
@@ -20,14 +20,16 @@ use Rattle.model.specs.declared.AtomSlot.{AtomSlot}
 use Rattle.model.specs.declared.Edge.{Edge}
 use Rattle.model.specs.declared.Model.{Model}
 use Rattle.model.specs.declared.State.{State}
-use Rattle.model.specs.Indexed.{listBelow, allBelow, onlyIf, isSome, orZero}
-use Rattle.model.specs.Record.{atomAt, updateAt, resetAt, counterAt, invariantAt, edgeAt}
+use Rattle.model.specs.Indexed.{listBelow, allBelow, onlyIf, andThen}
+use Rattle.model.specs.Record.{atomAt, updateAt, counterIn, resetAt, counterAt, invariantAt, edgeAt}
 use Rattle.model.specs.Automaton.{ceiling, Component, loc, counter, clock, value, Declared, groupSize, choices, atomHolds, allHold, invariantHolds}
 use Rattle.model.specs.Automaton.{initialState, initialValue, delayedClock, delayed, delayStep, delayedValue, inRange, moved, isNegative, shifted}
-use Rattle.model.specs.Automaton.{newCounter, newClock, nextCounter, nextClock, countersInRange, afterEdge, edgeAllowed, edgeStep, step}
+use Rattle.model.specs.Automaton.{isKeep, newCounter, newClock, listed, placeIn, updated, readBy, setEarlier, nextClock, afterEdge, edgeAllowed}
+use Rattle.model.specs.Automaton.{edgeStep, step}
 use Rattle.model.specs.Form.{slotInGroup, countersInGroup, clocksInGroup, stateFormed}
-use Rattle.model.proofs.IndexedLaws.{and-T, eq-T, some-inj, some-none, only-if, cond-some, some-is, is-some, lt-or-le, cond-T, cond-F, all-below}
+use Rattle.model.proofs.IndexedLaws.{and-T, eq-T, split, some-inj, some-none, only-if, cond-some, then-iff, lt-or-le, cond-T, cond-F, all-below}
 use Rattle.model.proofs.IndexedLaws.{length-list, getD-list}
+use Rattle.model.proofs.OrderLaws.{Ordered, Updates, readAtPlace, place-at, listed-le, set-place, kept-place, updated-to, updated-of}
 use Rattle.model.proofs.FormLaws.{WellFormedEdge, WellFormed, yes, no}
 
 -- ---- states
@@ -175,113 +177,195 @@ module _ (m : Model) (ok : WellFormed m) (s t : State) (q : Shaped m s) where
   step-delay b l = rw (le-leb b (ceiling m) (omega arith)) (delay-iff b)
 
 -- ---- edges
--- the state after an edge, place by place
-pub record EdgeTo (m : Model) (e : Edge) (s t : State) : Type 0 where
+-- the state after an edge, place by place, where `read` says what the update of counter i reads of counter w
+pub record EdgeBy (read : ℕ → ℕ → ℕ) (m : Model) (e : Edge) (s t : State) : Type 0 where
   pub shape : Shaped m t
   pub leaves : s .location ≡ e .source
   pub guard : (k : ℕ) → k < 4 → T (atomHolds s (atomAt (e .guard) k))
-  pub sets : (i : ℕ) → i < m .vars
-      → newCounter (λ w. value s (counter w)) (counterAt m i .greatest) (value s (counter i)) (updateAt e i) ≡ some (value t (counter i))
+  pub sets : (i : ℕ) → i < m .vars → newCounter (read i) (counterAt m i .greatest) (value s (counter i)) (updateAt e i) ≡ some (value t (counter i))
   pub resets : (i : ℕ) → i < m .clocks → newClock (λ w. value s (clock w)) (value s (clock i)) (resetAt e i) ≡ value t (clock i)
   pub lands : t .location ≡ e .target
   pub allowed : T (invariantHolds m t)
 
+-- a source set earlier is read after its update
+abbrev pub EdgeTo : Model → Edge → State → State → Type 0
+EdgeTo m e s t = EdgeBy (readBy e s t) m e s t
+
 allowed-iff :
-    (m : Model) (e : Edge) (s : State) → T (edgeAllowed m e s) ↔ ((s .location ≡ e .source) × ((k : ℕ) → k < 4 → T (atomHolds s (atomAt (e .guard) k)))
-    × ((k : ℕ) → k < 4 → T (isSome (nextCounter (m .counters) e s k))) × T (invariantHolds m (afterEdge (m .counters) e s)))
-unfolding edgeAllowed countersInRange
-allowed-iff m e s =
+    (m : Model) (e : Edge) (s : State) (vs : List ℕ) → T (edgeAllowed m e s vs)
+    ↔ ((s .location ≡ e .source) × ((k : ℕ) → k < 4 → T (atomHolds s (atomAt (e .guard) k))) × T (invariantHolds m (afterEdge e s vs)))
+unfolding edgeAllowed
+allowed-iff m e s vs =
     let a = eqb (s .location) (e .source) in
     let b = allHold s (e .guard) in
-    let c = allBelow (λ k. isSome (nextCounter (m .counters) e s k)) 4 in
-    let d = invariantHolds m (afterEdge (m .counters) e s) in (
-      (λ h. let x = and-T (a && b && c) d .0 h in let y = and-T (a && b) c .0 (x .0) in let z = and-T a b .0 (y .0) in (
-        eq-T (s .location) (e .source) .0 (z .0),
-        hold-iff s (e .guard) .0 (z .1),
-        all-below (λ k. isSome (nextCounter (m .counters) e s k)) 4 .0 (y .1),
-        x .1,
-      )),
-      λ h. and-T (a && b && c) d .1 (
-        and-T (a && b) c .1 (
-          and-T a b .1 (eq-T (s .location) (e .source) .1 (h .0), hold-iff s (e .guard) .1 (h .1)),
-          all-below (λ k. isSome (nextCounter (m .counters) e s k)) 4 .1 (h .2),
-        ),
-        h .3,
-      ),
+    let d = invariantHolds m (afterEdge e s vs) in (
+      (λ h. let x = and-T (a && b) d .0 h in
+          let z = and-T a b .0 (x .0) in
+          (eq-T (s .location) (e .source) .0 (z .0), hold-iff s (e .guard) .0 (z .1), x .1)),
+      λ h. and-T (a && b) d .1 (and-T a b .1 (eq-T (s .location) (e .source) .1 (h .0), hold-iff s (e .guard) .1 (h .1)), h .2),
     )
 
+-- ---- the counters
+module _ (m : Model) (ok : WellFormed m) (e : Edge) (eo : WellFormedEdge m e) (s t : State) (q : Shaped m s) where
+  abbrev order-ok : Ordered e
+  order-ok = eo .order-ok
+
+  -- counter by counter, what an update reads said by places
+  abbrev Sets : ℕ → Type 0
+  Sets i = newCounter (readBy e s t i) (counterAt m i .greatest) (value s (counter i)) (updateAt e i) ≡ some (value t (counter i))
+
+  keep-new : (f : ℕ → ℕ) (greatest own : ℕ) (u : Update) → T (isKeep u) → newCounter f greatest own u ≡ some own
+  keep-new f greatest own Keep h = refl
+  keep-new f greatest own (Constant c) h = absurd h
+  keep-new f greatest own (Sum w z) h = absurd h
+
+  -- the counters that the listed updates leave
+  updates-to : Updates (m .counters) e order-ok (listed e) (s .counters) (t .counters) → (i : ℕ) → i < m .vars → Sets i
+  unfolding setEarlier
+  updates-to h i l = ⊎-elim
+      (λ k. keep-new (readBy e s t i) (counterAt m i .greatest) (value s (counter i)) (updateAt e i) k ∙ ap some (sym (h .kept i (kept-place e order-ok i k))))
+      (λ k. let p = set-place e order-ok i (omega (arith, ok .vars-le)) k in
+      let here = place-at (e .order) i (omega (arith, p, listed-le e)) in
+      subst (λ (x : ℕ). newCounter (readAtPlace (m .counters) e order-ok (placeIn (e .order) i) (s .counters) (t .counters)) (counterAt m x .greatest)
+      (value s (counter x)) (updateAt e x) ≡ some (value t (counter x))) here (h .sets (placeIn (e .order) i) p))
+      (split (isKeep (updateAt e i)))
+
+  updates-of : Shaped m t → ((i : ℕ) → i < m .vars → Sets i) → Updates (m .counters) e order-ok (listed e) (s .counters) (t .counters)
+  unfolding setEarlier
+  updates-of q′ h = record { long = q′ .counters-len ∙ sym (q .counters-len); kept = rest; sets = by-place }
+    where
+      rest : (i : ℕ) → listed e ≤ placeIn (e .order) i → value t (counter i) ≡ value s (counter i)
+      rest i p = ⊎-elim
+          (λ l. some-inj (sym (h i l) ∙ keep-new (readBy e s t i) (counterAt m i .greatest) (value s (counter i)) (updateAt e i)
+          (keep i (omega (arith, ok .vars-le)) p)))
+          (λ l. ⊎-elim (λ k. q′ .counters-rest i l k ∙ sym (q .counters-rest i l k))
+          (λ k. List·getD-eq-default (t .counters) 0 (rw (q′ .counters-len) k) ∙ sym (List·getD-eq-default (s .counters) 0 (rw (q .counters-len) k)))
+          (lt-or-le i 4))
+          (lt-or-le i (m .vars))
+        where
+          keep : (i : ℕ) → i < 4 → listed e ≤ placeIn (e .order) i → T (isKeep (updateAt e i))
+          keep i l p = ⊎-elim (λ k. k) (λ k. absurd (omega (arith, p, set-place e order-ok i l k))) (split (isKeep (updateAt e i)))
+
+      by-place : (k : ℕ) → k < listed e →
+          let i = counterIn (e .order) k in
+          newCounter (readAtPlace (m .counters) e order-ok k (s .counters) (t .counters)) (counterAt m i .greatest) (value s (counter i)) (updateAt e i)
+          ≡ some (value t (counter i))
+      by-place k l =
+          let i = counterIn (e .order) k in
+          subst (λ (p : ℕ). newCounter (readAtPlace (m .counters) e order-ok p (s .counters) (t .counters)) (counterAt m i .greatest) (value s (counter i))
+          (updateAt e i) ≡ some (value t (counter i))) (order-ok .slot-first k l) (h i (declared i (order-ok .slot-lt k l) (order-ok .slot-set k l)))
+        where
+          declared : (i : ℕ) → i < 4 → T (not (isKeep (updateAt e i))) → i < m .vars
+          declared i l k = ⊎-elim (λ p. p) (λ p. absurd (rw (eo .sets-rest i p l) at k)) (lt-or-le i (m .vars))
+
+-- ---- the whole edge
 module _ (m : Model) (ok : WellFormed m) (e : Edge) (eo : WellFormedEdge m e) (s : State) (q : Shaped m s) where
-  counter-after : (i : ℕ) → i < 4 → value (afterEdge (m .counters) e s) (counter i) ≡ orZero (nextCounter (m .counters) e s i)
+  clock-after : (vs : List ℕ) (i : ℕ) → i < 4 → value (afterEdge e s vs) (clock i) ≡ nextClock e s i
   unfolding afterEdge
-  counter-after i l = getD-list 0 (λ k. orZero (nextCounter (m .counters) e s k)) 4 i l
-
-  clock-after : (i : ℕ) → i < 4 → value (afterEdge (m .counters) e s) (clock i) ≡ nextClock e s i
-  unfolding afterEdge
-  clock-after i l = getD-list 0 (nextClock e s) 4 i l
-
-  kept : (i : ℕ) → m .vars ≤ i → i < 4 → nextCounter (m .counters) e s i ≡ some 0
-  kept i p l =
-      ap (λ (u : Update). newCounter (λ w. value s (counter w)) (counterAt m i .greatest) (value s (counter i)) u) (eo .sets-rest i p l)
-      ∙ ap some (q .counters-rest i p l)
+  clock-after vs i l = getD-list 0 (nextClock e s) 4 i l
 
   held : (i : ℕ) → m .clocks ≤ i → i < 4 → nextClock e s i ≡ 0
   held i p l = ap (λ (u : ClockUpdate). newClock (λ w. value s (clock w)) (value s (clock i)) u) (eo .resets-rest i p l) ∙ q .clocks-rest i p l
 
-  shaped-after : Shaped m (afterEdge (m .counters) e s)
-  shaped-after = record {
-    counters-len = lens .0;
-    clocks-len = lens .1;
-    counters-rest = λ i p l. counter-after i l ∙ ap orZero (kept i p l);
-    clocks-rest = λ i p l. clock-after i l ∙ held i p l;
-  }
-    where
-      lens : (length (afterEdge (m .counters) e s .counters) ≡ 4) × (length (afterEdge (m .counters) e s .clocks) ≡ 4)
-      lens = unfold afterEdge in (length-list _ 4, length-list _ 4)
-
-  location-after : afterEdge (m .counters) e s .location ≡ e .target
+  counters-after : (vs : List ℕ) → afterEdge e s vs .counters ≡ vs
   unfolding afterEdge
-  location-after = refl
+  counters-after vs = refl
+
+  location-after : (vs : List ℕ) → afterEdge e s vs .location ≡ e .target
+  unfolding afterEdge
+  location-after vs = refl
+
+  clocks-after : (vs : List ℕ) → length (afterEdge e s vs .clocks) ≡ 4
+  unfolding afterEdge
+  clocks-after vs = length-list _ 4
+
+  after-shape : (vs : List ℕ) → Updates (m .counters) e (eo .order-ok) (listed e) (s .counters) vs → Shaped m (afterEdge e s vs)
+  after-shape vs h = record {
+    counters-len = ap length (counters-after vs) ∙ h .long ∙ q .counters-len;
+    clocks-len = clocks-after vs;
+    counters-rest = λ i p l. ap (λ (v : List ℕ). getD v i 0) (counters-after vs) ∙ h .kept i (kept-place e (eo .order-ok) i (rw (eo .sets-rest i p l) tt))
+        ∙ q .counters-rest i p l;
+    clocks-rest = λ i p l. clock-after vs i l ∙ held i p l;
+  }
 
   pub edge-iff : (t : State) → (edgeStep m e s ≡ some t) ↔ EdgeTo m e s t
   unfolding edgeStep
   edge-iff t = (to, of)
     where
-      D : State
-      D = afterEdge (m .counters) e s
+      after : List ℕ → Option State
+      after vs = onlyIf (edgeAllowed m e s vs) (afterEdge e s vs)
 
-      to : onlyIf (edgeAllowed m e s) D ≡ some t → EdgeTo m e s t
+      to : andThen (updated (m .counters) e (s .counters) (listed e)) after ≡ some t → EdgeTo m e s t
       to h =
-          let g = only-if (edgeAllowed m e s) D t .0 h in
-          let a = allowed-iff m e s .0 (g .0) in
+          let n = then-iff (updated (m .counters) e (s .counters) (listed e)) after t .0 h in
+          let vs = n .0 in
+          let g = only-if (edgeAllowed m e s vs) (afterEdge e s vs) t .0 (n .2) in
+          let a = allowed-iff m e s vs .0 (g .0) in
+          let u = updated-to (m .counters) e (eo .order-ok) (listed e) (s .counters) vs (omega arith) (q .counters-len) (n .1) in
+          let is : vs ≡ t .counters = sym (counters-after vs) ∙ ap (λ (x : State). x .counters) (g .1) in
           record {
-            shape = subst (λ (x : State). Shaped m x) (g .1) shaped-after;
+            shape = subst (λ (x : State). Shaped m x) (g .1) (after-shape vs u);
             leaves = a .0;
             guard = a .1;
-            sets =
-                λ i l. some-is (nextCounter (m .counters) e s i) (a .2 i (omega (arith, ok .vars-le))) ∙ ap some
-                (sym (counter-after i (omega (arith, ok .vars-le))) ∙ ap (λ (x : State). value x (counter i)) (g .1));
-            resets = λ i l. sym (clock-after i (omega (arith, ok .clocks-le))) ∙ ap (λ (x : State). value x (clock i)) (g .1);
-            lands = sym (ap (λ (x : State). x .location) (g .1)) ∙ location-after;
-            allowed = subst (λ (x : State). T (invariantHolds m x)) (g .1) (a .3);
+            sets = updates-to m ok e eo s t q (subst (Updates (m .counters) e (eo .order-ok) (listed e) (s .counters)) is u);
+            resets = λ i l. sym (clock-after vs i (omega (arith, ok .clocks-le))) ∙ ap (λ (x : State). value x (clock i)) (g .1);
+            lands = sym (ap (λ (x : State). x .location) (g .1)) ∙ location-after vs;
+            allowed = subst (λ (x : State). T (invariantHolds m x)) (g .1) (a .2);
           }
 
-      of : EdgeTo m e s t → onlyIf (edgeAllowed m e s) D ≡ some t
+      of : EdgeTo m e s t → andThen (updated (m .counters) e (s .counters) (listed e)) after ≡ some t
       of h =
-          let eq : D ≡ t = state-ext m shaped-after (h .shape) (elim [
-            | loc ↦ λ p. location-after ∙ sym (h .lands)
-            | counter i ↦ λ p. counter-after i (omega (arith, ok .vars-le)) ∙ is-some (nextCounter (m .counters) e s i) (value t (counter i)) (h .sets i p) .1
-            | clock i ↦ λ p. clock-after i (omega (arith, ok .clocks-le)) ∙ h .resets i p
+          let vs = t .counters in
+          let u = updates-of m ok e eo s t q (h .shape) (h .sets) in
+          let eq : afterEdge e s vs ≡ t = state-ext m (after-shape vs u) (h .shape) (elim [
+            | loc ↦ λ p. location-after vs ∙ sym (h .lands)
+            | counter i ↦ λ p. ap (λ (v : List ℕ). getD v i 0) (counters-after vs)
+            | clock i ↦ λ p. clock-after vs i (omega (arith, ok .clocks-le)) ∙ h .resets i p
           ]) in
-          only-if (edgeAllowed m e s) D t .1 (
-            allowed-iff m e s .1 (
-              h .leaves,
-              h .guard,
-              (λ k l. ⊎-elim (λ a. is-some (nextCounter (m .counters) e s k) (value t (counter k)) (h .sets k a) .0)
-                  (λ b. is-some (nextCounter (m .counters) e s k) 0 (kept k b l) .0) (lt-or-le k (m .vars))),
-              subst (λ (x : State). T (invariantHolds m x)) (sym eq) (h .allowed),
-            ),
-            eq,
+          then-iff (updated (m .counters) e (s .counters) (listed e)) after t .1 (
+            vs,
+            updated-of (m .counters) e (eo .order-ok) (listed e) (s .counters) vs (omega arith) (q .counters-len) u,
+            only-if (edgeAllowed m e s vs) (afterEdge e s vs) t .1
+                (allowed-iff m e s vs .1 (h .leaves, h .guard, subst (λ (x : State). T (invariantHolds m x)) (sym eq) (h .allowed)), eq),
           )
+
+-- ---- an edge with no source set earlier
+-- no source is set earlier than the counter that reads it
+abbrev pub NoneEarlier : Model → Edge → Type 0
+NoneEarlier m e = (i w : ℕ) (z : ℤ) → i < m .vars → updateAt e i ≡ Sum w z → setEarlier (e .order) w i ≡ false
+
+-- it steps as if all updates read the values from before the edge
+pub no-earlier-steps : (m : Model) → WellFormed m → (e : Edge) → WellFormedEdge m e → (s t : State) → Shaped m s → NoneEarlier m e
+    → (edgeStep m e s ≡ some t) ↔ EdgeBy (λ i w. value s (counter w)) m e s t
+no-earlier-steps m ok e eo s t q free = (
+  λ h. let g = edge-iff m ok e eo s q t .0 h in
+      record {
+        shape = g .shape;
+        leaves = g .leaves;
+        guard = g .guard;
+        sets = λ i l. sym (same i l (updateAt e i) refl) ∙ g .sets i l;
+        resets = g .resets;
+        lands = g .lands;
+        allowed = g .allowed;
+      },
+  λ g. edge-iff m ok e eo s q t .1 (record {
+    shape = g .shape;
+    leaves = g .leaves;
+    guard = g .guard;
+    sets = λ i l. same i l (updateAt e i) refl ∙ g .sets i l;
+    resets = g .resets;
+    lands = g .lands;
+    allowed = g .allowed;
+  }),
+)
+  where
+    same : (i : ℕ) → i < m .vars → (u : Update) → updateAt e i ≡ u
+        → newCounter (readBy e s t i) (counterAt m i .greatest) (value s (counter i)) u
+        ≡ newCounter (λ w. value s (counter w)) (counterAt m i .greatest) (value s (counter i)) u
+    same i l Keep h = refl
+    same i l (Constant c) h = refl
+    same i l (Sum w z) h =
+        ap (λ (b : Bool). shifted z (counterAt m i .greatest) (cond b (value t (counter w)) (value s (counter w)))) (free i w z l h)
 
 module _ (m : Model) (ok : WellFormed m) (s t : State) (q : Shaped m s) where
   pub step-edge : (e : ℕ) → e < m .used → (step m s (ceiling m + 1 + e) ≡ some t) ↔ EdgeTo m (edgeAt m e) s t
@@ -366,7 +450,7 @@ module _ (m : Model) (ok : WellFormed m) (s t : State) (b : ℕ) (q : Shaped m s
       go (inl w) r k = rw (w .values r k) (delayed-lt m b r (value s r) (g r k))
       go (inr (e, l, k)) loc i = rw (k .lands) (ok .edge-ok e l .target-ok)
       go (inr (e, l, k)) (counter i) j =
-          new-counter-lt (λ w. value s (counter w)) (counterAt m i .greatest) (value s (counter i)) (updateAt (edgeAt m e) i) (value t (counter i))
+          new-counter-lt (readBy (edgeAt m e) s t i) (counterAt m i .greatest) (value s (counter i)) (updateAt (edgeAt m e) i) (value t (counter i))
           (g (counter i) j) (k .sets i j)
       go (inr (e, l, k)) (clock i) j =
           rw (← k .resets i j) (clock-lt (λ w. value s (clock w)) (value s (clock i)) (resetAt (edgeAt m e) i) (ceiling m) (g (clock i) j))

@@ -1,9 +1,9 @@
 -- The automaton: its ceiling, its states, and what a delay and an edge do.
-use Prim.Native.Nat.{ℕ, _+_, _-_, _*_, _<_, max, min}
+use Prim.Native.Nat.{ℕ, zero, suc, _+_, _-_, _*_, _<_, max, min}
 use mathlib.Core.List.{List}
 use mathlib.Core.Bool.{Bool, true, false, not, _&&_, cond}
-use mathlib.Core.Option.{Option, none, some}
-use lib.ListN.{getD}
+use mathlib.Core.Option.{Option, none, some, Option·map}
+use lib.ListN.{getD, set}
 use lib.Dec.{ltb, leb, eqb}
 use Rattle.model.specs.declared.Relation.{Relation}
 use Rattle.model.specs.declared.Relation.the-variants.{Less, LessEqual, Equal, GreaterEqual, Greater, NotEqual}
@@ -19,10 +19,11 @@ use Rattle.model.specs.declared.Edge.{Edge}
 use Rattle.model.specs.declared.Model.{Model}
 use Rattle.model.specs.declared.State.{State}
 use Rattle.model.specs.declared.Stepped.{Stepped}
+use Rattle.model.specs.declared.Updated.{Updated}
 use Rattle.model.specs.declared.Totals.{Totals}
-pub use Rattle.new_values.specs.NewValues.{inRange, moved, isNegative, shifted, newValue, isValue, valueOrZero}
-use Rattle.model.specs.Indexed.{listBelow, allBelow, maxBelow, sumBelow, onlyIf, isSome, orZero}
-use Rattle.model.specs.Record.{blankCounter, atomAt, updateAt, resetAt, counterAt, invariantAt, edgeAt}
+pub use Rattle.new_values.specs.NewValues.{inRange, moved, isNegative, shifted, newValue}
+use Rattle.model.specs.Indexed.{listBelow, allBelow, maxBelow, sumBelow, firstBelow, onlyIf, andThen}
+use Rattle.model.specs.Record.{blankCounter, atomAt, updateAt, counterIn, resetAt, counterAt, invariantAt, edgeAt}
 
 -- ---- the ceiling
 -- the constant that an atom compares a clock with, and 0 where it compares none
@@ -119,11 +120,17 @@ delayedValue m d (counter i) v = v
 delayedValue m d (clock i) v = min (v + d) (ceiling m)
 
 -- ---- updates: keep, a constant, or another counter plus an offset
--- the new value of a counter, if it lies in its range; `before` gives the counters' values from before the edge
+-- the new value of a counter, if it lies in its range; `before` gives the values that the update reads
 abbrev pub newCounter : (ℕ → ℕ) → ℕ → ℕ → Update → Option ℕ
 newCounter before greatest own Keep = some own
 newCounter before greatest own (Constant c) = inRange greatest c
 newCounter before greatest own (Sum w offset) = shifted offset greatest (before w)
+
+-- the update is keep
+abbrev pub isKeep : Update → Bool
+isKeep Keep = true
+isKeep (Constant c) = false
+isKeep (Sum w offset) = false
 
 -- the new value of a clock; `before` gives the clocks' values from before the edge
 abbrev pub newClock : (ℕ → ℕ) → ℕ → ClockUpdate → ℕ
@@ -131,29 +138,50 @@ newClock before own Unchanged = own
 newClock before own Reset = 0
 
 -- ---- an edge
--- the new value of counter i, if it lies in its range; all updates read the values from before the edge
-abbrev pub nextCounter : List Counter → Edge → State → ℕ → Option ℕ
-nextCounter counters e s i = newCounter (λ w. value s (counter w)) (getD counters i blankCounter .greatest) (value s (counter i)) (updateAt e i)
+-- how many updates are listed: those that are not keep; so many slots of the order are used
+unfoldable pub listed : Edge → ℕ
+listed e = sumBelow (λ i. cond (isKeep (updateAt e i)) 0 1) 4
+
+-- the new value of counter i, if it lies in its range, where the counters show vs
+abbrev pub nextCounter : List Counter → Edge → List ℕ → ℕ → Option ℕ
+nextCounter counters e vs i = newCounter (λ w. getD vs w 0) (getD counters i blankCounter .greatest) (getD vs i 0) (updateAt e i)
+
+-- the counters after the update of counter i alone
+unfoldable pub applied : List Counter → Edge → List ℕ → ℕ → Option (List ℕ)
+applied counters e vs i = Option·map (set vs i) (nextCounter counters e vs i)
+
+-- the counters after the first n listed updates, in their listed order; each reads what those before it left, and none may leave its range
+unfoldable pub updated : List Counter → Edge → List ℕ → ℕ → Option (List ℕ)
+updated counters e vs zero = some vs
+updated counters e vs (suc n) = andThen (updated counters e vs n) (λ now. applied counters e now (counterIn (e .order) n))
+
+-- the first place of counter x in an order, and 4 where it has none
+unfoldable pub placeIn : List ℕ → ℕ → ℕ
+placeIn order x = firstBelow (λ k. eqb (counterIn order k) x) 4
+
+-- counter w is set earlier than counter i: an update of i reads w after its update
+unfoldable pub setEarlier : List ℕ → ℕ → ℕ → Bool
+setEarlier order w i = ltb (placeIn order w) (placeIn order i)
+
+-- what the update of counter i reads of counter w, between the states s and t
+abbrev pub readBy : Edge → State → State → ℕ → ℕ → ℕ
+readBy e s t i w = cond (setEarlier (e .order) w i) (value t (counter w)) (value s (counter w))
 
 -- the new value of clock i: 0 if it is reset
 abbrev pub nextClock : Edge → State → ℕ → ℕ
 nextClock e s i = newClock (λ x. value s (clock x)) (value s (clock i)) (resetAt e i)
 
--- every new counter value lies in its range
-unfoldable pub countersInRange : List Counter → Edge → State → Bool
-countersInRange counters e s = allBelow (λ i. isSome (nextCounter counters e s i)) 4
+-- the target location and the new values, where the counters become vs
+unfoldable pub afterEdge : Edge → State → List ℕ → State
+afterEdge e s vs = record { location = e .target; counters = vs; clocks = listBelow (nextClock e s) 4 }
 
--- the target location and the new values
-unfoldable pub afterEdge : List Counter → Edge → State → State
-afterEdge counters e s = record { location = e .target; counters = listBelow (λ i. orZero (nextCounter counters e s i)) 4; clocks = listBelow (nextClock e s) 4 }
+-- the state stands in the edge's source, the guard holds before, and the target's invariant holds afterwards
+unfoldable pub edgeAllowed : Model → Edge → State → List ℕ → Bool
+edgeAllowed m e s vs = eqb (s .location) (e .source) && allHold s (e .guard) && invariantHolds m (afterEdge e s vs)
 
--- the state stands in the edge's source, the guard holds before, every new counter value lies in its range (else the edge can't be taken), and the target's invariant holds afterwards
-unfoldable pub edgeAllowed : Model → Edge → State → Bool
-edgeAllowed m e s = eqb (s .location) (e .source) && allHold s (e .guard) && countersInRange (m .counters) e s && invariantHolds m (afterEdge (m .counters) e s)
-
--- the state after the edge
+-- the state after the edge; every new counter value must lie in its range, else the edge can't be taken
 unfoldable pub edgeStep : Model → Edge → State → Option State
-edgeStep m e s = onlyIf (edgeAllowed m e s) (afterEdge (m .counters) e s)
+edgeStep m e s = andThen (updated (m .counters) e (s .counters) (listed e)) (λ vs. onlyIf (edgeAllowed m e s vs) (afterEdge e s vs))
 
 -- ---- one step byte
 -- H, the length of a choice block: delays 0 to M, then edges
@@ -178,6 +206,11 @@ variables m k = stateSize m + k * (stateSize m + choices m)
 abbrev pub stepped : State → Option State → Stepped
 stepped s none = record { allowed = false; state = s }
 stepped s (some t) = record { allowed = true; state = t }
+
+-- the new counters, or the given ones where an update leaves its range
+abbrev pub updatedFrom : List ℕ → Option (List ℕ) → Updated
+updatedFrom vs none = record { allowed = false; values = vs }
+updatedFrom vs (some now) = record { allowed = true; values = now }
 
 -- M, S and H
 unfoldable pub totals : Model → Totals

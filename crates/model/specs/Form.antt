@@ -1,4 +1,4 @@
--- Well-formed records and states: within all limits, naming only what is declared, atom slots filled from the first, unused slots blank (number 0, no atom, keep, no reset).
+-- Well-formed records and states: within all limits, naming only what is declared, atom slots filled from the first, unused slots blank (number 0, no atom, keep, no reset), the order names each counter that is set once.
 use Prim.Native.Nat.{ℕ, _+_}
 use mathlib.Core.List.{List}
 use mathlib.Core.Bool.{Bool, true, false, not, _&&_, cond}
@@ -21,8 +21,8 @@ use Rattle.model.specs.declared.Edge.{Edge}
 use Rattle.model.specs.declared.Model.{Model}
 use Rattle.model.specs.declared.State.{State}
 use Rattle.model.specs.Indexed.{allBelow}
-use Rattle.model.specs.Record.{blankUpdate, blankReset, blankCounter, atomAt, invariantAt, edgeAt}
-use Rattle.model.specs.Automaton.{ceiling, value, counter, clock}
+use Rattle.model.specs.Record.{blankUpdate, blankReset, blankCounter, atomAt, updateAt, counterIn, invariantAt, edgeAt}
+use Rattle.model.specs.Automaton.{ceiling, value, counter, clock, isKeep, listed, placeIn}
 
 -- ---- atoms
 -- the comparison is !=
@@ -95,12 +95,6 @@ updateFormed vars Keep = true
 updateFormed vars (Constant c) = leb c 31
 updateFormed vars (Sum w offset) = ltb w vars && leb (natAbs offset) 31
 
--- the slot is blank: keep
-abbrev pub isKeep : Update → Bool
-isKeep Keep = true
-isKeep (Constant c) = false
-isKeep (Sum w offset) = false
-
 -- the slot is blank: no reset
 abbrev pub isUnchanged : ClockUpdate → Bool
 isUnchanged Unchanged = true
@@ -114,6 +108,17 @@ updateSlotFormed vars u i = cond (ltb i vars) (updateFormed vars u) (isKeep u)
 unfoldable pub updatesFormed : ℕ → List UpdateSlot → Bool
 updatesFormed vars slots = allBelow (λ i. updateSlotFormed vars (getD slots i blankUpdate .update) i) 4
 
+-- slot k of the order: as many slots as there are counters not kept name one of these each, which no slot before names; the others are blank
+abbrev pub orderSlotFormed : Edge → ℕ → Bool
+orderSlotFormed e k =
+    cond (ltb k (listed e))
+    (ltb (counterIn (e .order) k) 4 && not (isKeep (updateAt e (counterIn (e .order) k))) && eqb (placeIn (e .order) (counterIn (e .order) k)) k)
+    (eqb (counterIn (e .order) k) 0)
+
+-- the order names each counter not kept exactly once and is blank beyond
+unfoldable pub orderFormed : Edge → Bool
+orderFormed e = allBelow (orderSlotFormed e) 4
+
 -- only a declared clock is reset
 abbrev pub resetSlotFormed : ℕ → ClockUpdate → ℕ → Bool
 resetSlotFormed clocks u i = cond (ltb i clocks) true (isUnchanged u)
@@ -125,9 +130,10 @@ resetsFormed clocks slots = allBelow (λ i. resetSlotFormed clocks (getD slots i
 -- an edge names only declared locations, clocks and counters, and is within the limits
 unfoldable pub edgeFormed : ℕ → ℕ → ℕ → Edge → Bool
 edgeFormed locations clocks vars e =
-    ltb (e .source) locations && ltb (e .target) locations && atomsFormed clocks vars (e .guard) && updatesFormed vars (e .updates) && resetsFormed clocks (e .resets)
+    ltb (e .source) locations && ltb (e .target) locations && atomsFormed clocks vars (e .guard) && updatesFormed vars (e .updates) && orderFormed e &&
+    resetsFormed clocks (e .resets)
 
--- an unused slot is what is formed in the blank model: location 0, no atom, keep, no reset
+-- an unused slot is what is formed in the blank model: location 0, no atom, keep, a blank order, no reset
 abbrev pub edgeSlotFormed : Model → ℕ → Bool
 edgeSlotFormed m e = cond (ltb e (m .used)) (edgeFormed (m .locations) (m .clocks) (m .vars) (edgeAt m e)) (edgeFormed 1 0 0 (edgeAt m e))
 

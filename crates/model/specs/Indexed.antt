@@ -1,9 +1,10 @@
--- "For each", "all", "the greatest" and "the sum" over an index from 0, and what may be missing.
-use mathlib.Core.Bool.{Bool, true, false, _&&_}
+-- "For each", "all", "the greatest", "the sum" and "the first" over an index from 0, and what may be missing.
+use mathlib.Core.Bool.{Bool, true, false, _&&_, cond}
 use mathlib.Core.List.{List, [], _∷_, _++_}
 use mathlib.Core.Option.{Option, none, some}
 use Prim.Native.Nat.{ℕ, zero, suc, _+_, max}
-pub use Rattle.new_values.specs.NewValues.{onlyIf, isSome, orZero}
+use lib.Dec.{ltb}
+pub use Rattle.new_values.specs.NewValues.{onlyIf, isSome}
 
 module _ {ℓ} {A : Type ℓ} where
   -- for each index below n, in order: f 0 ++ f 1 ++ ..
@@ -30,6 +31,11 @@ maxBelow f (suc n) = max (maxBelow f n) (f n)
 unfoldable pub sumBelow : (ℕ → ℕ) → ℕ → ℕ
 sumBelow f zero = 0
 sumBelow f (suc n) = sumBelow f n + f n
+
+-- the first index below n of which p holds, and n where there is none
+unfoldable pub firstBelow : (ℕ → Bool) → ℕ → ℕ
+firstBelow p zero = 0
+firstBelow p (suc n) = cond (ltb (firstBelow p n) n) (firstBelow p n) (cond (p n) n (suc n))
 
 module _ {ℓ κ} {A : Type ℓ} {B : Type κ} where
   -- go on with a value if it is there

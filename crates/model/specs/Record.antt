@@ -39,7 +39,7 @@ blankInvariant = record { atoms = replicate 4 blankAtom }
 
 -- numbers 0, and blank slots
 abbrev pub blankEdge : Edge
-blankEdge = record { source = 0; target = 0; guard = replicate 4 blankAtom; updates = replicate 4 blankUpdate; resets = replicate 4 blankReset }
+blankEdge = record { source = 0; target = 0; guard = replicate 4 blankAtom; updates = replicate 4 blankUpdate; order = replicate 4 0; resets = replicate 4 blankReset }
 
 -- the blank model: one location, initial and target 0
 unfoldable pub blankModel : Model
@@ -62,7 +62,7 @@ pastInvariant = record { atoms = [] }
 
 -- the same for edges
 abbrev pub pastEdge : Edge
-pastEdge = record { source = 0; target = 0; guard = []; updates = []; resets = [] }
+pastEdge = record { source = 0; target = 0; guard = []; updates = []; order = []; resets = [] }
 
 -- the atom in slot k of an invariant or a guard
 abbrev pub atomAt : List AtomSlot → ℕ → Atom
@@ -71,6 +71,10 @@ atomAt atoms k = getD atoms k blankAtom .atom
 -- the update of counter i
 abbrev pub updateAt : Edge → ℕ → Update
 updateAt e i = getD (e .updates) i blankUpdate .update
+
+-- the counter in slot k of an order
+abbrev pub counterIn : List ℕ → ℕ → ℕ
+counterIn order k = getD order k 0
 
 -- the update of clock i
 abbrev pub resetAt : Edge → ℕ → ClockUpdate

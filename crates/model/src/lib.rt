@@ -5,7 +5,7 @@ ghost use Rattle.model.specs.Record.{blankModel};
 mod atoms;
 mod ceiling;
 mod steps;
-mod updates;
+pub mod updates;
 
 // How an atom compares a value with its constant.
 pub enum Relation {
@@ -68,12 +68,14 @@ pub struct Invariant {
     pub atoms: [AtomSlot; Model::ATOMS],
 }
 
-// An edge. Slot i of `updates` is for counter i, slot i of `resets` for clock i.
+// An edge. Slot i of `updates` is for counter i, slot i of `resets` for clock i. `order` has the counters that are set, in the
+// order in which their updates happen; the slots after them are 0.
 pub struct Edge {
     pub source: u8,
     pub target: u8,
     pub guard: [AtomSlot; Model::ATOMS],
     pub updates: [UpdateSlot; Model::COUNTERS],
+    pub order: [u8; Model::COUNTERS],
     pub resets: [ClockSlot; Model::CLOCKS],
 }
 
@@ -103,6 +105,12 @@ pub struct State {
 pub struct Stepped {
     pub allowed: bool,
     pub state: State,
+}
+
+// The counters after updates, or the given ones where one leaves its range.
+pub(crate) struct Updated {
+    allowed: bool,
+    values: [u8; Model::COUNTERS],
 }
 
 // M, S and H: the ceiling, and the lengths of a state block and of a choice block.
@@ -152,6 +160,7 @@ impl Model {
             target: 0,
             guard: [atom; Model::ATOMS],
             updates: [update; Model::COUNTERS],
+            order: [0u8; Model::COUNTERS],
             resets: [reset; Model::CLOCKS],
         };
         let counter = Counter {

@@ -4,14 +4,15 @@ use crate::Edge;
 use crate::Model;
 use crate::State;
 use crate::Stepped;
+use crate::Updated;
 use crate::atoms::all_hold;
 use crate::atoms::slot;
 use new_values::NewValue;
 ghost use mathlib.Core.Path.{_≡_};
 ghost use Prim.Native.Nat.{ℕ, _<_, min};
-ghost use Rattle.model.specs.Indexed.{listBelow, orZero};
-ghost use Rattle.model.specs.Record.{blankCounter, updateAt};
-ghost use Rattle.model.specs.Automaton.{initialState, delayedClock, delayed, delayStep, newCounter, nextCounter, nextClock, countersInRange, afterEdge, edgeStep, newValue, stepped};
+ghost use Rattle.model.specs.Indexed.{listBelow};
+ghost use Rattle.model.specs.Record.{blankCounter};
+ghost use Rattle.model.specs.Automaton.{initialState, delayedClock, delayed, delayStep, nextCounter, listed, applied, updated, nextClock, afterEdge, edgeStep, newValue, stepped, updatedFrom};
 ghost use lib.ListN.{getD};
 
 impl Model {
@@ -39,20 +40,74 @@ impl Model {
 }
 
 impl Edge {
-    // The new value of counter `i`, where the counters showed `before`.
+    // The new value of counter `i`, where the counters show `values`.
     fn next_counter(
         self,
         counters: [Counter; Model::COUNTERS],
-        before: [u8; Model::COUNTERS],
+        values: [u8; Model::COUNTERS],
         i: usize,
     ) -> NewValue
         requires { ⌜ i < 4 ⌝ }
-        ensures { λ r. ⌜ r ≡ newValue (newCounter (λ w. getD before w 0) (getD counters i blankCounter .greatest) (getD before i 0) (updateAt self i)) ⌝ }
+        ensures { λ r. ⌜ r ≡ newValue (nextCounter counters self values i) ⌝ }
     {
         let s = self.updates[i];
         let update = s.update;
         let c = counters[i];
-        update.next(before[i], before, c.greatest)
+        update.next(values[i], values, c.greatest)
+    }
+
+    // The counters after the update of counter `i`; there is none past the slots.
+    fn apply(
+        self,
+        counters: [Counter; Model::COUNTERS],
+        values: [u8; Model::COUNTERS],
+        i: usize,
+    ) -> Updated
+        ensures { λ r. ⌜ r ≡ updatedFrom values (applied counters self values i) ⌝ }
+    {
+        let mut next = values;
+        if i >= Model::COUNTERS {
+            return Updated {
+                allowed: true,
+                values,
+            };
+        }
+        match self.next_counter(counters, values, i) {
+            NewValue::OutOfRange => Updated {
+                allowed: false,
+                values,
+            },
+            NewValue::Value(v) => {
+                next[i] = v;
+                Updated {
+                    allowed: true,
+                    values: next,
+                }
+            }
+        }
+    }
+
+    // The counters after the listed updates, in their order.
+    fn updated(self, counters: [Counter; Model::COUNTERS], values: [u8; Model::COUNTERS]) -> Updated
+        ensures { λ r. ⌜ r ≡ updatedFrom values (updated counters self values (listed self)) ⌝ }
+    {
+        let order = self.order;
+        let n = self.listed();
+        let mut now = values;
+        for k in 0..n {
+            let next = self.apply(counters, now, order[k] as usize);
+            if !next.allowed {
+                return Updated {
+                    allowed: false,
+                    values,
+                };
+            }
+            now = next.values;
+        }
+        Updated {
+            allowed: true,
+            values: now,
+        }
     }
 }
 
@@ -108,29 +163,6 @@ impl State {
         }
     }
 
-    fn counters_in_range(self, e: Edge, counters: [Counter; Model::COUNTERS]) -> bool
-        ensures { λ r. ⌜ r ≡ countersInRange counters e self ⌝ }
-    {
-        let values = self.counters;
-        for i in 0..Model::COUNTERS {
-            if !e.next_counter(counters, values, i).is_value() {
-                return false;
-            }
-        }
-        true
-    }
-
-    fn next_counters(self, e: Edge, counters: [Counter; Model::COUNTERS]) -> [u8; Model::COUNTERS]
-        ensures { λ r. ⌜ r ≡ listBelow (λ i. orZero (nextCounter counters e self i)) 4 ⌝ }
-    {
-        let values = self.counters;
-        let mut next = values;
-        for i in 0..Model::COUNTERS {
-            next[i] = e.next_counter(counters, values, i).value_or_zero();
-        }
-        next
-    }
-
     fn next_clock(self, e: Edge, i: usize) -> u8
         requires { ⌜ i < 4 ⌝ }
         ensures { λ r. ⌜ r ≡ nextClock e self i ⌝ }
@@ -151,10 +183,9 @@ impl State {
         next
     }
 
-    fn after_edge(self, e: Edge, counters: [Counter; Model::COUNTERS]) -> State
-        ensures { λ r. ⌜ r ≡ afterEdge counters e self ⌝ }
+    fn after_edge(self, e: Edge, values: [u8; Model::COUNTERS]) -> State
+        ensures { λ r. ⌜ r ≡ afterEdge e self values ⌝ }
     {
-        let values = self.next_counters(e, counters);
         let clocks = self.next_clocks(e);
         State {
             location: e.target,
@@ -168,7 +199,16 @@ impl State {
         ensures { λ r. ⌜ r ≡ stepped self (edgeStep m e self) ⌝ }
     {
         let counters = m.counters;
-        let next = self.after_edge(e, counters);
+        let before = self.counters;
+        let updated = e.updated(counters, before);
+        if !updated.allowed {
+            return Stepped {
+                allowed: false,
+                state: self,
+            };
+        }
+        let values = updated.values;
+        let next = self.after_edge(e, values);
         if self.location != e.source {
             return Stepped {
                 allowed: false,
@@ -177,12 +217,6 @@ impl State {
         }
         let guard = e.guard;
         if !all_hold(guard, self) {
-            return Stepped {
-                allowed: false,
-                state: self,
-            };
-        }
-        if !self.counters_in_range(e, counters) {
             return Stepped {
                 allowed: false,
                 state: self,

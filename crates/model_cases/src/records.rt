@@ -227,6 +227,16 @@ fn with_reset(mut m: Model, e: usize, k: usize, u: ClockSlot) -> Model
     m
 }
 
+// 8 e k counter
+fn with_order(mut m: Model, e: usize, k: usize, counter: u8) -> Model
+    requires { ⌜ (e < 32) × (k < 4) ⌝ }
+{
+    let mut edge = m.edges[e];
+    edge.order[k] = counter;
+    m.edges[e] = edge;
+    m
+}
+
 // The record after one change; `v` holds the numbers of the line.
 pub(crate) fn changed(m: Model, v: [u8; 80]) -> Model {
     let op = v[0];
@@ -240,6 +250,7 @@ pub(crate) fn changed(m: Model, v: [u8; 80]) -> Model {
         4 => with_ends(m, i, v[2], v[3]),
         5 => with_guard(m, i, k, atom(v[3], v[4], v[5], v[6])),
         6 => with_update(m, i, k, update(v[3], v[4], v[5])),
-        _ => with_reset(m, i, k, reset(v[3])),
+        7 => with_reset(m, i, k, reset(v[3])),
+        _ => with_order(m, i, k, v[3]),
     }
 }

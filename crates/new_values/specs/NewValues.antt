@@ -17,10 +17,6 @@ abbrev pub isSome {ℓ} : {A : Type ℓ} → Option A → Bool
 isSome none = false
 isSome (some x) = true
 
-abbrev pub orZero : Option ℕ → ℕ
-orZero none = 0
-orZero (some x) = x
-
 -- ---- a counter's range
 -- a value that must lie in 0 to `greatest`
 abbrev pub inRange : ℕ → ℕ → Option ℕ
@@ -45,13 +41,3 @@ shifted offset greatest v = moved v (isNegative offset) (natAbs offset) greatest
 abbrev pub newValue : Option ℕ → NewValue
 newValue none = OutOfRange
 newValue (some v) = Value v
-
--- the new value is in its range
-abbrev pub isValue : NewValue → Bool
-isValue OutOfRange = false
-isValue (Value v) = true
-
--- the new value, or 0 where it is out of range
-abbrev pub valueOrZero : NewValue → ℕ
-valueOrZero OutOfRange = 0
-valueOrZero (Value v) = v

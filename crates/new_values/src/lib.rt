@@ -1,32 +1,12 @@
 // New values of counters.
 ghost use mathlib.Core.Path.{_≡_};
 ghost use lib.IntN.{natAbs};
-ghost use Rattle.new_values.specs.NewValues.{inRange, moved, shifted, isNegative, newValue, isValue, valueOrZero};
+ghost use Rattle.new_values.specs.NewValues.{inRange, moved, shifted, isNegative, newValue};
 
 // A counter's new value, where it lies in the counter's range.
 pub enum NewValue {
     OutOfRange,
     Value(u8),
-}
-
-impl NewValue {
-    pub fn is_value(self) -> bool
-        ensures { λ r. ⌜ r ≡ isValue self ⌝ }
-    {
-        match self {
-            NewValue::OutOfRange => false,
-            NewValue::Value(_) => true,
-        }
-    }
-
-    pub fn value_or_zero(self) -> u8
-        ensures { λ r. ⌜ r ≡ valueOrZero self ⌝ }
-    {
-        match self {
-            NewValue::OutOfRange => 0,
-            NewValue::Value(v) => v,
-        }
-    }
 }
 
 // The value `v`, which must lie in 0 to `greatest`.

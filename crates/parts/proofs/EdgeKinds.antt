@@ -32,7 +32,7 @@ by-kind F vars groups h =
 
 -- Counter i of an edge, and clock i.
 abbrev pub updatePiece : GroupTable → ℕ → ℕ → Edge → ℕ → List Clause
-updatePiece b x o e i = partClauses x (updatePart b o i (updateAt e i))
+updatePiece b x o e i = partClauses x (updatePart b o (e .order) i (updateAt e i))
 
 abbrev pub resetPiece : GroupTable → ℕ → ℕ → Edge → ℕ → List Clause
 resetPiece b x o e i = partClauses x (resetPart b o i (resetAt e i))

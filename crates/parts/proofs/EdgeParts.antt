@@ -28,7 +28,7 @@ module _ (b : GroupTable) (e : Edge) (o : ℕ) where
       let z : 2 + k - 2 ≡ k = omega arith in
       rw (ne-eqb (2 + k) 0 (λ q. omega arith), ne-eqb (2 + k) 1 (λ q. omega arith), lt-ltb (2 + k) 6 (omega arith), z)
 
-  pub counter-part : (i : ℕ) → i < b .vars → edgePart b e o (6 + i) ≡ updatePart b o i (updateAt e i)
+  pub counter-part : (i : ℕ) → i < b .vars → edgePart b e o (6 + i) ≡ updatePart b o (e .order) i (updateAt e i)
   unfolding edgePart
   counter-part i l =
       let z : 6 + i - 6 ≡ i = omega arith in
@@ -50,7 +50,7 @@ module _ (b : GroupTable) (e : Edge) (o : ℕ) where
 
   -- every part of an edge is one of these
   pub edge-cases : (C : Part → Type 0) (clocks : ℕ) → C (setPart o (sizeAt b 0) (Set (e .source))) → C (setPart (nextAt b o) (sizeAt b 0) (Set (e .target)))
-      → ((k : ℕ) → k < 4 → C (atomPart b o (atomAt (e .guard) k))) → ((i : ℕ) → i < b .vars → C (updatePart b o i (updateAt e i)))
+      → ((k : ℕ) → k < 4 → C (atomPart b o (atomAt (e .guard) k))) → ((i : ℕ) → i < b .vars → C (updatePart b o (e .order) i (updateAt e i)))
       → ((i : ℕ) → i < clocks → C (resetPart b o i (resetAt e i))) → (j : ℕ) → j < 6 + b .vars + clocks → C (edgePart b e o j)
   edge-cases C clocks s t g u r j l = ⊎-elim
       (λ p. below-six j p)

@@ -202,7 +202,7 @@ module _ {m : Model} {b : GroupTable} (k : Known m b) where
   delay-clauses-of : (o d : ℕ) → b .state ≡ length (delayPieces b o d)
   delay-clauses-of o d = sym (length-each (sizeAt b) (b .groups) (delayPiece b o d) (λ g. by g (ltb g (1 + b .vars))) ∙ members-are)
     where
-      by : (g : ℕ) (t : Bool) → length (partClauses (o + b .state + d) (leadsPart b o g g (cond t Keep (Rise d (b .top))))) ≡ sizeAt b g
+      by : (g : ℕ) (t : Bool) → length (partClauses (o + b .state + d) (leadsPart b o o g g (cond t Keep (Rise d (b .top))))) ≡ sizeAt b g
       by g true = keep-length _ _ _ _ _
       by g false = rise-length _ _ _ _ _ _ _
 

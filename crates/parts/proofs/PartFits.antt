@@ -1,6 +1,7 @@
 -- The variables of the parts lie in the state block at o, the choice block after it and the next state block.
 use mathlib.Core.Path.{_≡_, refl, sym, ap, subst, _∙_}
 use mathlib.Core.Bool.{Bool, true, false, cond}
+use mathlib.Core.List.{List}
 use Prim.Native.Nat.{ℕ, _+_, _-_, _≤_, _<_}
 use native.Mathlib.Omega.{arith}
 use borrow.Author.Tests.{ltb-false}
@@ -15,13 +16,13 @@ use Rattle.model.specs.declared.ClockUpdate.the-variants.{Unchanged, Reset}
 use Rattle.model.specs.declared.Edge.{Edge}
 use Rattle.model.specs.declared.Model.{Model}
 use Rattle.model.specs.Record.{atomAt, updateAt, resetAt, counterAt}
-use Rattle.model.specs.Automaton.{ceiling, groupSize, stateSize, choices}
+use Rattle.model.specs.Automaton.{ceiling, groupSize, stateSize, choices, setEarlier}
 use Rattle.model.proofs.FormLaws.{WellFormed, WellFormedEdge, DeclaredAtom, DeclaredUpdate}
 use Rattle.parts.specs.declared.Rule.{Rule}
 use Rattle.parts.specs.declared.Rule.the-variants.{Keep, Rise, Shift, Set, Forbid}
 use Rattle.parts.specs.Rules.{reach, Fits}
 use Rattle.parts.specs.StateBlock.{groupTable, firstAt, sizeAt}
-use Rattle.parts.specs.PartsOf.{nextAt, excludePart, atomPart, leadsPart, delayPart, setPart, greatestAt, updatePart, resetPart, edgePart}
+use Rattle.parts.specs.PartsOf.{nextAt, excludePart, atomPart, leadsPart, delayPart, setPart, greatestAt, readAt, updatePart, resetPart, edgePart}
 use Rattle.parts.proofs.GroupLaws.{comp-counter, comp-clock, first-is, size-is, group-in, many-le}
 use Rattle.parts.proofs.EdgeParts.{edge-cases}
 use Rattle.parts.proofs.PartPieces.{groups-are, vars-are, top-is, state-is, choices-are, greatest-is}
@@ -64,20 +65,25 @@ module _ (m : Model) (ok : WellFormed m) where
       next-at : nextAt (groupTable m) o ≡ o + stateSize m + choices m
       next-at = omega (arith, state-is m, choices-are m)
 
-      leads-fits : (g k : ℕ) (rule : Rule) → g < 1 + m .vars + m .clocks → k < 1 + m .vars + m .clocks
-          → reach (sizeAt (groupTable m) g) rule ≤ sizeAt (groupTable m) k → Fits (leadsPart (groupTable m) o g k rule) n
-      leads-fits g k rule p q r = record {
+      leads-fits : (from g k : ℕ) (rule : Rule) → from + stateSize m ≤ n → g < 1 + m .vars + m .clocks → k < 1 + m .vars + m .clocks
+          → reach (sizeAt (groupTable m) g) rule ≤ sizeAt (groupTable m) k → Fits (leadsPart (groupTable m) from o g k rule) n
+      leads-fits from g k rule f p q r = record {
         size-le = group-small g p;
         before-in = omega (arith, group-fits g p);
         after-in = omega (arith, group-fits k q, next-at, r);
       }
 
+      -- the state block in which an update reads its source
+      read-fits : (after : Bool) → cond after (nextAt (groupTable m) o) o + stateSize m ≤ n
+      read-fits true = omega (arith, next-at)
+      read-fits false = omega arith
+
       set-fits : (z w : ℕ) (rule : Rule) → z + reach 1 rule ≤ n → Fits (setPart z w rule) n
       set-fits z w rule r = record { size-le = omega arith; before-in = omega (arith, locations-in, ok .initial-ok); after-in = r }
 
-      pub update-fits : (i : ℕ) (u : Update) → i < m .vars → DeclaredUpdate m u → Fits (updatePart (groupTable m) o i u) n
-      update-fits i KeepIt l d = leads-fits (1 + i) (1 + i) Keep (omega arith) (omega arith) (omega arith)
-      update-fits i (Constant c) l d = by (leb c (greatestAt (groupTable m) i)) refl
+      pub update-fits : (order : List ℕ) (i : ℕ) (u : Update) → i < m .vars → DeclaredUpdate m u → Fits (updatePart (groupTable m) o order i u) n
+      update-fits order i KeepIt l d = leads-fits o (1 + i) (1 + i) Keep (omega arith) (omega arith) (omega arith) (omega arith)
+      update-fits order i (Constant c) l d = by (leb c (greatestAt (groupTable m) i)) refl
         where
           by : (t : Bool) → leb c (greatestAt (groupTable m) i) ≡ t
               → Fits (setPart (nextAt (groupTable m) o + firstAt (groupTable m) (1 + i)) (sizeAt (groupTable m) (1 + i)) (cond t (Set c) Forbid)) n
@@ -91,13 +97,14 @@ module _ (m : Model) (ok : WellFormed m) where
                 next-at,
               ))
           by false e = set-fits _ _ Forbid (omega (arith, group-fits (1 + i) (omega arith), next-at))
-      update-fits i (Sum w z) l d =
-          leads-fits (1 + w) (1 + i) (Shift z (greatestAt (groupTable m) i)) (omega arith) (omega arith) (omega (arith, greatest-is m i, counter-size i l))
+      update-fits order i (Sum w z) l d =
+          leads-fits (readAt (groupTable m) o order w i) (1 + w) (1 + i) (Shift z (greatestAt (groupTable m) i)) (read-fits (setEarlier order w i))
+          (omega arith) (omega arith) (omega (arith, greatest-is m i, counter-size i l))
 
       pub reset-fits : (i : ℕ) (u : ClockUpdate) → i < m .clocks → Fits (resetPart (groupTable m) o i u) n
       reset-fits i Unchanged l =
-          subst (λ (v : ℕ). Fits (leadsPart (groupTable m) o (1 + v + i) (1 + v + i) Keep) n) (sym (vars-are m))
-          (leads-fits (1 + m .vars + i) (1 + m .vars + i) Keep (omega arith) (omega arith) (omega arith))
+          subst (λ (v : ℕ). Fits (leadsPart (groupTable m) o o (1 + v + i) (1 + v + i) Keep) n) (sym (vars-are m))
+          (leads-fits o (1 + m .vars + i) (1 + m .vars + i) Keep (omega arith) (omega arith) (omega arith) (omega arith))
       reset-fits i Reset l =
           subst (λ (v : ℕ). Fits (setPart (nextAt (groupTable m) o + firstAt (groupTable m) (1 + v + i)) (sizeAt (groupTable m) (1 + v + i)) (Set 0)) n)
           (sym (vars-are m))
@@ -106,13 +113,13 @@ module _ (m : Model) (ok : WellFormed m) where
       pub delay-fits : (d g : ℕ) → g < 1 + m .vars + m .clocks → Fits (delayPart (groupTable m) o d g) n
       delay-fits d g l = by (ltb g (1 + groupTable m .vars)) refl
         where
-          by : (t : Bool) → ltb g (1 + groupTable m .vars) ≡ t → Fits (leadsPart (groupTable m) o g g (cond t Keep (Rise d (groupTable m .top)))) n
-          by true e = leads-fits g g Keep l l (omega arith)
+          by : (t : Bool) → ltb g (1 + groupTable m .vars) ≡ t → Fits (leadsPart (groupTable m) o o g g (cond t Keep (Rise d (groupTable m .top)))) n
+          by true e = leads-fits o g g Keep (omega arith) l l (omega arith)
           by false e =
               let k : m .vars + 1 ≤ g = omega (arith, ltb-false g (1 + groupTable m .vars) e, vars-are m) in
               let z : g ≡ 1 + m .vars + (g - (1 + m .vars)) = omega arith in
               let s : sizeAt (groupTable m) g ≡ ceiling m + 1 = ap (sizeAt (groupTable m)) z ∙ clock-size (g - (1 + m .vars)) (omega arith) in
-              leads-fits g g (Rise d (groupTable m .top)) l l (omega (arith, s, top-is m))
+              leads-fits o g g (Rise d (groupTable m .top)) (omega arith) l l (omega (arith, s, top-is m))
 
       pub edge-fits : (e : Edge) → WellFormedEdge m e → (j : ℕ) → j < groupTable m .groups + 5 → Fits (edgePart (groupTable m) e o j) n
       edge-fits e w j l =
@@ -120,5 +127,5 @@ module _ (m : Model) (ok : WellFormed m) where
           (set-fits o _ (Set (e .source)) (omega (arith, w .source-ok, locations-in)))
           (set-fits (nextAt (groupTable m) o) _ (Set (e .target)) (omega (arith, w .target-ok, locations-in, next-at)))
           (λ k p. atom-fits (atomAt (e .guard) k) (omega arith) (w .guard-ok k p))
-          (λ i p. let q : i < m .vars = omega (arith, vars-are m) in update-fits i (updateAt e i) q (w .sets-ok i q))
+          (λ i p. let q : i < m .vars = omega (arith, vars-are m) in update-fits (e .order) i (updateAt e i) q (w .sets-ok i q))
           (λ i p. reset-fits i (resetAt e i) p) j (omega (arith, groups-are m, vars-are m))

@@ -19,11 +19,12 @@ use Rattle.model.specs.declared.Model.{Model}
 use Rattle.model.specs.Indexed.{each, onlyIf}
 use Rattle.model.specs.Record.{atomAt, updateAt, resetAt, counterAt}
 use Rattle.model.specs.Automaton.{ceiling, Component, loc, counter, clock, groupSize, initialValue, delayedValue, stateSize, choices, shifted, inRange}
+use Rattle.model.specs.Automaton.{setEarlier}
 use Rattle.model.proofs.IndexedLaws.{each-zero, each-suc}
 use Rattle.model.proofs.FormLaws.{WellFormed, WellFormedEdge, DeclaredAtom, DeclaredUpdate}
 use Rattle.list.specs.Lists.{toList}
 use Rattle.list.specs.Items.{Member, offset, nextBlock, stateWidth, choiceMember, excludeFailing, groupItems, initialItems, delayItems, updateItems, resetItems}
-use Rattle.list.specs.Items.{sourceItems, targetItems, guardItems, updatesItems, resetsItems, edgeItems}
+use Rattle.list.specs.Items.{sourceItems, targetItems, guardItems, readBlock, updatesItems, resetsItems, edgeItems}
 use Rattle.list.specs.Clauses.{bare, negated, Clause, one, oneHotWidth, variableOf, groupClauses, expand, clausesOf}
 use Rattle.list.proofs.ListLaws.{each-add, each-cong, flat-none}
 use Rattle.list.proofs.OneHot.{next-block-is}
@@ -33,7 +34,7 @@ use Rattle.parts.specs.declared.Rule.{Rule}
 use Rattle.parts.specs.declared.Rule.the-variants.{Exclude, Keep, Rise, Shift, Set, Forbid}
 use Rattle.parts.specs.Rules.{ruleClauses, rowClauses, valueClauses, partClauses}
 use Rattle.parts.specs.StateBlock.{componentAt, groupTable, firstAt, sizeAt}
-use Rattle.parts.specs.PartsOf.{nextAt, excludePart, atomPart, leadsPart, delayPart, setPart, greatestAt, updatePart, resetPart, edgePart}
+use Rattle.parts.specs.PartsOf.{nextAt, excludePart, atomPart, leadsPart, delayPart, setPart, greatestAt, readAt, updatePart, resetPart, edgePart}
 use Rattle.parts.proofs.GroupLaws.{group-cases, comp-counter, comp-clock, first-is, size-is, over-groups}
 use Rattle.parts.proofs.EdgeParts.{source-part, target-part, guard-part, counter-part, clock-part}
 
@@ -116,14 +117,14 @@ module _ (m : Model) where
       over-groups m (λ x. one (bare (0 + at x + initialValue m x) ∷ [])) ∙ sym (initial-piece m)
 
   -- ---- parts of groups
-  leads-is : (x o g h : ℕ) (rule : Rule) → g < 9 → h < 9
-      → partClauses x (leadsPart (groupTable m) o g h rule)
-      ≡ rowClauses x (o + at (componentAt m g)) (after o + at (componentAt m h)) (groupSize m (componentAt m g)) rule
-  leads-is x o g h rule p q =
+  leads-is : (x from o g h : ℕ) (rule : Rule) → g < 9 → h < 9
+      → partClauses x (leadsPart (groupTable m) from o g h rule)
+      ≡ rowClauses x (from + at (componentAt m g)) (after o + at (componentAt m h)) (groupSize m (componentAt m g)) rule
+  leads-is x from o g h rule p q =
       let b = groupTable m in
-      part-is x (o + firstAt b g) (nextAt b o + firstAt b h) (sizeAt b g) (sizeAt b h) rule ∙
-      ap₂ (λ (y n : ℕ). rowClauses x (o + y) (nextAt b o + firstAt b h) n rule) (first-is m g p) (size-is m g p) ∙
-      ap₂ (λ (y z : ℕ). rowClauses x (o + at (componentAt m g)) (y + z) (groupSize m (componentAt m g)) rule) (next-is o) (first-is m h q)
+      part-is x (from + firstAt b g) (nextAt b o + firstAt b h) (sizeAt b g) (sizeAt b h) rule ∙
+      ap₂ (λ (y n : ℕ). rowClauses x (from + y) (nextAt b o + firstAt b h) n rule) (first-is m g p) (size-is m g p) ∙
+      ap₂ (λ (y z : ℕ). rowClauses x (from + at (componentAt m g)) (y + z) (groupSize m (componentAt m g)) rule) (next-is o) (first-is m h q)
 
   exclude-is : (x o g : ℕ) (relation : Relation) (constant : ℕ) → g < 9
       → partClauses x (excludePart (groupTable m) o g relation constant)
@@ -134,10 +135,10 @@ module _ (m : Model) where
       ap₂ (λ (y n : ℕ). rowClauses x (o + y) 0 n (Exclude relation constant)) (first-is m g p) (size-is m g p)
 
   -- the same, by the component
-  leads-from : (x o : ℕ) (rule : Rule) {g h : ℕ} {y z : Component} → g < 9 → h < 9 → componentAt m g ≡ y → componentAt m h ≡ z
-      → partClauses x (leadsPart (groupTable m) o g h rule) ≡ rowClauses x (o + at y) (after o + at z) (groupSize m y) rule
-  leads-from x o rule {g} {h} p q e f =
-      leads-is x o g h rule p q ∙ ap₂ (λ (y z : Component). rowClauses x (o + at y) (after o + at z) (groupSize m y) rule) e f
+  leads-from : (x from o : ℕ) (rule : Rule) {g h : ℕ} {y z : Component} → g < 9 → h < 9 → componentAt m g ≡ y → componentAt m h ≡ z
+      → partClauses x (leadsPart (groupTable m) from o g h rule) ≡ rowClauses x (from + at y) (after o + at z) (groupSize m y) rule
+  leads-from x from o rule {g} {h} p q e f =
+      leads-is x from o g h rule p q ∙ ap₂ (λ (y z : Component). rowClauses x (from + at y) (after o + at z) (groupSize m y) rule) e f
 
   exclude-from : (x o : ℕ) (relation : Relation) (constant : ℕ) {g : ℕ} {y : Component} → g < 9 → componentAt m g ≡ y
       → partClauses x (excludePart (groupTable m) o g relation constant) ≡ rowClauses x (o + at y) 0 (groupSize m y) (Exclude relation constant)
@@ -164,12 +165,12 @@ module _ (m : Model) where
     delay-at : (o d g : ℕ) → g < 1 + m .vars + m .clocks → partClauses (o + S + d) (delayPart (groupTable m) o d g) ≡ delayRow o d (componentAt m g)
     unfolding delayRow
     delay-at o d g l = group-cases (m .vars) g
-        (λ e. rule-is Keep (lt-ltb g (1 + m .vars) (omega arith)) refl ∙ leads-from (o + S + d) o Keep k k (ap (componentAt m) e) (ap (componentAt m) e) ∙ sym
+        (λ e. rule-is Keep (lt-ltb g (1 + m .vars) (omega arith)) refl ∙ leads-from (o + S + d) o o Keep k k (ap (componentAt m) e) (ap (componentAt m) e) ∙ sym
         (ap (delayRow o d) (ap (componentAt m) e)))
         (λ i p e. let z : componentAt m g ≡ counter i = ap (componentAt m) e ∙ comp-counter m i p in
-        rule-is Keep (lt-ltb g (1 + m .vars) (omega arith)) refl ∙ leads-from (o + S + d) o Keep k k z z ∙ sym (ap (delayRow o d) z))
+        rule-is Keep (lt-ltb g (1 + m .vars) (omega arith)) refl ∙ leads-from (o + S + d) o o Keep k k z z ∙ sym (ap (delayRow o d) z))
         (λ i e. let z : componentAt m g ≡ clock i = ap (componentAt m) e ∙ comp-clock m i in
-        rule-is (Rise d (ceiling m)) (le-ltb g (1 + m .vars) (omega arith)) refl ∙ leads-from (o + S + d) o (Rise d (ceiling m)) k k z z
+        rule-is (Rise d (ceiling m)) (le-ltb g (1 + m .vars) (omega arith)) refl ∙ leads-from (o + S + d) o o (Rise d (ceiling m)) k k z z
         ∙ sym (ap (delayRow o d) z))
       where
         k : g < 9
@@ -179,11 +180,11 @@ module _ (m : Model) where
         pick b = cond b Keep (Rise d (ceiling m))
 
         rule-is : {b : Bool} (rule : Rule) → ltb g (1 + m .vars) ≡ b → pick b ≡ rule
-            → partClauses (o + S + d) (delayPart (groupTable m) o d g) ≡ partClauses (o + S + d) (leadsPart (groupTable m) o g g rule)
+            → partClauses (o + S + d) (delayPart (groupTable m) o d g) ≡ partClauses (o + S + d) (leadsPart (groupTable m) o o g g rule)
         rule-is {b} rule e f =
-            ap₂ (λ (v t : ℕ). partClauses (o + S + d) (leadsPart (groupTable m) o g g (cond (ltb g (1 + v)) Keep (Rise d t)))) vars-are top-is ∙
-            ap (λ (c : Bool). partClauses (o + S + d) (leadsPart (groupTable m) o g g (pick c))) e
-            ∙ ap (λ (r : Rule). partClauses (o + S + d) (leadsPart (groupTable m) o g g r)) f
+            ap₂ (λ (v t : ℕ). partClauses (o + S + d) (leadsPart (groupTable m) o o g g (cond (ltb g (1 + v)) Keep (Rise d t)))) vars-are top-is ∙
+            ap (λ (c : Bool). partClauses (o + S + d) (leadsPart (groupTable m) o o g g (pick c))) e
+            ∙ ap (λ (r : Rule). partClauses (o + S + d) (leadsPart (groupTable m) o o g g r)) f
 
     pub delay-law :
         (o d : ℕ) → each (groupTable m .groups) (λ g. partClauses (o + S + d) (delayPart (groupTable m) o d g)) ≡ clausesOf (delayItems oneHotWidth m o d)
@@ -195,29 +196,33 @@ module _ (m : Model) where
         over-groups m (delayRow o d) ∙ sym (delay-piece m o d)
 
     -- ---- an edge
-    pub update-law : (o c i : ℕ) (u : Update) → i < m .vars → DeclaredUpdate m u
-        → partClauses (o + S + c) (updatePart (groupTable m) o i u) ≡ clausesOf (updateItems oneHotWidth m o c i u)
-    update-law o c i KeepIt l d =
-        leads-from (o + S + c) o Keep (omega (arith, ok .vars-le)) (omega (arith, ok .vars-le)) (comp-counter m i l) (comp-counter m i l) ∙ sym
+    read-is : (o : ℕ) (order : List ℕ) (w i : ℕ) → readAt (groupTable m) o order w i ≡ readBlock oneHotWidth m o order w i
+    read-is o order w i = ap (λ (b : ℕ). cond (setEarlier order w i) b o) (next-is o)
+
+    pub update-law : (o c : ℕ) (order : List ℕ) (i : ℕ) (u : Update) → i < m .vars → DeclaredUpdate m u
+        → partClauses (o + S + c) (updatePart (groupTable m) o order i u) ≡ clausesOf (updateItems oneHotWidth m o c order i u)
+    update-law o c order i KeepIt l d =
+        leads-from (o + S + c) o o Keep (omega (arith, ok .vars-le)) (omega (arith, ok .vars-le)) (comp-counter m i l) (comp-counter m i l) ∙ sym
         (leads-piece m o o c (counter i) (counter i) some)
-    update-law o c i (Constant n) l d =
+    update-law o c order i (Constant n) l d =
         let e : nextAt (groupTable m) o + firstAt (groupTable m) (1 + i) ≡ after o + at (counter i) =
         ap₂ (λ (a b : ℕ). a + b) (next-is o) (first-is m (1 + i) (omega (arith, ok .vars-le)) ∙ ap at (comp-counter m i l)) in
         set-is (o + S + c) _ _ _ ∙ ap₂ (λ (z g : ℕ). ruleClauses (o + S + c) 0 z 0 (cond (leb n g) (Set n) Forbid)) e (greatest-is i) ∙
         constant-is (o + S + c) (after o + at (counter i)) n (leb n (counterAt m i .greatest)) ∙ sym
         (sets-piece m o c (counter i) (inRange (counterAt m i .greatest) n))
-    update-law o c i (Sum w z) l d =
-        ap (λ (g : ℕ). partClauses (o + S + c) (leadsPart (groupTable m) o (1 + w) (1 + i) (Shift z g))) (greatest-is i) ∙
-        leads-from (o + S + c) o (Shift z (counterAt m i .greatest)) (omega (arith, ok .vars-le)) (omega (arith, ok .vars-le)) (comp-counter m w d)
+    update-law o c order i (Sum w z) l d =
+        let from = readBlock oneHotWidth m o order w i in
+        ap₂ (λ (b g : ℕ). partClauses (o + S + c) (leadsPart (groupTable m) b o (1 + w) (1 + i) (Shift z g))) (read-is o order w i) (greatest-is i) ∙
+        leads-from (o + S + c) from o (Shift z (counterAt m i .greatest)) (omega (arith, ok .vars-le)) (omega (arith, ok .vars-le)) (comp-counter m w d)
         (comp-counter m i l) ∙ sym
-        (leads-piece m o o c (counter w) (counter i) (shifted z (counterAt m i .greatest)))
+        (leads-piece m from o c (counter w) (counter i) (shifted z (counterAt m i .greatest)))
 
     pub reset-law : (o c i : ℕ) (u : ClockUpdate) → i < m .clocks
         → partClauses (o + S + c) (resetPart (groupTable m) o i u) ≡ clausesOf (resetItems oneHotWidth m o c i u)
     reset-law o c i Unchanged l =
         let k : 1 + m .vars + i < 9 = omega (arith, ok .vars-le, ok .clocks-le) in
-        ap (λ (v : ℕ). partClauses (o + S + c) (leadsPart (groupTable m) o (1 + v + i) (1 + v + i) Keep)) vars-are ∙
-        leads-from (o + S + c) o Keep k k (comp-clock m i) (comp-clock m i) ∙ sym (leads-piece m o o c (clock i) (clock i) some)
+        ap (λ (v : ℕ). partClauses (o + S + c) (leadsPart (groupTable m) o o (1 + v + i) (1 + v + i) Keep)) vars-are ∙
+        leads-from (o + S + c) o o Keep k k (comp-clock m i) (comp-clock m i) ∙ sym (leads-piece m o o c (clock i) (clock i) some)
     reset-law o c i Reset l =
         let k : 1 + m .vars + i < 9 = omega (arith, ok .vars-le, ok .clocks-le) in
         let e : nextAt (groupTable m) o + firstAt (groupTable m) (1 + groupTable m .vars + i) ≡ after o + at (clock i) =
@@ -253,9 +258,9 @@ module _ (m : Model) where
 
       updates-law : each (m .vars) (λ i. F (6 + i)) ≡ clausesOf (updatesItems oneHotWidth m o c e)
       updates-law =
-          each-cong (m .vars) (λ i. F (6 + i)) (λ i. clausesOf (updateItems oneHotWidth m o c i (updateAt e i)))
-          (λ i l. ap (partClauses x) (counter-part (groupTable m) e o i (subst (λ (n : ℕ). i < n) (sym vars-are) l)) ∙ update-law o c i (updateAt e i) l
-          (w .sets-ok i l)) ∙ sym
+          each-cong (m .vars) (λ i. F (6 + i)) (λ i. clausesOf (updateItems oneHotWidth m o c (e .order) i (updateAt e i)))
+          (λ i l. ap (partClauses x) (counter-part (groupTable m) e o i (subst (λ (n : ℕ). i < n) (sym vars-are) l)) ∙ update-law o c (e .order) i
+          (updateAt e i) l (w .sets-ok i l)) ∙ sym
           (updates-piece m o c e)
 
       resets-law : each (m .clocks) (λ i. F (6 + m .vars + i)) ≡ clausesOf (resetsItems oneHotWidth m o c e)

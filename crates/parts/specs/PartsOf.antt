@@ -1,5 +1,6 @@
 -- The parts of the list that atoms, delays and edges ask for, at the state block that begins at o and the one after it.
 use mathlib.Core.Bool.{cond}
+use mathlib.Core.List.{List}
 use Prim.Native.Nat.{ℕ, _+_, _-_, _<_}
 use lib.Dec.{eqb, ltb, leb}
 use lib.ListN.{getD}
@@ -12,6 +13,7 @@ use Rattle.model.specs.declared.ClockUpdate.{ClockUpdate}
 use Rattle.model.specs.declared.ClockUpdate.the-variants.{Unchanged, Reset}
 use Rattle.model.specs.declared.Edge.{Edge}
 use Rattle.model.specs.Record.{blankCounter, atomAt, updateAt, resetAt}
+use Rattle.model.specs.Automaton.{setEarlier}
 use Rattle.parts.specs.declared.Rule.{Rule}
 use Rattle.parts.specs.declared.Rule.the-variants.{Exclude, Keep, Rise, Shift, Set, Forbid}
 use Rattle.parts.specs.declared.Part.{Part}
@@ -32,13 +34,13 @@ atomPart b o Blank = record { rule = Forbid; before = 0; size = 0; after = 0; in
 atomPart b o (OnClock x relation constant) = excludePart b o (1 + b .vars + x) relation constant
 atomPart b o (OnCounter x relation constant) = excludePart b o (1 + x) relation constant
 
--- Group g at o leads to group h of the next state.
-abbrev pub leadsPart : GroupTable → ℕ → ℕ → ℕ → Rule → Part
-leadsPart b o g h rule = record { rule = rule; before = o + firstAt b g; size = sizeAt b g; after = nextAt b o + firstAt b h; into = sizeAt b h }
+-- Group g of the state block at `from` leads to group h of the state after the one at o.
+abbrev pub leadsPart : GroupTable → ℕ → ℕ → ℕ → ℕ → Rule → Part
+leadsPart b from o g h rule = record { rule = rule; before = from + firstAt b g; size = sizeAt b g; after = nextAt b o + firstAt b h; into = sizeAt b h }
 
 -- Delay d on group g: a clock rises to M at most, all else stays.
 abbrev pub delayPart : GroupTable → ℕ → ℕ → ℕ → Part
-delayPart b o d g = leadsPart b o g g (cond (ltb g (1 + b .vars)) Keep (Rise d (b .top)))
+delayPart b o d g = leadsPart b o o g g (cond (ltb g (1 + b .vars)) Keep (Rise d (b .top)))
 
 -- One clause, of a group that begins at `after`.
 abbrev pub setPart : ℕ → ℕ → Rule → Part
@@ -48,15 +50,19 @@ setPart after into rule = record { rule = rule; before = 0; size = 1; after = af
 abbrev pub greatestAt : GroupTable → ℕ → ℕ
 greatestAt b i = getD (b .counters) i blankCounter .greatest
 
+-- Where the state block begins in which an update of counter i reads counter w: the one after if w is set earlier.
+abbrev pub readAt : GroupTable → ℕ → List ℕ → ℕ → ℕ → ℕ
+readAt b o order w i = cond (setEarlier order w i) (nextAt b o) o
+
 -- An update of counter i.
-abbrev pub updatePart : GroupTable → ℕ → ℕ → Update → Part
-updatePart b o i KeepIt = leadsPart b o (1 + i) (1 + i) Keep
-updatePart b o i (Constant n) = setPart (nextAt b o + firstAt b (1 + i)) (sizeAt b (1 + i)) (cond (leb n (greatestAt b i)) (Set n) Forbid)
-updatePart b o i (Sum w offset) = leadsPart b o (1 + w) (1 + i) (Shift offset (greatestAt b i))
+abbrev pub updatePart : GroupTable → ℕ → List ℕ → ℕ → Update → Part
+updatePart b o order i KeepIt = leadsPart b o o (1 + i) (1 + i) Keep
+updatePart b o order i (Constant n) = setPart (nextAt b o + firstAt b (1 + i)) (sizeAt b (1 + i)) (cond (leb n (greatestAt b i)) (Set n) Forbid)
+updatePart b o order i (Sum w offset) = leadsPart b (readAt b o order w i) o (1 + w) (1 + i) (Shift offset (greatestAt b i))
 
 -- A reset of clock i, or none.
 abbrev pub resetPart : GroupTable → ℕ → ℕ → ClockUpdate → Part
-resetPart b o i Unchanged = leadsPart b o (1 + b .vars + i) (1 + b .vars + i) Keep
+resetPart b o i Unchanged = leadsPart b o o (1 + b .vars + i) (1 + b .vars + i) Keep
 resetPart b o i Reset = setPart (nextAt b o + firstAt b (1 + b .vars + i)) (sizeAt b (1 + b .vars + i)) (Set 0)
 
 -- Part j of an edge: its source, its target, four guard atoms, each counter, each clock.
@@ -65,7 +71,7 @@ edgePart b e o j =
     cond (eqb j 0) (setPart o (sizeAt b 0) (Set (e .source))) (
     cond (eqb j 1) (setPart (nextAt b o) (sizeAt b 0) (Set (e .target))) (
     cond (ltb j 6) (atomPart b o (atomAt (e .guard) (j - 2))) (
-    cond (ltb (j - 6) (b .vars)) (updatePart b o (j - 6) (updateAt e (j - 6))) (
+    cond (ltb (j - 6) (b .vars)) (updatePart b o (e .order) (j - 6) (updateAt e (j - 6))) (
     resetPart b o (j - 6 - b .vars) (resetAt e (j - 6 - b .vars))))))
 
 -- The table has the group that an atom names.

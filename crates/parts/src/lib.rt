@@ -7,12 +7,13 @@ use model::Model;
 use model::Relation;
 use model::Totals;
 use model::Update;
+use model::updates::set_earlier;
 ghost use mathlib.Core.Path.{_≡_};
 ghost use mathlib.Core.Bool.{cond};
 ghost use Prim.Native.Nat.{ℕ, _+_, _<_, _≤_, min};
 ghost use lib.Dec.{T, leb};
 ghost use lib.ListN.{getD};
-ghost use Rattle.model.specs.Automaton.{ceiling, groupSize};
+ghost use Rattle.model.specs.Automaton.{ceiling, groupSize, setEarlier};
 ghost use Rattle.model.specs.Bounds.{KnownTotals};
 ghost use Rattle.model.specs.Form.{wellFormed};
 ghost use Rattle.parts.specs.Numbering.{mostVariables};
@@ -58,6 +59,13 @@ pub fn smaller(a: usize, b: usize) -> usize
     ensures { λ r. ⌜ r ≡ min a b ⌝ }
 {
     if a < b { a } else { b }
+}
+
+// The state block in which an update of counter `i` reads counter `w`: the one after, at `next`, if `w` is set earlier, else the one at `o`.
+pub fn read_at(order: [u8; Model::COUNTERS], w: u8, i: u8, o: usize, next: usize) -> usize
+    ensures { λ r. ⌜ r ≡ cond (setEarlier order w i) next o ⌝ }
+{
+    if set_earlier(order, w, i) { next } else { o }
 }
 
 // How many members group `g` of a state block has.
@@ -151,15 +159,16 @@ impl GroupTable {
         }
     }
 
-    fn leads_part(self, o: usize, g: usize, h: usize, rule: Rule) -> Part
-        requires { ⌜ Bounded self × (o ≤ mostVariables) ⌝ }
-        ensures { λ r. ⌜ r ≡ leadsPart self o g h rule ⌝ }
+    // Group `g` of the state block at `from` leads to group `h` of the state after the one at `o`.
+    fn leads_part(self, from: usize, o: usize, g: usize, h: usize, rule: Rule) -> Part
+        requires { ⌜ Bounded self × (from ≤ nextAt self mostVariables) × (o ≤ mostVariables) ⌝ }
+        ensures { λ r. ⌜ r ≡ leadsPart self from o g h rule ⌝ }
     {
         let first = self.first;
         let size = self.size;
         Part {
             rule,
-            before: o + slot(first, g),
+            before: from + slot(first, g),
             size: slot(size, g),
             after: o + self.state + self.choices + slot(first, h),
             into: slot(size, h),
@@ -172,9 +181,10 @@ impl GroupTable {
         ensures { λ r. ⌜ r ≡ delayPart self o d g ⌝ }
     {
         if g < 1 + self.vars {
-            self.leads_part(o, g, g, Rule::Keep)
+            self.leads_part(o, o, g, g, Rule::Keep)
         } else {
             self.leads_part(
+                o,
                 o,
                 g,
                 g,
@@ -226,15 +236,24 @@ impl GroupTable {
     }
 
     // The clauses of an update of counter `i`.
-    pub fn update_part(self, o: usize, i: usize, update: Update) -> Part
+    pub fn update_part(
+        self,
+        o: usize,
+        order: [u8; Model::COUNTERS],
+        i: usize,
+        update: Update,
+    ) -> Part
         requires { ⌜ Bounded self × (o ≤ mostVariables) × (i < 4) ⌝ }
-        ensures { λ r. ⌜ r ≡ updatePart self o i update ⌝ }
+        ensures { λ r. ⌜ r ≡ updatePart self o order i update ⌝ }
     {
         match update {
-            Update::Keep => self.leads_part(o, 1 + i, 1 + i, Rule::Keep),
+            Update::Keep => self.leads_part(o, o, 1 + i, 1 + i, Rule::Keep),
             Update::Constant(n) => self.set_part(o, 1 + i, self.constant_rule(i, n)),
             Update::Sum { source, offset } => {
-                self.leads_part(o, 1 + source as usize, 1 + i, self.shift_rule(i, offset))
+                let from = read_at(order, source, i as u8, o, o + self.state + self.choices);
+                let w = 1 + source as usize;
+                let rule = self.shift_rule(i, offset);
+                self.leads_part(from, o, w, 1 + i, rule)
             }
         }
     }
@@ -246,7 +265,7 @@ impl GroupTable {
     {
         let g = 1 + self.vars + i;
         match update {
-            ClockUpdate::Unchanged => self.leads_part(o, g, g, Rule::Keep),
+            ClockUpdate::Unchanged => self.leads_part(o, o, g, g, Rule::Keep),
             ClockUpdate::Reset => self.set_part(o, g, Rule::Set(0)),
         }
     }
@@ -284,7 +303,8 @@ impl GroupTable {
         if i < self.vars {
             let s = e.updates[i];
             let update = s.update;
-            return self.update_part(o, i, update);
+            let order = e.order;
+            return self.update_part(o, order, i, update);
         }
         let x = i - self.vars;
         let s = e.resets[x];

@@ -51,6 +51,7 @@ pub fn edge_of(
         target,
         guard,
         updates,
+        order: [0u8; Model::COUNTERS],
         resets,
     }
 }
@@ -130,6 +131,7 @@ fn full_edge() -> Edge
         target: 15,
         guard: [test; Model::ATOMS],
         updates: [update; Model::COUNTERS],
+        order: [3u8, 0, 1, 2],
         resets: [reset; Model::CLOCKS],
     }
 }

@@ -5,3 +5,4 @@ pub mod Partial
 pub mod Keeping
 pub mod Accepted
 pub mod Cutting
+pub mod Written

@@ -1,4 +1,7 @@
 pub mod Parts
 pub mod Signed
+pub mod TimesSet
+pub mod Listing
 pub mod Stages
 pub mod UpdatesFormed
+pub mod OrderFormed

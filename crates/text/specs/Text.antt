@@ -12,7 +12,7 @@ use Rattle.text.specs.lines.Sequence.{readLines}
 use Rattle.text.specs.bytes.Faulty.{lineTold, isNoFault}
 use Rattle.text.specs.declared.bytes.LineFault.{LineFault}
 use Rattle.text.specs.declared.ReadOutcome.{ReadOutcome}
-use Rattle.text.specs.declared.ReadOutcome.the-variants.{Read, TooLong, NotDue, NotOfItsForm, TooManyItems, OutOfRange, NotDeclared, NotRising, BytesLeft}
+use Rattle.text.specs.declared.ReadOutcome.the-variants.{Read, TooLong, NotDue, NotOfItsForm, TooManyItems, OutOfRange, NotDeclared, SetTwiceOrNotRising, BytesLeft}
 use Rattle.text.specs.declared.ReadAnswer.{ReadAnswer}
 
 -- ---- the whole text
@@ -48,7 +48,7 @@ outcomeNumber (NotDue line) = 2
 outcomeNumber (NotOfItsForm line) = 3
 outcomeNumber (OutOfRange line) = 4
 outcomeNumber (NotDeclared line) = 5
-outcomeNumber (NotRising line) = 6
+outcomeNumber (SetTwiceOrNotRising line) = 6
 outcomeNumber (TooManyItems line) = 7
 outcomeNumber (BytesLeft line) = 8
 
@@ -59,7 +59,7 @@ outcomeLine (NotDue line) = line
 outcomeLine (NotOfItsForm line) = line
 outcomeLine (OutOfRange line) = line
 outcomeLine (NotDeclared line) = line
-outcomeLine (NotRising line) = line
+outcomeLine (SetTwiceOrNotRising line) = line
 outcomeLine (TooManyItems line) = line
 outcomeLine (BytesLeft line) = line
 

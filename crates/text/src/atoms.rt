@@ -10,7 +10,7 @@ ghost use mathlib.Core.Path.{_≡_};
 ghost use mathlib.Core.List.{foldl, map};
 ghost use Rattle.text.specs.bytes.Bytes.{splitOn, itemsOf};
 ghost use Rattle.text.specs.atoms.Atoms.{relationAt, width, clockAtom, namedAtom, relatedAtom, valuedAtom, madeAtom, atomOf, onClocks, itemOf, isMalformed, isOutside, isUndeclared, atomValue};
-ghost use Rattle.text.specs.atoms.OnePass.{storedAtom, pushed, counted, absorbed, noAtoms, collected};
+ghost use Rattle.text.specs.atoms.OnePass.{storedAtom, pushed, absorbed, noAtoms, collected};
 
 // The relation that some bytes begin with, and how many of them it takes.
 pub(crate) enum RelationRead {
@@ -302,12 +302,6 @@ fn push(atoms: [AtomSlot; Model::ATOMS], k: usize, a: Atom) -> [AtomSlot; Model:
     slots
 }
 
-fn next_count(k: usize) -> usize
-    ensures { λ r. ⌜ r ≡ counted k ⌝ }
-{
-    if k < Model::ATOMS { k + 1 } else { k }
-}
-
 impl AtomsRead {
     fn none() -> AtomsRead
         ensures { λ r. ⌜ r ≡ noAtoms ⌝ }
@@ -338,7 +332,7 @@ impl AtomsRead {
         let atoms = push(slots, k, a.stored());
         AtomsRead {
             faults,
-            count: next_count(k),
+            count: bytes::next_count(Model::ATOMS, k),
             atoms,
         }
     }

@@ -4,7 +4,7 @@ ghost use Prim.Native.Nat.{_+_, _-_, _≤_};
 ghost use lib.ListN.{length, take, drop, getD};
 ghost use mathlib.Core.List.{[], _∷_};
 ghost use mathlib.Core.Bool.{cond};
-ghost use Rattle.text.specs.bytes.Bytes.{FirstFrom, LeadingDigits, numberOf, narrowed, isDigit, isHyphen};
+ghost use Rattle.text.specs.bytes.Bytes.{FirstFrom, LeadingDigits, numberOf, narrowed, isDigit, isHyphen, counted};
 ghost use Rattle.text.specs.bytes.Faulty.{noFaults, faultNumber, lineTold, isNoFault};
 
 pub enum NumberRead {
@@ -12,7 +12,8 @@ pub enum NumberRead {
     Number(u16),
 }
 
-// What is wrong with the value of a line, a flag for each test of it.
+// What is wrong with the value of a line, a flag for each test of it. `unordered`: a counter is set twice, or the clocks that are reset
+// do not rise strictly.
 pub struct Faults {
     pub malformed: bool,
     pub crowded: bool,
@@ -29,7 +30,7 @@ pub enum LineFault {
     TooManyItems,
     OutOfRange,
     NotDeclared,
-    NotRising,
+    SetTwiceOrNotRising,
 }
 
 impl Faults {
@@ -62,7 +63,7 @@ impl Faults {
             return LineFault::NotDeclared;
         }
         if self.unordered {
-            return LineFault::NotRising;
+            return LineFault::SetTwiceOrNotRising;
         }
         LineFault::NoFault
     }
@@ -79,7 +80,7 @@ impl LineFault {
             LineFault::TooManyItems => false,
             LineFault::OutOfRange => false,
             LineFault::NotDeclared => false,
-            LineFault::NotRising => false,
+            LineFault::SetTwiceOrNotRising => false,
         }
     }
 }
@@ -211,4 +212,11 @@ pub fn byte(s: &[u8], i: usize) -> u8
     ensures { λ r. ⌜ r ≡ getD (now (s .entry)) i 0 ⌝ }
 {
     if i < s.len() { s[i] } else { 0 }
+}
+
+// How many of n slots are filled after one more item, where k were filled before it.
+pub fn next_count(n: usize, k: usize) -> usize
+    ensures { λ r. ⌜ r ≡ counted n k ⌝ }
+{
+    if k < n { k + 1 } else { k }
 }

@@ -50,13 +50,19 @@ fn with_guard(m: Model, e: usize, atoms: [AtomSlot; Model::ATOMS]) -> Model
     next
 }
 
-fn with_updates(m: Model, e: usize, updates: [UpdateSlot; Model::COUNTERS]) -> Model
-    ensures { λ r. ⌜ r ≡ withUpdates m e updates ⌝ }
+fn with_updates(
+    m: Model,
+    e: usize,
+    updates: [UpdateSlot; Model::COUNTERS],
+    order: [u8; Model::COUNTERS],
+) -> Model
+    ensures { λ r. ⌜ r ≡ withUpdates m e updates order ⌝ }
 {
     let mut next = m;
     if e < Model::EDGES {
         let mut edge = next.edges[e];
         edge.updates = updates;
+        edge.order = order;
         next.edges[e] = edge;
     }
     next
@@ -128,7 +134,8 @@ fn set_line(text: &[u8], e: usize, r: Reading) -> Reading
     let v = updates::set_value(&text[start..end], m.vars);
     let f = v.faults;
     let slots = v.updates;
-    let next = with_updates(m, e, slots);
+    let order = v.order;
+    let next = with_updates(m, e, slots, order);
     r.settled(d, f, next)
 }
 

@@ -32,7 +32,7 @@ pub enum ReadOutcome {
     TooManyItems { line: usize },
     OutOfRange { line: usize },
     NotDeclared { line: usize },
-    NotRising { line: usize },
+    SetTwiceOrNotRising { line: usize },
     BytesLeft { line: usize },
 }
 
@@ -64,7 +64,7 @@ fn outcome(fault: LineFault, line: usize) -> ReadOutcome
         LineFault::TooManyItems => ReadOutcome::TooManyItems { line },
         LineFault::OutOfRange => ReadOutcome::OutOfRange { line },
         LineFault::NotDeclared => ReadOutcome::NotDeclared { line },
-        LineFault::NotRising => ReadOutcome::NotRising { line },
+        LineFault::SetTwiceOrNotRising => ReadOutcome::SetTwiceOrNotRising { line },
     }
 }
 
@@ -119,7 +119,7 @@ impl ReadOutcome {
             ReadOutcome::NotOfItsForm { line: _ } => 3,
             ReadOutcome::OutOfRange { line: _ } => 4,
             ReadOutcome::NotDeclared { line: _ } => 5,
-            ReadOutcome::NotRising { line: _ } => 6,
+            ReadOutcome::SetTwiceOrNotRising { line: _ } => 6,
             ReadOutcome::TooManyItems { line: _ } => 7,
             ReadOutcome::BytesLeft { line: _ } => 8,
         }
@@ -135,7 +135,7 @@ impl ReadOutcome {
             ReadOutcome::NotOfItsForm { line } => line,
             ReadOutcome::OutOfRange { line } => line,
             ReadOutcome::NotDeclared { line } => line,
-            ReadOutcome::NotRising { line } => line,
+            ReadOutcome::SetTwiceOrNotRising { line } => line,
             ReadOutcome::TooManyItems { line } => line,
             ReadOutcome::BytesLeft { line } => line,
         }

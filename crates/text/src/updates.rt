@@ -9,7 +9,7 @@ ghost use mathlib.Core.Path.{_≡_};
 ghost use mathlib.Core.List.{foldl, map};
 ghost use Rattle.text.specs.bytes.Bytes.{splitOn, itemsOf};
 ghost use Rattle.text.specs.updates.Sets.{signedSum, valuedSum, madeSum, madeConstant, sumOf, setTo, setNamed, assigns, setOf, isMalformed, isOutside, isUndeclared, counterOf, setValue};
-ghost use Rattle.text.specs.updates.OnePass.{storedOffset, storedUpdate, put, absorbed, noSets, collected};
+ghost use Rattle.text.specs.updates.OnePass.{storedOffset, storedUpdate, put, isSet, listedAt, absorbed, noSets, collected};
 
 // One item of the line.
 pub enum SetRead {
@@ -26,17 +26,19 @@ pub enum SetRead {
     },
 }
 
-// The faults of the value and, where there are none, its updates.
+// The faults of the value and, where there are none, its updates and the order in which they are listed.
 pub struct SetValue {
     pub faults: Faults,
     pub updates: [UpdateSlot; Model::COUNTERS],
+    pub order: [u8; Model::COUNTERS],
 }
 
-// What one pass over the items collects. `least` is the least counter that may be set next.
+// What one pass over the items collects. `count` slots of the order are filled.
 pub(crate) struct SetsRead {
     faults: Faults,
-    least: u32,
     updates: [UpdateSlot; Model::COUNTERS],
+    count: usize,
+    order: [u8; Model::COUNTERS],
 }
 
 fn signed_sum(v: u16, w: u16, sign: u8, n: u16) -> SetRead
@@ -215,11 +217,12 @@ impl SetRead {
         }
     }
 
+    // The counter set; `Model::COUNTERS`, which none is, for an item not of its form.
     fn counter(self) -> u16
         ensures { λ r. ⌜ r ≡ counterOf self ⌝ }
     {
         match self {
-            SetRead::Malformed => 0,
+            SetRead::Malformed => Model::COUNTERS as u16,
             SetRead::ToConstant {
                 counter,
                 constant: _,
@@ -268,6 +271,30 @@ fn put(slots: [UpdateSlot; Model::COUNTERS], k: usize, u: Update) -> [UpdateSlot
     updates
 }
 
+// Whether counter k is set.
+fn is_set(slots: [UpdateSlot; Model::COUNTERS], k: usize) -> bool
+    ensures { λ r. ⌜ r ≡ isSet slots k ⌝ }
+{
+    if k < Model::COUNTERS {
+        let slot = slots[k];
+        let update = slot.update;
+        !update.is_keep()
+    } else {
+        false
+    }
+}
+
+// One more counter, in slot n of the order, if it has such a slot.
+fn listed_at(slots: [u8; Model::COUNTERS], n: usize, k: u8) -> [u8; Model::COUNTERS]
+    ensures { λ r. ⌜ r ≡ listedAt slots n k ⌝ }
+{
+    let mut order = slots;
+    if n < Model::COUNTERS {
+        order[n] = k;
+    }
+    order
+}
+
 impl SetsRead {
     fn none() -> SetsRead
         ensures { λ r. ⌜ r ≡ noSets ⌝ }
@@ -278,8 +305,9 @@ impl SetsRead {
         };
         SetsRead {
             faults,
-            least: 0,
             updates: [slot; Model::COUNTERS],
+            count: 0,
+            order: [0u8; Model::COUNTERS],
         }
     }
 
@@ -289,19 +317,24 @@ impl SetsRead {
     {
         let f = self.faults;
         let slots = self.updates;
-        let k = a.counter() as u32;
+        let n = self.count;
+        let list = self.order;
+        let counter = a.counter();
+        let k = counter as usize;
         let faults = Faults {
             malformed: f.malformed | a.is_malformed(),
             crowded: f.crowded,
             outside: f.outside | a.is_outside(),
             undeclared: f.undeclared | a.is_undeclared(vars),
-            unordered: f.unordered | (k < self.least),
+            unordered: f.unordered | is_set(slots, k),
         };
-        let updates = put(slots, k as usize, a.stored());
+        let updates = put(slots, k, a.stored());
+        let order = listed_at(list, n, bytes::narrow(counter));
         SetsRead {
             faults,
-            least: k + 1,
             updates,
+            count: bytes::next_count(Model::COUNTERS, n),
+            order,
         }
     }
 
@@ -311,7 +344,12 @@ impl SetsRead {
         let faults = self.faults;
         if faults.first().is_none() {
             let updates = self.updates;
-            SetValue { faults, updates }
+            let order = self.order;
+            SetValue {
+                faults,
+                updates,
+                order,
+            }
         } else {
             let slot = UpdateSlot {
                 update: Update::Keep,
@@ -319,6 +357,7 @@ impl SetsRead {
             SetValue {
                 faults,
                 updates: [slot; Model::COUNTERS],
+                order: [0u8; Model::COUNTERS],
             }
         }
     }

@@ -3,7 +3,7 @@ use mathlib.Core.Path.{refl}
 use Rattle.text.specs.bytes.Bytes.{firstAt, startsWith, isDue, valueOf, numberOf, digitsOf, splitOn, isHyphen, itemsOf}
 use Rattle.text.specs.bytes.Faulty.{faultNumber, lineNumber, anyOf, risesFrom}
 use Rattle.text.specs.atoms.Atoms.{relationAt, atomOf, atomFaults, atomSlots, invItems, whenItems}
-use Rattle.text.specs.updates.Sets.{sumOf, setTo, setOf, setFaults, updateSlots, setItems}
+use Rattle.text.specs.updates.Sets.{sumOf, setTo, setOf, timesSet, setTwice, setFaults, updateSlots, orderSlots, setItems}
 use Rattle.text.specs.resets.Resets.{resetOf, resetFaults, resetSlots, resetItems}
 use Rattle.text.specs.line.Values.{numberFaults, referenceFaults, counterFaults}
 use Rattle.text.specs.lines.Store.{withLocations, withInitial, withTarget, withClocks, withVars, withUsed, withCounter, withInvariant, withEdge, withSource}
@@ -15,6 +15,7 @@ use Rattle.text.specs.lines.Sequence.{inTurn, readHead, readCounters, readInvar
 use Rattle.text.specs.Text.{readEnded, readReport}
 use Rattle.text.specs.Bound.{boundReport}
 use Rattle.samples.specs.Models.{modelA, modelB}
+use Rattle.model.specs.Indexed.{listBelow, allBelow}
 use Rattle.model.specs.Record.{blankModel}
 use Rattle.text_cases.specs.Cases.{EachRead, EachBound, accepted, refused, bounds}
 
@@ -24,14 +25,16 @@ a & b = (a, b)
 
 texts-read : EachRead accepted × EachRead refused
 unfolding accepted refused firstAt startsWith isDue valueOf numberOf digitsOf splitOn isHyphen itemsOf faultNumber lineNumber anyOf risesFrom relationAt
-    atomOf atomFaults atomSlots invItems whenItems sumOf setTo setOf setFaults updateSlots setItems resetOf resetFaults resetSlots resetItems numberFaults
-    referenceFaults counterFaults withLocations withInitial withTarget withClocks withVars withUsed withCounter withInvariant withEdge withSource withEdgeTarget
-    withGuard withUpdates withResets readLine locationsLine initLine targetLine clocksLine varsLine varLine invLine edgesLine fromLine toLine whenLine setLine
-    resetLine inTurn readHead readCounters readInvariants readEdge readEdges readLines readEnded readReport modelA modelB blankModel
+    atomOf atomFaults atomSlots invItems whenItems sumOf setTo setOf timesSet setTwice setFaults updateSlots orderSlots setItems resetOf resetFaults
+    resetSlots resetItems numberFaults referenceFaults counterFaults withLocations withInitial withTarget withClocks withVars withUsed withCounter
+    withInvariant withEdge withSource withEdgeTarget withGuard withUpdates withResets readLine locationsLine initLine targetLine clocksLine varsLine varLine
+    invLine edgesLine fromLine toLine whenLine setLine resetLine inTurn readHead readCounters readInvariants readEdge readEdges readLines readEnded
+    readReport listBelow allBelow modelA modelB blankModel
 texts-read = (
-  refl & refl & tt,
+  refl & refl & refl & refl & refl & refl & tt,
   refl & refl & refl & refl & refl & refl & refl & refl & refl & refl & refl & refl & refl & refl & refl & refl & refl & refl & refl & refl & refl &
-      refl & refl & refl & refl & refl & refl & refl & refl & refl & refl & refl & refl & refl & refl & refl & refl & refl & refl & refl & refl & tt,
+      refl & refl & refl & refl & refl & refl & refl & refl & refl & refl & refl & refl & refl & refl & refl & refl & refl & refl & refl & refl &
+      refl & refl & refl & refl & tt,
 )
 
 pub accepted-read : EachRead accepted

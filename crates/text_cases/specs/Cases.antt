@@ -1,10 +1,17 @@
 -- Texts, and what reading each comes to: the worked cases of document 01, and a line for each way of being refused.
+use Prim.Native.Nat.{ℕ}
 use mathlib.Core.Path.{_≡_}
 use mathlib.Core.List.{List, [], _∷_}
+use lib.ListN.{replicate}
+use lib.IntN.{pos}
 use Prim.Native.String.{String}
 use Rattle.text.specs.bytes.Ascii.{ascii}
 use Rattle.text.specs.Text.{ReadReport, readRefused, readAccepted, readReport}
 use Rattle.text.specs.Bound.{BoundReport, boundRefused, boundAccepted, boundReport}
+use Rattle.model.specs.declared.Update.{Update}
+use Rattle.model.specs.declared.Update.the-variants.{Keep, Sum}
+use Rattle.model.specs.declared.Model.{Model}
+use Rattle.model.specs.Record.{blankAtom, blankUpdate, blankReset, blankCounter, blankInvariant, blankEdge}
 use Rattle.samples.specs.Models.{modelA, modelB}
 
 -- ---- the worked models
@@ -13,6 +20,27 @@ textA = "locations=2\ninit=0\ntarget=1\nclocks=0\nvars=0\ninv=-\ninv=-\nedges=1\
 
 abbrev pub textB : String
 textB = "locations=4\ninit=0\ntarget=3\nclocks=1\nvars=1\nvar=1,0\ninv=-\ninv=x0<=3\ninv=-\ninv=-\nedges=3\nfrom=0\nto=1\nwhen=-\nset=-\nreset=x0\nfrom=1\nto=2\nwhen=x0<=2\nset=v0:=v0+1\nreset=-\nfrom=1\nto=3\nwhen=x0>=3\nset=-\nreset=-\n"
+
+-- A with two counters of 0 to 1, whose edge updates v0 and v1 as given, in the given order
+abbrev pub twoCounters : Update → Update → List ℕ → Model
+twoCounters u v order = record {
+  locations = 2;
+  initial = 0;
+  target = 1;
+  clocks = 0;
+  vars = 2;
+  counters = record { greatest = 1; initial = 0 } ∷ record { greatest = 1; initial = 0 } ∷ replicate 2 blankCounter;
+  invariants = replicate 16 blankInvariant;
+  used = 1;
+  edges = record {
+    source = 0;
+    target = 1;
+    guard = replicate 4 blankAtom;
+    updates = record { update = u } ∷ record { update = v } ∷ replicate 2 blankUpdate;
+    order = order;
+    resets = replicate 4 blankReset;
+  } ∷ replicate 31 blankEdge;
+}
 
 -- ---- texts
 pub record Reading : Type 0 where
@@ -28,7 +56,18 @@ EachRead [] = Unit {0}
 EachRead (r ∷ l) = (readReport (ascii (r .text)) ≡ r .report) × EachRead l
 
 unfoldable pub accepted : List Reading
-accepted = reading textA (readAccepted modelA) ∷ reading textB (readAccepted modelB) ∷ []
+accepted =
+    reading textA (readAccepted modelA) ∷
+    reading textB (readAccepted modelB) ∷
+    -- the order of the record is the text's
+    reading "locations=2\ninit=0\ntarget=1\nclocks=0\nvars=2\nvar=1,0\nvar=1,0\ninv=-\ninv=-\nedges=1\nfrom=0\nto=1\nwhen=-\nset=v0:=v0+1,v1:=v0+0\nreset=-\n" (readAccepted (twoCounters (Sum 0 (pos 1)) (Sum 0 (pos 0)) (0 ∷ 1 ∷ 0 ∷ 0 ∷ []))) ∷
+    -- set items come in any order of counters
+    reading "locations=2\ninit=0\ntarget=1\nclocks=0\nvars=2\nvar=1,0\nvar=1,0\ninv=-\ninv=-\nedges=1\nfrom=0\nto=1\nwhen=-\nset=v1:=v0+0,v0:=v0+1\nreset=-\n" (readAccepted (twoCounters (Sum 0 (pos 1)) (Sum 0 (pos 0)) (1 ∷ 0 ∷ 0 ∷ 0 ∷ []))) ∷
+    -- each counter is the other's source
+    reading "locations=2\ninit=0\ntarget=1\nclocks=0\nvars=2\nvar=1,0\nvar=1,0\ninv=-\ninv=-\nedges=1\nfrom=0\nto=1\nwhen=-\nset=v0:=v1+0,v1:=v0+0\nreset=-\n" (readAccepted (twoCounters (Sum 1 (pos 0)) (Sum 0 (pos 0)) (0 ∷ 1 ∷ 0 ∷ 0 ∷ []))) ∷
+    -- v0:=v0+0 is no keep; one counter set, v0, has the blank order
+    reading "locations=2\ninit=0\ntarget=1\nclocks=0\nvars=2\nvar=1,0\nvar=1,0\ninv=-\ninv=-\nedges=1\nfrom=0\nto=1\nwhen=-\nset=v0:=v0+0\nreset=-\n" (readAccepted (twoCounters (Sum 0 (pos 0)) Keep (replicate 4 0))) ∷
+    []
 
 unfoldable pub refused : List Reading
 refused =
@@ -104,9 +143,17 @@ refused =
     reading "locations=4\ninit=0\ntarget=3\nclocks=1\nvars=1\nvar=1,0\ninv=-\ninv=x0<=3\ninv=-\ninv=-\nedges=3\nfrom=0\nto=1\nwhen=-\nset=-\nreset=x0\nfrom=1\nto=2\nwhen=x0<=2\nset=v0:=v0-32\nreset=-\nfrom=1\nto=3\nwhen=x0>=3\nset=-\nreset=-\n" (readRefused 4 20) ∷
     -- constant 32
     reading "locations=4\ninit=0\ntarget=3\nclocks=1\nvars=1\nvar=1,0\ninv=-\ninv=x0<=3\ninv=-\ninv=-\nedges=3\nfrom=0\nto=1\nwhen=-\nset=-\nreset=x0\nfrom=1\nto=2\nwhen=x0<=2\nset=v0:=32\nreset=-\nfrom=1\nto=3\nwhen=x0>=3\nset=-\nreset=-\n" (readRefused 4 20) ∷
+    -- a set item not of its form
+    reading "locations=2\ninit=0\ntarget=1\nclocks=0\nvars=2\nvar=1,0\nvar=1,0\ninv=-\ninv=-\nedges=1\nfrom=0\nto=1\nwhen=-\nset=v1:=1,v0:=1,x\nreset=-\n" (readRefused 3 14) ∷
+    -- 3 before 6
+    reading "locations=2\ninit=0\ntarget=1\nclocks=0\nvars=2\nvar=1,0\nvar=1,0\ninv=-\ninv=-\nedges=1\nfrom=0\nto=1\nwhen=-\nset=v1:=1,v1:=1,x\nreset=-\n" (readRefused 3 14) ∷
+    -- 4 before 6
+    reading "locations=2\ninit=0\ntarget=1\nclocks=0\nvars=2\nvar=1,0\nvar=1,0\ninv=-\ninv=-\nedges=1\nfrom=0\nto=1\nwhen=-\nset=v0:=1,v1:=1,v0:=1,v1:=1,v0:=32\nreset=-\n" (readRefused 4 14) ∷
     -- 5 before 6
-    reading "locations=4\ninit=0\ntarget=3\nclocks=1\nvars=1\nvar=1,0\ninv=-\ninv=x0<=3\ninv=-\ninv=-\nedges=3\nfrom=0\nto=1\nwhen=-\nset=-\nreset=x0\nfrom=1\nto=2\nwhen=x0<=2\nset=v1:=1,v0:=v9+0\nreset=-\nfrom=1\nto=3\nwhen=x0>=3\nset=-\nreset=-\n" (readRefused 5 20) ∷
-    -- a counter set twice
+    reading "locations=2\ninit=0\ntarget=1\nclocks=0\nvars=2\nvar=1,0\nvar=1,0\ninv=-\ninv=-\nedges=1\nfrom=0\nto=1\nwhen=-\nset=v1:=1,v1:=v9+0\nreset=-\n" (readRefused 5 14) ∷
+    -- a counter set twice, with another between
+    reading "locations=2\ninit=0\ntarget=1\nclocks=0\nvars=2\nvar=1,0\nvar=1,0\ninv=-\ninv=-\nedges=1\nfrom=0\nto=1\nwhen=-\nset=v1:=1,v0:=1,v1:=0\nreset=-\n" (readRefused 6 14) ∷
+    -- a counter set twice, one after the other
     reading "locations=4\ninit=0\ntarget=3\nclocks=1\nvars=1\nvar=1,0\ninv=-\ninv=x0<=3\ninv=-\ninv=-\nedges=3\nfrom=0\nto=1\nwhen=-\nset=-\nreset=x0\nfrom=1\nto=2\nwhen=x0<=2\nset=v0:=1,v0:=0\nreset=-\nfrom=1\nto=3\nwhen=x0>=3\nset=-\nreset=-\n" (readRefused 6 20) ∷
     -- five items in set meet 6, not 7
     reading "locations=4\ninit=0\ntarget=3\nclocks=1\nvars=1\nvar=1,0\ninv=-\ninv=x0<=3\ninv=-\ninv=-\nedges=3\nfrom=0\nto=1\nwhen=-\nset=-\nreset=x0\nfrom=1\nto=2\nwhen=x0<=2\nset=v0:=1,v0:=0,v0:=0,v0:=0,v0:=0\nreset=-\nfrom=1\nto=3\nwhen=x0>=3\nset=-\nreset=-\n" (readRefused 6 20) ∷

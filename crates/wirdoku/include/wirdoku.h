@@ -25,34 +25,34 @@ extern "C" {
 #endif
 
 /* Rises by 1 with every change of what stands in this file or of what a call answers; CHANGELOG.md says what changed. */
-#define WIRDOKU_VERSION 2
+#define WIRDOKU_VERSION 3
 
 /* Refusals, as docs/REFUSALS.md has them. No call of this header answers 20: a text that is read gives a well-formed record. */
 enum wirdoku_refusal {
     WIRDOKU_ACCEPTED = 0,
-    WIRDOKU_TEXT_TOO_LONG = 1,          /* more than 8,192 bytes (the bound line of a program's input is not counted) */
-    WIRDOKU_NO_SUCH_LINE = 2,           /* no LF, or not the due key and `=`; also when the text ends before this line */
-    WIRDOKU_NOT_OF_FORM = 3,            /* the value is not of its form (docs/FORMAT.md); also `!=` on a clock, a counter in `inv`, an offset `-0`, a CR */
-    WIRDOKU_OUT_OF_RANGE = 4,           /* a number is outside its range; also an initial value above its greatest */
-    WIRDOKU_NOT_DECLARED = 5,           /* a location, clock or counter is not declared, however great its number */
-    WIRDOKU_NOT_RISING = 6,             /* the counters that are set, or the clocks that are reset, do not rise strictly */
-    WIRDOKU_TOO_MANY_ATOMS = 7,         /* more than four atoms */
-    WIRDOKU_BYTES_LEFT = 8,             /* bytes are left after the last line */
-    WIRDOKU_NO_BOUND_LINE = 9,          /* not `bound=` and a number of the text's form, ended by LF */
-    WIRDOKU_NO_SUCH_STATE = 10,         /* a number of the state is outside its group, or an unused slot is not 0 */
-    WIRDOKU_NOT_WELL_FORMED = 20,       /* the record is not well formed */
-    WIRDOKU_ABOVE_64 = 21,              /* the bound, or the length of the run, is above 64 */
-    WIRDOKU_WORDS_TOO_SHORT = 22,       /* the word buffer is shorter than the list; the number of words needed is returned too */
-    WIRDOKU_ASSIGNMENT_LENGTH = 23,     /* the assignment's length is not N */
-    WIRDOKU_NOT_0_OR_1 = 24,            /* a byte of the assignment is not 0 or 1 */
-    WIRDOKU_RUN_TOO_SHORT = 25,         /* the run buffer is shorter than the bound */
-    WIRDOKU_CLAUSE_FALSE = 26,          /* a clause is false */
-    WIRDOKU_NO_SUCH_STEP = 27,          /* a byte is H or more: no such delay or edge */
-    WIRDOKU_STEP_NOT_ALLOWED = 28,      /* the step is not allowed: source, guard, range or invariant */
-    WIRDOKU_NO_START = 29,              /* the initial state does not meet its invariant */
-    WIRDOKU_NOT_IN_TARGET = 30,         /* the run does not end in the target */
-    WIRDOKU_ASSIGNMENT_TOO_SHORT = 31,  /* the assignment buffer is shorter than N */
-    WIRDOKU_FILE_TOO_SHORT = 32         /* the byte buffer is shorter than the file; the number of bytes needed is returned too */
+    WIRDOKU_TEXT_TOO_LONG = 1,           /* more than 8,192 bytes (the bound line of a program's input is not counted) */
+    WIRDOKU_NO_SUCH_LINE = 2,            /* no LF, or not the due key and `=`; also when the text ends before this line */
+    WIRDOKU_NOT_OF_FORM = 3,             /* the value is not of its form (docs/FORMAT.md); also `!=` on a clock, a counter in `inv`, an offset `-0`, a CR */
+    WIRDOKU_OUT_OF_RANGE = 4,            /* a number is outside its range; also an initial value above its greatest */
+    WIRDOKU_NOT_DECLARED = 5,            /* a location, clock or counter is not declared, however great its number */
+    WIRDOKU_SET_TWICE_OR_NOT_RISING = 6, /* a counter is set twice in one edge, or the clocks that are reset do not rise strictly */
+    WIRDOKU_TOO_MANY_ATOMS = 7,          /* more than four atoms */
+    WIRDOKU_BYTES_LEFT = 8,              /* bytes are left after the last line */
+    WIRDOKU_NO_BOUND_LINE = 9,           /* not `bound=` and a number of the text's form, ended by LF */
+    WIRDOKU_NO_SUCH_STATE = 10,          /* a number of the state is outside its group, or an unused slot is not 0 */
+    WIRDOKU_NOT_WELL_FORMED = 20,        /* the record is not well formed */
+    WIRDOKU_ABOVE_64 = 21,               /* the bound, or the length of the run, is above 64 */
+    WIRDOKU_WORDS_TOO_SHORT = 22,        /* the word buffer is shorter than the list; the number of words needed is returned too */
+    WIRDOKU_ASSIGNMENT_LENGTH = 23,      /* the assignment's length is not N */
+    WIRDOKU_NOT_0_OR_1 = 24,             /* a byte of the assignment is not 0 or 1 */
+    WIRDOKU_RUN_TOO_SHORT = 25,          /* the run buffer is shorter than the bound */
+    WIRDOKU_CLAUSE_FALSE = 26,           /* a clause is false */
+    WIRDOKU_NO_SUCH_STEP = 27,           /* a byte is H or more: no such delay or edge */
+    WIRDOKU_STEP_NOT_ALLOWED = 28,       /* the step is not allowed: source, guard, range or invariant */
+    WIRDOKU_NO_START = 29,               /* the initial state does not meet its invariant */
+    WIRDOKU_NOT_IN_TARGET = 30,          /* the run does not end in the target */
+    WIRDOKU_ASSIGNMENT_TOO_SHORT = 31,   /* the assignment buffer is shorter than N */
+    WIRDOKU_FILE_TOO_SHORT = 32          /* the byte buffer is shorter than the file; the number of bytes needed is returned too */
 };
 
 /* Limits of a model text, of a model, and of what is asked about it. */
@@ -67,7 +67,7 @@ enum wirdoku_refusal {
 #define WIRDOKU_MAX_STEPS 64            /* the bound, and the length of a run */
 #define WIRDOKU_MAX_VARIABLES 21776     /* N, at most: a buffer of so many bytes takes every assignment */
 #define WIRDOKU_MAX_WORDS 6730133       /* a buffer of so many words takes every list; wirdoku_counts tells the words of one */
-#define WIRDOKU_MAX_FILE 34185483       /* a buffer of so many bytes takes every file; wirdoku_dimacs tells the bytes of one, also with 32 */
+#define WIRDOKU_MAX_FILE 34191627       /* a buffer of so many bytes takes every file; wirdoku_dimacs tells the bytes of one, also with 32 */
 
 /* `place`: the line for 2 to 8, the byte's index for 24, the clause's index for 26, the step for 27 and 28, else 0. */
 struct wirdoku_answer {

@@ -11,15 +11,17 @@ use Rattle.text.specs.bytes.Bytes.{numberOf, numberIn}
 use Rattle.text.specs.bytes.Faulty.{faultNumber}
 use Rattle.text.specs.declared.bytes.NumberRead.{NumberRead}
 use Rattle.model.specs.declared.Model.{Model}
-use Rattle.model.specs.Indexed.{allBelow}
+use Rattle.model.specs.Indexed.{allBelow, sumBelow}
 use Rattle.model.specs.Record.{blankModel}
+use Rattle.model.specs.Automaton.{listed}
 use Rattle.model.specs.Form.{counterFormed, countersFormed, eachFormed, filledFromFirst, atomsFormed, invariantsFormed, updatesFormed, resetsFormed}
-use Rattle.model.specs.Form.{edgeFormed, edgesFormed, headFormed, wellFormed}
+use Rattle.model.specs.Form.{orderFormed, edgeFormed, edgesFormed, headFormed, wellFormed}
 use Rattle.model.proofs.IndexedLaws.{and-T}
 use Rattle.text.specs.atoms.Atoms.{atomSlots, invItems}
 use Rattle.text.proofs.atoms.AtomsFormed.{inv-formed, when-formed}
-use Rattle.text.specs.updates.Sets.{setItems}
+use Rattle.text.specs.updates.Sets.{setFaults, updateSlots, orderSlots, setItems}
 use Rattle.text.proofs.updates.UpdatesFormed.{set-formed}
+use Rattle.text.proofs.updates.OrderFormed.{order-formed}
 use Rattle.text.specs.resets.Resets.{resetItems}
 use Rattle.text.proofs.resets.ResetsFormed.{reset-formed}
 use Rattle.text.specs.line.Values.{numberFaults, referenceFaults, greatestOf, initialOf, counterFaults, counterIn}
@@ -109,7 +111,7 @@ unfolding readEdge fromLine toLine whenLine setLine resetLine withSource withEdg
 edge-keeps used e l p good =
     let Read = EdgesRead used (e + 1) in
     line-keeps Read Read _ _ _ (λ m v q h. (with-resets (q .0) (slot-there used e l q) _ (reset-formed (m .clocks) (resetItems v) h), q .1)) _
-    (line-keeps Read Read _ _ _ (λ m v q h. (with-updates (q .0) (slot-there used e l q) _ (set-formed (m .vars) (setItems v) h), q .1)) _
+    (line-keeps Read Read _ _ _ updated _
     (line-keeps Read Read _ _ _ (λ m v q h. (with-guard (q .0) (slot-there used e l q) _ (when-formed (m .clocks) (m .vars) v h), q .1)) _
     (line-keeps Read Read _ _ _ (λ m v q h. (with-edge-target (q .0) (slot-there used e l q) _ (reference-declared (m .locations) (numberOf v) h), q .1)) _
     (line-keeps (EdgesRead used e) Read _ _ _ first p good))))
@@ -117,6 +119,12 @@ edge-keeps used e l p good =
     first : (m : Model) (v : List ℕ) → EdgesRead used e m → faultNumber (referenceFaults (m .locations) (numberOf v)) ≡ 0
         → EdgesRead used (e + 1) (withSource m e (numberIn (numberOf v)))
     first m v q h = let s = slot-there used e l q in (with-source (with-count (q .0) s) s _ (reference-declared (m .locations) (numberOf v) h), q .1)
+
+    updated : (m : Model) (v : List ℕ) → EdgesRead used (e + 1) m → faultNumber (setFaults (m .vars) (setItems v)) ≡ 0
+        → EdgesRead used (e + 1) (withUpdates m e (updateSlots (setItems v)) (orderSlots (setItems v)))
+    updated m v q h =
+        let items = setItems v in
+        (with-updates (q .0) (slot-there used e l q) _ _ (set-formed (m .vars) items h) (order-formed (m .vars) items (q .0 .head .vars-most) h), q .1)
 
 all-edges-keep : (p : Progress) → Good Declared p → Good (λ m. Partial (m .vars) (m .locations) (m .used) m) (readEdges p)
 unfolding readEdges
@@ -163,7 +171,7 @@ refused-blank t = go (ltb 8192 (length t)) (eqb (readLines t .number) 0) (ltb 0 
 -- so every answer holds a well-formed record
 pub blank-formed : T (wellFormed blankModel)
 unfolding blankModel wellFormed headFormed countersFormed invariantsFormed edgesFormed edgeFormed atomsFormed eachFormed filledFromFirst updatesFormed
-    resetsFormed allBelow
+    orderFormed listed resetsFormed allBelow sumBelow
 blank-formed = tt
 
 pub answer-formed : (t : List ℕ) → T (wellFormed (readReport t .model))

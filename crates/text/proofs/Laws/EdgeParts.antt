@@ -17,8 +17,9 @@ use Rattle.model.specs.declared.ClockSlot.{ClockSlot}
 use Rattle.model.specs.declared.Edge.{Edge}
 use Rattle.model.specs.Indexed.{allBelow}
 use Rattle.model.specs.Record.{blankUpdate, blankReset, atomAt}
-use Rattle.model.specs.Form.{isNotEqual, atomFormed, updateFormed, isKeep, isUnchanged, resetSlotFormed, eachFormed, filledFromFirst, atomsFormed}
-use Rattle.model.specs.Form.{updateSlotFormed, updatesFormed, resetsFormed, edgeFormed}
+use Rattle.model.specs.Automaton.{isKeep}
+use Rattle.model.specs.Form.{isNotEqual, atomFormed, updateFormed, isUnchanged, resetSlotFormed, eachFormed, filledFromFirst, atomsFormed}
+use Rattle.model.specs.Form.{updateSlotFormed, updatesFormed, orderFormed, resetsFormed, edgeFormed}
 use Rattle.model.proofs.IndexedLaws.{and-T, all-below}
 
 pub record EdgeParts (locations clocks vars : ℕ) (e : Edge) : Type 0 where
@@ -26,6 +27,7 @@ pub record EdgeParts (locations clocks vars : ℕ) (e : Edge) : Type 0 where
   pub target-ok : T (ltb (e .target) locations)
   pub guard-ok : T (atomsFormed clocks vars (e .guard))
   pub updates-ok : T (updatesFormed vars (e .updates))
+  pub order-ok : T (orderFormed e)
   pub resets-ok : T (resetsFormed clocks (e .resets))
 
 module _ (locations clocks vars : ℕ) (e : Edge) where
@@ -38,14 +40,18 @@ module _ (locations clocks vars : ℕ) (e : Edge) where
   abbrev updated : Bool
   updated = guarded && updatesFormed vars (e .updates)
 
+  abbrev ordered : Bool
+  ordered = updated && orderFormed e
+
   pub open-edge : T (edgeFormed locations clocks vars e) → EdgeParts locations clocks vars e
   unfolding edgeFormed
   open-edge h =
-      let x = and-T updated (resetsFormed clocks (e .resets)) .0 h in
-      let y = and-T guarded (updatesFormed vars (e .updates)) .0 (x .0) in
+      let x = and-T ordered (resetsFormed clocks (e .resets)) .0 h in
+      let o = and-T updated (orderFormed e) .0 (x .0) in
+      let y = and-T guarded (updatesFormed vars (e .updates)) .0 (o .0) in
       let z = and-T located (atomsFormed clocks vars (e .guard)) .0 (y .0) in
       let w = and-T (ltb (e .source) locations) (ltb (e .target) locations) .0 (z .0) in
-      record { source-ok = w .0; target-ok = w .1; guard-ok = z .1; updates-ok = y .1; resets-ok = x .1 }
+      record { source-ok = w .0; target-ok = w .1; guard-ok = z .1; updates-ok = y .1; order-ok = o .1; resets-ok = x .1 }
 
   pub shut-edge : EdgeParts locations clocks vars e → T (edgeFormed locations clocks vars e)
   unfolding edgeFormed
@@ -53,7 +59,8 @@ module _ (locations clocks vars : ℕ) (e : Edge) where
       let z = and-T (ltb (e .source) locations) (ltb (e .target) locations) .1 (p .source-ok, p .target-ok) in
       let y = and-T located (atomsFormed clocks vars (e .guard)) .1 (z, p .guard-ok) in
       let x = and-T guarded (updatesFormed vars (e .updates)) .1 (y, p .updates-ok) in
-      and-T updated (resetsFormed clocks (e .resets)) .1 (x, p .resets-ok)
+      let o = and-T updated (orderFormed e) .1 (x, p .order-ok) in
+      and-T ordered (resetsFormed clocks (e .resets)) .1 (o, p .resets-ok)
 
 -- ---- what is formed where nothing is declared is formed anywhere
 all-weaken : (p q : ℕ → Bool) (n : ℕ) → ((i : ℕ) → T (p i) → T (q i)) → T (allBelow p n) → T (allBelow q n)
@@ -107,5 +114,6 @@ weaken locations clocks vars e l h =
       target-ok = lt→ltb (e .target) locations (omega (arith, ltb→lt (e .target) 1 (p .target-ok)));
       guard-ok = weaken-atoms clocks vars (e .guard) (p .guard-ok);
       updates-ok = weaken-updates vars (e .updates) (p .updates-ok);
+      order-ok = p .order-ok;
       resets-ok = weaken-resets clocks (e .resets) (p .resets-ok);
     })

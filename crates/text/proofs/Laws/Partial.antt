@@ -1,6 +1,7 @@
 -- A model that is read in part: its numbers are within their limits, and so many of its counters, invariants and edges are formed, the others
 -- blank. Each part that a line puts in keeps this.
 use Prim.Native.Nat.{ℕ, _+_, _≤_, _<_}
+use mathlib.Core.Path.{_≡_, refl}
 use mathlib.Core.List.{List}
 use mathlib.Core.Bool.{_&&_}
 use native.Mathlib.Omega.{arith}
@@ -13,10 +14,11 @@ use Rattle.model.specs.declared.Counter.{Counter}
 use Rattle.model.specs.declared.Invariant.{Invariant}
 use Rattle.model.specs.declared.Edge.{Edge}
 use Rattle.model.specs.declared.Model.{Model}
-use Rattle.model.specs.Indexed.{allBelow}
+use Rattle.model.specs.Indexed.{allBelow, sumBelow}
 use Rattle.model.specs.Record.{blankCounter, blankInvariant, blankEdge, blankModel, pastInvariant, pastEdge, edgeAt}
 use Rattle.model.specs.Form.{counterFormed, isBlankCounter, countersFormed, eachFormed, filledFromFirst, atomsFormed, invariantSlotFormed, invariantsFormed}
-use Rattle.model.specs.Form.{updatesFormed, resetsFormed, edgeFormed, edgeSlotFormed, edgesFormed, headFormed, wellFormed}
+use Rattle.model.specs.Automaton.{listed}
+use Rattle.model.specs.Form.{updatesFormed, orderFormed, resetsFormed, edgeFormed, edgeSlotFormed, edgesFormed, headFormed, wellFormed}
 use Rattle.model.proofs.IndexedLaws.{and-T, all-below}
 use Rattle.text.specs.lines.Store.{withLocations, withInitial, withTarget, withClocks, withVars, withUsed, withCounter, withInvariant}
 use Rattle.text.specs.lines.Store.{withEdge, withSource, withEdgeTarget, withGuard, withUpdates, withResets}
@@ -72,7 +74,7 @@ whole m p =
 
 -- ---- the numbers; those of clocks and counters before any invariant and edge
 pub with-locations : (n : ℕ) → 1 ≤ n → n ≤ 16 → Partial 0 0 0 (withLocations blankModel n)
-unfolding withLocations blankModel edgeFormed atomsFormed eachFormed filledFromFirst updatesFormed resetsFormed allBelow
+unfolding withLocations blankModel edgeFormed atomsFormed eachFormed filledFromFirst updatesFormed orderFormed listed resetsFormed allBelow sumBelow
 with-locations n a b = record {
   head = omega arith;
   counters = fill-none _ _ _ 4 blankCounter tt;
@@ -134,51 +136,58 @@ module _ {v n e : ℕ} {m : Model} (p : Partial v n (e + 1) m) (q : e < 32) wher
   }
 
   pub with-source : (x : ℕ) → x < m .locations → Partial v n (e + 1) (withSource m e x)
-  unfolding withSource
+  unfolding withSource orderFormed listed
   with-source x h = with-edge _ (record {
     source-ok = lt→ltb x (m .locations) h;
     target-ok = parts .target-ok;
     guard-ok = parts .guard-ok;
     updates-ok = parts .updates-ok;
+    order-ok = parts .order-ok;
     resets-ok = parts .resets-ok;
   })
 
   pub with-edge-target : (x : ℕ) → x < m .locations → Partial v n (e + 1) (withEdgeTarget m e x)
-  unfolding withEdgeTarget
+  unfolding withEdgeTarget orderFormed listed
   with-edge-target x h = with-edge _ (record {
     source-ok = parts .source-ok;
     target-ok = lt→ltb x (m .locations) h;
     guard-ok = parts .guard-ok;
     updates-ok = parts .updates-ok;
+    order-ok = parts .order-ok;
     resets-ok = parts .resets-ok;
   })
 
   pub with-guard : (atoms : List AtomSlot) → T (atomsFormed (m .clocks) (m .vars) atoms) → Partial v n (e + 1) (withGuard m e atoms)
-  unfolding withGuard
+  unfolding withGuard orderFormed listed
   with-guard atoms h = with-edge _ (record {
     source-ok = parts .source-ok;
     target-ok = parts .target-ok;
     guard-ok = h;
     updates-ok = parts .updates-ok;
+    order-ok = parts .order-ok;
     resets-ok = parts .resets-ok;
   })
 
-  pub with-updates : (slots : List UpdateSlot) → T (updatesFormed (m .vars) slots) → Partial v n (e + 1) (withUpdates m e slots)
+  pub with-updates : (slots : List UpdateSlot) (order : List ℕ) → T (updatesFormed (m .vars) slots)
+      → ((x : Edge) → x .updates ≡ slots → x .order ≡ order → T (orderFormed x))
+      → Partial v n (e + 1) (withUpdates m e slots order)
   unfolding withUpdates
-  with-updates slots h = with-edge _ (record {
+  with-updates slots order h o = with-edge _ (record {
     source-ok = parts .source-ok;
     target-ok = parts .target-ok;
     guard-ok = parts .guard-ok;
     updates-ok = h;
+    order-ok = o _ refl refl;
     resets-ok = parts .resets-ok;
   })
 
   pub with-resets : (slots : List ClockSlot) → T (resetsFormed (m .clocks) slots) → Partial v n (e + 1) (withResets m e slots)
-  unfolding withResets
+  unfolding withResets orderFormed listed
   with-resets slots h = with-edge _ (record {
     source-ok = parts .source-ok;
     target-ok = parts .target-ok;
     guard-ok = parts .guard-ok;
     updates-ok = parts .updates-ok;
+    order-ok = parts .order-ok;
     resets-ok = h;
   })

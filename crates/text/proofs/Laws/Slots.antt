@@ -11,7 +11,7 @@ use lib.Seq.{getD-set-same, getD-set-other, set-out}
 use borrow.Author.Tests.{lt-ltb, le-ltb, ltb-false}
 use Rattle.model.proofs.IndexedLaws.{lt-or-le}
 
-three-ways : {C : Type 0} (i k : ℕ) → (i < k → C) → (i ≡ k → C) → (k < i → C) → C
+pub three-ways : {C : Type 0} (i k : ℕ) → (i < k → C) → (i ≡ k → C) → (k < i → C) → C
 three-ways i k below same above = ⊎-elim below (λ l. ⊎-elim above (λ r. same (omega arith)) (lt-or-le k i)) (lt-or-le i k)
 
 -- n slots, of which k are filled; A tests a filled slot, B another; d stands for a slot that is not there

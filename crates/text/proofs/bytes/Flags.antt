@@ -8,7 +8,7 @@ use lib.Dec.{ltb, leb, eqb}
 use borrow.Author.Tests.{lt-ltb, le-ltb, leb-true, leb-false, eqb-true}
 use Rattle.text.specs.declared.bytes.Faults.{Faults}
 use Rattle.text.specs.declared.bytes.LineFault.{LineFault}
-use Rattle.text.specs.declared.bytes.LineFault.the-variants.{NoFault, NotDue, NotOfItsForm, TooManyItems, OutOfRange, NotDeclared, NotRising}
+use Rattle.text.specs.declared.bytes.LineFault.the-variants.{NoFault, NotDue, NotOfItsForm, TooManyItems, OutOfRange, NotDeclared, SetTwiceOrNotRising}
 use Rattle.text.specs.bytes.Faulty.{faultNumber, lineTold, isNoFault, anyOf, risesFrom}
 
 module _ {S A : Type 0} (step : S → A → S) where
@@ -102,7 +102,7 @@ no-fault-number NotOfItsForm = refl
 no-fault-number TooManyItems = refl
 no-fault-number OutOfRange = refl
 no-fault-number NotDeclared = refl
-no-fault-number NotRising = refl
+no-fault-number SetTwiceOrNotRising = refl
 
 -- what the test for a fault tells of a value
 pub fault-test : (f : Faults) (k : LineFault) {b : Bool} → lineTold k ≡ faultNumber f → b ≡ isNoFault k → eqb (faultNumber f) 0 ≡ b

@@ -9,7 +9,7 @@ use Rattle.text.specs.declared.atoms.AtomValue.{AtomValue}
 use Rattle.text.specs.declared.atoms.AtomRead.{AtomRead}
 use Rattle.text.specs.atoms.Atoms.{atomFaults, atomSlots, atomValue}
 use Rattle.text.specs.declared.updates.SetValue.{SetValue}
-use Rattle.text.specs.updates.Sets.{setFaults, updateSlots, setValue, setItems}
+use Rattle.text.specs.updates.Sets.{setFaults, updateSlots, orderSlots, setValue, setItems}
 use Rattle.text.specs.declared.resets.ResetValue.{ResetValue}
 use Rattle.text.specs.resets.Resets.{resetFaults, resetSlots, resetValue, resetItems}
 use Rattle.text.specs.declared.line.Due.{Due}
@@ -64,13 +64,15 @@ module _ {key t : List ℕ} {r q : Reading} {m : Model} (p : Placed t r) where
         value-reads (λ m v. atomFaults (m .clocks) (m .vars) (items v)) (λ v. atomSlots (items v)) put p due (ap (λ (x : AtomValue). x .faults) e)
         (λ h. ap (λ (x : AtomValue). x .atoms) e ∙ rw (eq-eqb _ 0 h))
 
-    pub set-reads : (put : Model → List UpdateSlot → Model) {l : SetValue} → l ≡ setValue (r .model .vars) (setItems (valueIn t d))
-        → m ≡ put (r .model) (l .updates) → told q ≡ settled (told r) d (l .faults) m
-        → Reads (readLine key (λ m v. setFaults (m .vars) (setItems v)) (λ m v. put m (updateSlots (setItems v)))) t r q
+    pub set-reads : (put : Model → List UpdateSlot → List ℕ → Model) {l : SetValue} → l ≡ setValue (r .model .vars) (setItems (valueIn t d))
+        → m ≡ put (r .model) (l .updates) (l .order) → told q ≡ settled (told r) d (l .faults) m
+        → Reads (readLine key (λ m v. setFaults (m .vars) (setItems v)) (λ m v. put m (updateSlots (setItems v)) (orderSlots (setItems v)))) t r q
     unfolding setValue
     set-reads put e =
-        value-reads (λ m v. setFaults (m .vars) (setItems v)) (λ v. updateSlots (setItems v)) put p due (ap (λ (x : SetValue). x .faults) e)
-        (λ h. ap (λ (x : SetValue). x .updates) e ∙ rw (eq-eqb _ 0 h))
+        let Slots : Type 0 = List UpdateSlot × List ℕ in
+        value-reads (λ m v. setFaults (m .vars) (setItems v)) (λ v. (updateSlots (setItems v), orderSlots (setItems v)))
+        (λ (m : Model) (x : Slots). put m (x .0) (x .1)) p due (ap (λ (x : SetValue). x .faults) e)
+        (λ h. ap (λ (x : SetValue). (x .updates, x .order)) e ∙ rw (eq-eqb _ 0 h))
 
     pub reset-reads : (put : Model → List ClockSlot → Model) {l : ResetValue} → l ≡ resetValue (r .model .clocks) (resetItems (valueIn t d))
         → m ≡ put (r .model) (l .resets) → told q ≡ settled (told r) d (l .faults) m

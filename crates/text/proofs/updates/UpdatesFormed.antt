@@ -11,7 +11,8 @@ use Rattle.text.specs.bytes.Faulty.{faultNumber, anyOf}
 use Rattle.text.proofs.bytes.Flags.{or-left, or-right, any-head, any-tail, passed}
 use Rattle.model.specs.declared.UpdateSlot.{UpdateSlot}
 use Rattle.model.specs.Record.{blankUpdate}
-use Rattle.model.specs.Form.{updateFormed, isKeep, updatesFormed}
+use Rattle.model.specs.Automaton.{isKeep}
+use Rattle.model.specs.Form.{updateFormed, updatesFormed}
 use Rattle.model.proofs.IndexedLaws.{all-below}
 use Rattle.text.specs.declared.updates.SetRead.{SetRead}
 use Rattle.text.specs.declared.updates.SetRead.the-variants.{Malformed, ToConstant, ToSum}
@@ -27,7 +28,7 @@ size-of true zero = refl
 size-of true (suc n) = refl
 
 -- what an item without faults gives
-item-formed : (vars : ℕ) (a : SetRead) → isMalformed a ≡ false → isOutside a ≡ false → isUndeclared vars a ≡ false
+pub item-formed : (vars : ℕ) (a : SetRead) → isMalformed a ≡ false → isOutside a ≡ false → isUndeclared vars a ≡ false
     → (counterOf a < vars) × T (updateFormed vars (updateIn a))
 item-formed vars Malformed m o u = absurd (false≢true (sym m))
 item-formed vars (ToConstant v c) m o u = (leb-false vars v u, rw (le-leb c 31 (ltb-false 31 c o)) tt)

@@ -1,10 +1,10 @@
 -- What one pass over the items of an inv or when value collects. Reading does not rest on it: it is proved equal to the tests of specs/Atoms.
-use Prim.Native.Nat.{ℕ, _+_}
+use Prim.Native.Nat.{ℕ}
 use mathlib.Core.List.{List}
 use mathlib.Core.Bool.{cond, _||_}
 use lib.ListN.{set, replicate}
 use lib.Dec.{ltb, leb, eqb}
-use Rattle.text.specs.bytes.Bytes.{narrowed}
+use Rattle.text.specs.bytes.Bytes.{narrowed, counted}
 use Rattle.text.specs.bytes.Faulty.{noFaults, faultNumber}
 use Rattle.model.specs.declared.Atom.{Atom}
 use Rattle.model.specs.declared.Atom.the-variants.{Blank, OnClock, OnCounter}
@@ -25,10 +25,6 @@ storedAtom (CounterAtom v r c) = OnCounter (narrowed v) r (narrowed c)
 unfoldable pub pushed : List AtomSlot → ℕ → Atom → List AtomSlot
 pushed atoms k a = cond (ltb k 4) (set atoms k (record { atom = a })) atoms
 
--- how many slots are filled then
-abbrev pub counted : ℕ → ℕ
-counted k = cond (ltb k 4) (k + 1) k
-
 unfoldable pub noAtoms : AtomsRead
 noAtoms = record { faults = noFaults; count = 0; atoms = replicate 4 blankAtom }
 
@@ -42,7 +38,7 @@ absorbed clocks vars s a = record {
     undeclared = s .faults .undeclared || isUndeclared clocks vars a;
     unordered = s .faults .unordered;
   };
-  count = counted (s .count);
+  count = counted 4 (s .count);
   atoms = pushed (s .atoms) (s .count) (storedAtom a);
 }
 

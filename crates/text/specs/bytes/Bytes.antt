@@ -108,3 +108,7 @@ isHyphen (x ∷ y ∷ l) = false
 -- the items of a value that may have none: a hyphen alone means none
 unfoldable pub itemsOf : List ℕ → List (List ℕ)
 itemsOf v = cond (isHyphen v) [] (splitOn 44 v)
+
+-- how many of n slots are filled after one more item, where k were filled before it
+abbrev pub counted : ℕ → ℕ → ℕ
+counted n k = cond (ltb k n) (k + 1) k

@@ -5,10 +5,11 @@ use mathlib.Core.Bool.{Bool, true, false, cond, _&&_, _||_}
 use lib.Dec.{leb}
 use Rattle.text.specs.declared.bytes.Faults.{Faults}
 use Rattle.text.specs.declared.bytes.LineFault.{LineFault}
-use Rattle.text.specs.declared.bytes.LineFault.the-variants.{NoFault, NotDue, NotOfItsForm, TooManyItems, OutOfRange, NotDeclared, NotRising}
+use Rattle.text.specs.declared.bytes.LineFault.the-variants.{NoFault, NotDue, NotOfItsForm, TooManyItems, OutOfRange, NotDeclared, SetTwiceOrNotRising}
 
 -- the number of the first test of a value that fails, or 0. The value is tried whole in this order: 3 not of its form; 7 more than four items in
--- inv or when; 4 number outside its range; 5 location, clock or counter not declared; 6 set or reset not strictly rising.
+-- inv or when; 4 number outside its range; 5 location, clock or counter not declared; 6 a counter is set twice in one edge,
+-- or reset isn't strictly rising.
 unfoldable pub faultNumber : Faults → ℕ
 faultNumber f = cond (f .malformed) 3 (cond (f .crowded) 7 (cond (f .outside) 4 (cond (f .undeclared) 5 (cond (f .unordered) 6 0))))
 
@@ -27,7 +28,7 @@ lineTold NotOfItsForm = 3
 lineTold TooManyItems = 7
 lineTold OutOfRange = 4
 lineTold NotDeclared = 5
-lineTold NotRising = 6
+lineTold SetTwiceOrNotRising = 6
 
 abbrev pub isNoFault : LineFault → Bool
 isNoFault NoFault = true
@@ -36,7 +37,7 @@ isNoFault NotOfItsForm = false
 isNoFault TooManyItems = false
 isNoFault OutOfRange = false
 isNoFault NotDeclared = false
-isNoFault NotRising = false
+isNoFault SetTwiceOrNotRising = false
 
 -- some item fails a test
 unfoldable pub anyOf : {A : Type 0} → (A → Bool) → List A → Bool

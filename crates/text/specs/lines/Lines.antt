@@ -3,7 +3,7 @@ use Prim.Native.Nat.{ℕ}
 use Rattle.text.specs.bytes.Ascii.{ascii}
 use Rattle.text.specs.bytes.Bytes.{numberOf, numberIn}
 use Rattle.text.specs.atoms.Atoms.{atomFaults, atomSlots, invItems, whenItems}
-use Rattle.text.specs.updates.Sets.{setFaults, updateSlots, setItems}
+use Rattle.text.specs.updates.Sets.{setFaults, updateSlots, orderSlots, setItems}
 use Rattle.text.specs.resets.Resets.{resetFaults, resetSlots, resetItems}
 use Rattle.text.specs.line.Values.{numberFaults, referenceFaults, greatestOf, initialOf, counterFaults, counterIn}
 use Rattle.text.specs.lines.Store.{withLocations, withInitial, withTarget, withClocks, withVars, withUsed, withCounter, withInvariant}
@@ -40,7 +40,7 @@ invLine l = readLine (ascii "inv=") (λ m v. atomFaults (m .clocks) (m .vars) (i
 unfoldable pub edgesLine : Progress → Progress
 edgesLine = readLine (ascii "edges=") (λ m v. numberFaults 0 32 (numberOf v)) (λ m v. withUsed m (numberIn (numberOf v)))
 
--- edge e: source and target location, guard, updates, resets
+-- edge e: source and target location, guard, updates and their order, resets
 unfoldable pub fromLine : ℕ → Progress → Progress
 fromLine e = readLine (ascii "from=") (λ m v. referenceFaults (m .locations) (numberOf v)) (λ m v. withSource m e (numberIn (numberOf v)))
 
@@ -51,7 +51,8 @@ unfoldable pub whenLine : ℕ → Progress → Progress
 whenLine e = readLine (ascii "when=") (λ m v. atomFaults (m .clocks) (m .vars) (whenItems v)) (λ m v. withGuard m e (atomSlots (whenItems v)))
 
 unfoldable pub setLine : ℕ → Progress → Progress
-setLine e = readLine (ascii "set=") (λ m v. setFaults (m .vars) (setItems v)) (λ m v. withUpdates m e (updateSlots (setItems v)))
+setLine e =
+    readLine (ascii "set=") (λ m v. setFaults (m .vars) (setItems v)) (λ m v. withUpdates m e (updateSlots (setItems v)) (orderSlots (setItems v)))
 
 unfoldable pub resetLine : ℕ → Progress → Progress
 resetLine e = readLine (ascii "reset=") (λ m v. resetFaults (m .clocks) (resetItems v)) (λ m v. withResets m e (resetSlots (resetItems v)))

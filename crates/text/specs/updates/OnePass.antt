@@ -1,16 +1,17 @@
 -- What one pass over the items of a set value collects. Reading does not rest on it: it is proved equal to the tests of specs/Sets.
-use Prim.Native.Nat.{ℕ, _+_}
+use Prim.Native.Nat.{ℕ}
 use mathlib.Core.List.{List}
-use mathlib.Core.Bool.{Bool, cond, _||_}
-use lib.ListN.{set, replicate}
+use mathlib.Core.Bool.{Bool, cond, not, _&&_, _||_}
+use lib.ListN.{getD, set, replicate}
 use lib.Dec.{ltb, eqb}
 use lib.IntN.{ℤ, pos}
-use Rattle.text.specs.bytes.Bytes.{narrowed}
+use Rattle.text.specs.bytes.Bytes.{narrowed, counted}
 use Rattle.text.specs.bytes.Faulty.{noFaults, faultNumber}
 use Rattle.model.specs.declared.Update.{Update}
 use Rattle.model.specs.declared.Update.the-variants.{Keep, Constant, Sum}
 use Rattle.model.specs.declared.UpdateSlot.{UpdateSlot}
 use Rattle.model.specs.Record.{blankUpdate}
+use Rattle.model.specs.Automaton.{isKeep}
 use Rattle.text.specs.declared.updates.SetValue.{SetValue}
 use Rattle.text.specs.declared.updates.SetRead.{SetRead}
 use Rattle.text.specs.declared.updates.SetRead.the-variants.{Malformed, ToConstant, ToSum}
@@ -29,8 +30,16 @@ storedUpdate (ToSum v w negative n) = Sum (narrowed w) (storedOffset negative n)
 unfoldable pub put : List UpdateSlot → ℕ → Update → List UpdateSlot
 put slots k u = cond (ltb k 4) (set slots k (record { update = u })) slots
 
+-- counter k is set
+abbrev pub isSet : List UpdateSlot → ℕ → Bool
+isSet slots k = ltb k 4 && not (isKeep (getD slots k blankUpdate .update))
+
+-- one more counter, in slot n of the order, if it has such a slot
+unfoldable pub listedAt : List ℕ → ℕ → ℕ → List ℕ
+listedAt order n k = cond (ltb n 4) (set order n k) order
+
 unfoldable pub noSets : SetsRead
-noSets = record { faults = noFaults; least = 0; updates = replicate 4 blankUpdate }
+noSets = record { faults = noFaults; updates = replicate 4 blankUpdate; count = 0; order = replicate 4 0 }
 
 -- one more item
 unfoldable pub absorbed : ℕ → SetsRead → SetRead → SetsRead
@@ -40,11 +49,16 @@ absorbed vars s a = record {
     crowded = s .faults .crowded;
     outside = s .faults .outside || isOutside a;
     undeclared = s .faults .undeclared || isUndeclared vars a;
-    unordered = s .faults .unordered || ltb (counterOf a) (s .least);
+    unordered = s .faults .unordered || isSet (s .updates) (counterOf a);
   };
-  least = counterOf a + 1;
   updates = put (s .updates) (counterOf a) (storedUpdate a);
+  count = counted 4 (s .count);
+  order = listedAt (s .order) (s .count) (narrowed (counterOf a));
 }
 
 unfoldable pub collected : SetsRead → SetValue
-collected s = record { faults = s .faults; updates = cond (eqb (faultNumber (s .faults)) 0) (s .updates) (replicate 4 blankUpdate) }
+collected s = record {
+  faults = s .faults;
+  updates = cond (eqb (faultNumber (s .faults)) 0) (s .updates) (replicate 4 blankUpdate);
+  order = cond (eqb (faultNumber (s .faults)) 0) (s .order) (replicate 4 0);
+}

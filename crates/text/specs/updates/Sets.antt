@@ -1,18 +1,19 @@
 -- The value of a set line: items v0:=5, v0:=v1+3 or v0:=v1-3, the tests of the line, and the slots that an accepted one fills.
-use Prim.Native.Nat.{ℕ}
-use mathlib.Core.List.{List, map, foldl}
+use Prim.Native.Nat.{ℕ, _+_}
+use mathlib.Core.List.{List, [], _∷_, map, foldl}
 use mathlib.Core.Bool.{Bool, true, false, cond, not, _&&_, _||_}
 use lib.ListN.{getD, drop, set, replicate}
 use lib.Dec.{ltb, leb, eqb}
 use lib.IntN.{ℤ, pos, negℤ}
 use Rattle.text.specs.bytes.Bytes.{numberOf, leading, following, itemsOf}
-use Rattle.text.specs.bytes.Faulty.{faultNumber, anyOf, risesFrom}
+use Rattle.text.specs.bytes.Faulty.{faultNumber, anyOf}
 use Rattle.text.specs.declared.bytes.NumberRead.{NumberRead}
 use Rattle.text.specs.declared.bytes.NumberRead.the-variants.{Malformed as NoNumber, Number}
 use Rattle.text.specs.declared.bytes.Faults.{Faults}
 use Rattle.model.specs.declared.Update.{Update}
 use Rattle.model.specs.declared.Update.the-variants.{Keep, Constant, Sum}
 use Rattle.model.specs.declared.UpdateSlot.{UpdateSlot}
+use Rattle.model.specs.Indexed.{listBelow, allBelow}
 use Rattle.model.specs.Record.{blankUpdate}
 use Rattle.text.specs.declared.updates.SetValue.{SetValue}
 use Rattle.text.specs.declared.updates.SetRead.{SetRead}
@@ -74,11 +75,20 @@ isUndeclared vars Malformed = false
 isUndeclared vars (ToConstant v c) = leb vars v
 isUndeclared vars (ToSum v w negative n) = leb vars v || leb vars w
 
--- the counter set
+-- the counter set; 4, which none is, for an item not of its form
 abbrev pub counterOf : SetRead → ℕ
-counterOf Malformed = 0
+counterOf Malformed = 4
 counterOf (ToConstant v c) = v
 counterOf (ToSum v w negative n) = v
+
+-- how many items set counter i
+unfoldable pub timesSet : ℕ → List SetRead → ℕ
+timesSet i [] = 0
+timesSet i (a ∷ l) = cond (eqb i (counterOf a)) 1 0 + timesSet i l
+
+-- a counter is set twice in one edge: not every counter is set at most once. Only v0 to v3 are looked at: another is not declared (5)
+unfoldable pub setTwice : List SetRead → Bool
+setTwice items = not (allBelow (λ i. leb (timesSet i items) 1) 4)
 
 unfoldable pub setFaults : ℕ → List SetRead → Faults
 setFaults vars items = record {
@@ -86,7 +96,7 @@ setFaults vars items = record {
   crowded = false;
   outside = anyOf isOutside items;
   undeclared = anyOf (isUndeclared vars) items;
-  unordered = not (risesFrom 0 (map counterOf items));
+  unordered = setTwice items;
 }
 
 -- ---- the slots: each item sets its counter's, the others keep
@@ -104,11 +114,16 @@ placed slots a = set slots (counterOf a) (record { update = updateIn a })
 unfoldable pub updateSlots : List SetRead → List UpdateSlot
 updateSlots items = foldl placed (replicate 4 blankUpdate) items
 
+-- the order in which the updates are listed: slot k has the counter that item k sets, and 0 where there is no such item
+unfoldable pub orderSlots : List SetRead → List ℕ
+orderSlots items = listBelow (λ k. getD (map counterOf items) k 0) 4
+
 -- the faults of a value, and the slots where it has none
 unfoldable pub setValue : ℕ → List SetRead → SetValue
 setValue vars items = record {
   faults = setFaults vars items;
   updates = cond (eqb (faultNumber (setFaults vars items)) 0) (updateSlots items) (replicate 4 blankUpdate);
+  order = cond (eqb (faultNumber (setFaults vars items)) 0) (orderSlots items) (replicate 4 0);
 }
 
 -- ---- the items of a set value

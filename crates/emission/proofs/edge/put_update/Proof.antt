@@ -32,21 +32,21 @@ shared-slice-read-place c = search needs
 cast-place : tie.Need-cast-place
 cast-place c = omega (arith, c .shared-slice-known3 .given (1 + c .before .before .before .args .i))
 
+add-next : tie.Need-add-next
+add-next c =
+    let start = c .before .before .before .before in
+    omega (arith, update-after (start .args .b) (start .args .o) (start .args .i) _ (start .args .update) (start .pre .4 .fits))
+
+add-next-2 : tie.Need-add-next-2
+add-next-2 c =
+    let start = c .before .before .before .before .before in
+    omega (arith, update-after (start .args .b) (start .args .o) (start .args .i) _ (start .args .update) (start .pre .4 .fits))
+
 add-after : tie.Need-add-after
 add-after c =
-    let start = c .before .before .before .before in
-    omega (arith, update-after (start .args .b) (start .args .o) (start .args .i) (start .args .update) (start .pre .4 .fits))
-
-add-after-2 : tie.Need-add-after-2
-add-after-2 c =
-    let start = c .before .before .before .before .before in
-    omega (arith, update-after (start .args .b) (start .args .o) (start .args .i) (start .args .update) (start .pre .4 .fits))
-
-add-after-3 : tie.Need-add-after-3
-add-after-3 c =
     let start = c .before .before .before .before .before in
     let a = start .args in
-    omega (arith, first-at (start .pre .0) (1 + a .i), update-after (a .b) (a .o) (a .i) (a .update) (start .pre .4 .fits))
+    omega (arith, first-at (start .pre .0) (1 + a .i), update-after (a .b) (a .o) (a .i) _ (a .update) (start .pre .4 .fits))
 
 enum-told : tie.Need-enum-told
 enum-told c = search needs
@@ -54,7 +54,8 @@ enum-told c = search needs
 add-put-kept : tie.Need-add-put-kept
 add-put-kept c =
     let start = c .before .before .before .before .before .before .before in
-    omega (arith, fits-as (keep-is (start .pre .0) (start .args .o) (start .args .i) (c .enum-told .given .1)) (start .pre .4 .fits) .before-in)
+    let q = keep-is (start .pre .0) (start .args .o) (start .args .order) (start .args .i) (c .enum-told .given .1) in
+    omega (arith, fits-as q (start .pre .4 .fits) .before-in)
 
 mul-put-kept : tie.Need-mul-put-kept
 mul-put-kept c = search needs
@@ -69,7 +70,7 @@ put-kept-requires : tie.Need-put-kept-requires
 put-kept-requires c κs =
     let at-enum-told = c .before .before in
     let start = at-enum-told .before .before .before .before .before .before .before in
-    let q = keep-is (start .pre .0) (start .args .o) (start .args .i) (at-enum-told .enum-told .given .1) in
+    let q = keep-is (start .pre .0) (start .args .o) (start .args .order) (start .args .i) (at-enum-told .enum-told .given .1) in
     let f = fits-as q (start .pre .4 .fits) in
     (omega arith, f .before-in, f .after-in, room-as (ap (partClauses (start .args .x)) q ∙ part-is _ _ _ _ _ _) (start .pre .5))
 
@@ -80,7 +81,7 @@ put-constant-requires : tie.Need-put-constant-requires
 put-constant-requires c κs =
     let at-update = c .before .before in
     let start = at-update .before .before .before .before .before .before .before in
-    let q = constant-is (start .pre .0) (start .args .o) (start .args .i) _ (start .pre .3) (at-update .update .given .1) in
+    let q = constant-is (start .pre .0) (start .args .o) (start .args .order) (start .args .i) _ (start .pre .3) (at-update .update .given .1) in
     let f = fits-as q (start .pre .4 .fits) in
     (omega arith, f .after-in, room-as (ap (partClauses (start .args .x)) q ∙ set-is _ _ _ _) (start .pre .5))
 
@@ -93,51 +94,58 @@ cast-w c = search needs
 add-w : tie.Need-add-w
 add-w c = search needs
 
+cast-read-at : tie.Need-cast-read-at
+cast-read-at c = search needs
+
+read-at-requires : tie.Need-read-at-requires
+read-at-requires c κs = search needs
+
 mul-before : tie.Need-mul-before
 mul-before c = search needs
 
 shared-slice-read-before : tie.Need-shared-slice-read-before
 shared-slice-read-before c =
-    let at-update2 = c .before .before in
+    let at-update2 = c .before .before .before in
     let start = at-update2 .before .before .before .before .before .before .before in
-    omega (arith, start .pre .0 .first-long, sum-in (start .pre .0) (start .args .o) (start .args .i) _ _ (at-update2 .update2 .given .1) (start .pre .4))
+    let a = start .args in
+    omega (arith, start .pre .0 .first-long, sum-in (start .pre .0) (a .o) (a .order) (a .i) _ _ (at-update2 .update2 .given .1) (start .pre .4))
 
 cast-before : tie.Need-cast-before
-cast-before c = omega (arith, c .shared-slice-known5 .given (1 + c .before .before .update2 .given .0 .0))
+cast-before c = omega (arith, c .shared-slice-known5 .given (1 + c .before .before .before .update2 .given .0 .0))
 
 add-before : tie.Need-add-before
 add-before c =
-    let at-update2 = c .before .before in
+    let at-update2 = c .before .before .before in
     let start = at-update2 .before .before .before .before .before .before .before in
-    omega (
-      arith,
-      fits-as (sum-is (start .pre .0) (start .args .o) (start .args .i) _ _ (start .pre .3) (at-update2 .update2 .given .1))
-          (start .pre .4 .fits) .before-in,
-    )
+    let a = start .args in
+    let q = sum-is (start .pre .0) (a .o) (a .order) (a .i) _ _ (c .before .read-at .ensures) (start .pre .3) (at-update2 .update2 .given .1) in
+    omega (arith, fits-as q (start .pre .4 .fits) .before-in)
 
 mul-put-shifted : tie.Need-mul-put-shifted
 mul-put-shifted c = search needs
 
 shared-slice-read-put-shifted : tie.Need-shared-slice-read-put-shifted
 shared-slice-read-put-shifted c =
-    let at-update2 = c .before .before .before in
+    let at-update2 = c .before .before .before .before in
     let start = at-update2 .before .before .before .before .before .before .before in
-    omega (arith, start .pre .0 .size-long, sum-in (start .pre .0) (start .args .o) (start .args .i) _ _ (at-update2 .update2 .given .1) (start .pre .4))
+    let a = start .args in
+    omega (arith, start .pre .0 .size-long, sum-in (start .pre .0) (a .o) (a .order) (a .i) _ _ (at-update2 .update2 .given .1) (start .pre .4))
 
 cast-put-shifted : tie.Need-cast-put-shifted
-cast-put-shifted c = omega (arith, c .shared-slice-known6 .given (1 + c .before .before .before .update2 .given .0 .0))
+cast-put-shifted c = omega (arith, c .shared-slice-known6 .given (1 + c .before .before .before .before .update2 .given .0 .0))
 
 put-shifted-requires : tie.Need-put-shifted-requires
 put-shifted-requires c κs =
-    let at-update2 = c .before .before .before .before in
+    let at-read = c .before .before .before in
+    let at-update2 = at-read .before .before in
     let start = at-update2 .before .before .before .before .before .before .before in
     let a = start .args in
     let u = at-update2 .update2 .given .0 in
     let back : toZ w8 (ofZ w8 (u .1 .0)) ≡ u .1 .0 = search needs in
-    let q = sum-is (start .pre .0) (a .o) (a .i) (u .0) (u .1 .0) (start .pre .3) (at-update2 .update2 .given .1) in
+    let q = sum-is (start .pre .0) (a .o) (a .order) (a .i) (u .0) (u .1 .0) (at-read .read-at .ensures) (start .pre .3) (at-update2 .update2 .given .1) in
     let f = fits-as q (start .pre .4 .fits) in
-    let row : ℤ → List Clause = λ z. rowClauses (a .x) (a .o + getD (now (a .first)) (1 + u .0) 0) (nextAt (a .b) (a .o) + getD (now (a .first)) (1 + a .i) 0)
-    (getD (now (a .size)) (1 + u .0) 0) (Shift z (a .greatest)) in (
+    let row : ℤ → List Clause = λ z. rowClauses (a .x) (at-read .read-at .result + getD (now (a .first)) (1 + u .0) 0)
+    (nextAt (a .b) (a .o) + getD (now (a .first)) (1 + a .i) 0) (getD (now (a .size)) (1 + u .0) 0) (Shift z (a .greatest)) in (
       omega arith,
       f .size-le,
       f .before-in,
@@ -152,7 +160,7 @@ returns : tie.Need-returns
 returns c =
     let at-enum-told = c .before .before .before .before in
     let start = at-enum-told .before .before .before .before .before .before .before in
-    let q = keep-is (start .pre .0) (start .args .o) (start .args .i) (at-enum-told .enum-told .given .1) in
+    let q = keep-is (start .pre .0) (start .args .o) (start .args .order) (start .args .i) (at-enum-told .enum-told .given .1) in
     wrote-as (ap (partClauses (start .args .x)) q ∙ part-is _ _ _ _ _ _) (c .before .put-kept .ensures)
 
 same-length-2 : tie.Need-same-length-2
@@ -162,7 +170,7 @@ returns-2 : tie.Need-returns-2
 returns-2 c =
     let at-update = c .before .before .before .before in
     let start = at-update .before .before .before .before .before .before .before in
-    let q = constant-is (start .pre .0) (start .args .o) (start .args .i) _ (start .pre .3) (at-update .update .given .1) in
+    let q = constant-is (start .pre .0) (start .args .o) (start .args .order) (start .args .i) _ (start .pre .3) (at-update .update .given .1) in
     wrote-as (ap (partClauses (start .args .x)) q ∙ set-is _ _ _ _) (c .before .put-constant .ensures)
 
 same-length-3 : tie.Need-same-length-3
@@ -170,19 +178,20 @@ same-length-3 c = search needs
 
 returns-3 : tie.Need-returns-3
 returns-3 c =
-    let u = c .before .before .before .before .before .before .update2 .given .0 in
+    let at-read = c .before .before .before .before .before in
+    let at-update2 = at-read .before .before in
+    let u = at-update2 .update2 .given .0 in
     let back : toZ w8 (ofZ w8 (u .1 .0)) ≡ u .1 .0 = search needs in
-    let at-update2 = c .before .before .before .before .before .before in
     let start = at-update2 .before .before .before .before .before .before .before in
     let a = start .args in
-    let q = sum-is (start .pre .0) (a .o) (a .i) (u .0) (u .1 .0) (start .pre .3) (at-update2 .update2 .given .1) in
-    let row : ℤ → List Clause = λ z. rowClauses (a .x) (a .o + getD (now (a .first)) (1 + u .0) 0) (nextAt (a .b) (a .o) + getD (now (a .first)) (1 + a .i) 0)
-    (getD (now (a .size)) (1 + u .0) 0) (Shift z (a .greatest)) in
+    let q = sum-is (start .pre .0) (a .o) (a .order) (a .i) (u .0) (u .1 .0) (at-read .read-at .ensures) (start .pre .3) (at-update2 .update2 .given .1) in
+    let row : ℤ → List Clause = λ z. rowClauses (a .x) (at-read .read-at .result + getD (now (a .first)) (1 + u .0) 0)
+    (nextAt (a .b) (a .o) + getD (now (a .first)) (1 + a .i) 0) (getD (now (a .size)) (1 + u .0) 0) (Shift z (a .greatest)) in
     wrote-as (ap (partClauses (a .x)) q ∙ part-is _ _ _ _ _ _ ∙ ap row (sym back)) (c .before .put-shifted .ensures)
 
 pub put-update-spec : {M : Type 1} → statement M
 put-update-spec =
-    tie.close (tie.spec add-g mul-place shared-slice-read-place cast-place add-after add-after-2 add-after-3 enum-told add-put-kept mul-put-kept
-    shared-slice-read-put-kept cast-put-kept put-kept-requires enum-known-update put-constant-requires enum-known-update-2 cast-w add-w mul-before
-    shared-slice-read-before cast-before add-before mul-put-shifted shared-slice-read-put-shifted cast-put-shifted put-shifted-requires same-length returns
-    same-length-2 returns-2 same-length-3 returns-3)
+    tie.close (tie.spec add-g mul-place shared-slice-read-place cast-place add-next add-next-2 add-after enum-told add-put-kept mul-put-kept
+    shared-slice-read-put-kept cast-put-kept put-kept-requires enum-known-update put-constant-requires enum-known-update-2 cast-w add-w cast-read-at
+    read-at-requires mul-before shared-slice-read-before cast-before add-before mul-put-shifted shared-slice-read-put-shifted cast-put-shifted
+    put-shifted-requires same-length returns same-length-2 returns-2 same-length-3 returns-3)

@@ -14,32 +14,32 @@ use Rattle.emission.proofs.edge.put_updates.Statement.{statement}
 use Rattle.emission.proofs.edge.put_updates.Tie as tie
 
 abbrev Inv-loop : tie.InvT-loop
-Inv-loop b first size x o out₀ at updates counters end₀ i₀ i-end out end i = (i ≤ i-end) × WroteClauses (each i (λ h. partClauses x (updatePart b o h
-    (getD updates h blankUpdate .update)))) out₀ out end₀ end
+Inv-loop b first size x o out₀ at updates order counters end₀ i₀ i-end out end i = (i ≤ i-end) × WroteClauses (each i (λ h. partClauses x
+    (updatePart b o order h (getD updates h blankUpdate .update)))) out₀ out end₀ end
 
 abbrev μ-loop : tie.MeasureT-loop
-μ-loop b first size x o out₀ at updates counters end₀ i₀ i-end out end i = i-end - i
+μ-loop b first size x o out₀ at updates order counters end₀ i₀ i-end out end i = i-end - i
 
 loop-holds : tie.Need-loop-holds Inv-loop μ-loop
-loop-holds c = (omega arith, wrote-each-none _ _ _ (omega (arith, c .before .before .before .before .pre .4 .words .room)))
+loop-holds c = (omega arith, wrote-each-none _ _ _ (omega (arith, c .before .before .before .before .before .pre .4 .words .room)))
 
 mul-s : tie.Need-mul-s Inv-loop μ-loop
 mul-s c = search needs
 
 array-copy-out-s : tie.Need-array-copy-out-s Inv-loop μ-loop
-array-copy-out-s c = omega (arith, c .before .before .before .before .before .before .pre .2)
+array-copy-out-s c = omega (arith, c .before .before .before .before .before .before .before .pre .2)
 
 mul-c : tie.Need-mul-c Inv-loop μ-loop
 mul-c c = search needs
 
 array-copy-out-c : tie.Need-array-copy-out-c Inv-loop μ-loop
-array-copy-out-c c = omega (arith, c .before .before .before .before .before .before .before .pre .2)
+array-copy-out-c c = omega (arith, c .before .before .before .before .before .before .before .before .pre .2)
 
 put-update-requires : tie.Need-put-update-requires Inv-loop μ-loop
 put-update-requires c κs =
     let at-loop-test = c .before .before .before in
     let turn = at-loop-test .before in
-    let start = turn .before .before .before .before .before in (
+    let start = turn .before .before .before .before .before .before in (
       start .pre .0,
       omega arith,
       omega (arith, start .pre .2),
@@ -62,7 +62,7 @@ same-length c = search needs
 
 returns : tie.Need-returns Inv-loop μ-loop
 returns c =
-    let done : c .before .loop .i ≡ c .before .before .before .before .before .before .args .b .vars = omega arith in
+    let done : c .before .loop .i ≡ c .before .before .before .before .before .before .before .args .b .vars = omega arith in
     rw done at (c .before .loop .inv .1)
 
 pub put-updates-spec : {M : Type 1} → statement M

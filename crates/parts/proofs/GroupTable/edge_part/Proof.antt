@@ -16,11 +16,11 @@ returns : tie.Need-returns
 unfolding edgePart
 returns c = rw (eq-eqb (c .before .before .args .j) 0 (c .if1 .taken))
 
-add-t25 : tie.Need-add-t25
-add-t25 c = search needs
+add-t26 : tie.Need-add-t26
+add-t26 c = search needs
 
-add-t27 : tie.Need-add-t27
-add-t27 c = search needs
+add-t28 : tie.Need-add-t28
+add-t28 c = search needs
 
 returns-2 : tie.Need-returns-2
 unfolding edgePart
@@ -59,14 +59,14 @@ update-part-requires c κs = search needs
 returns-4 : tie.Need-returns-4
 unfolding edgePart
 returns-4 c =
-    let at-if3 = c .before .before .before in
+    let at-if3 = c .before .before .before .before in
     let args = at-if3 .before .before .before .before .args in
     let j = args .j in
     rw (
       ne-eqb j 0 (at-if3 .before .before .if1 .left),
       ne-eqb j 1 (at-if3 .before .if2 .left),
       le-ltb j 6 (at-if3 .if3 .left),
-      lt-ltb (j - 6) (args .t1 .vars) (c .before .before .if4 .taken),
+      lt-ltb (j - 6) (args .t1 .vars) (c .before .before .before .if4 .taken),
     ) (c .update-part .ensures)
 
 sub-x : tie.Need-sub-x
@@ -93,5 +93,5 @@ returns-5 c =
 
 pub edge-part-spec : {M : Type 1} → statement M
 edge-part-spec =
-    tie.close (tie.spec element-copy-out-locations cast-locations returns add-t25 add-t27 returns-2 sub-s mul-s element-copy-out-s atom-part-requires returns-3
+    tie.close (tie.spec element-copy-out-locations cast-locations returns add-t26 add-t28 returns-2 sub-s mul-s element-copy-out-s atom-part-requires returns-3
     mul-s-2 element-copy-out-s-2 update-part-requires returns-4 sub-x element-copy-out-s-3 reset-part-requires returns-5)

@@ -8,23 +8,26 @@ use Rattle.parts.proofs.GroupTable.leads_part.Tie as tie
 slot-requires : tie.Need-slot-requires
 slot-requires c κs = search needs
 
-add-t9 : tie.Need-add-t9
-add-t9 c = record { fits = omega (arith, c .slot .ensures, c .before .before .before .pre .0 .first-le (c .before .before .before .args .g)) }
+add-t10 : tie.Need-add-t10
+add-t10 c =
+    let entry = c .before .before .before in
+    let small = entry .pre .0 in
+    record { fits = omega (arith, c .slot .ensures, small .first-le (entry .args .g), small .state-le, small .choices-le, entry .pre .1) }
 
 slot-requires-2 : tie.Need-slot-requires-2
 slot-requires-2 c κs = search needs
 
-add-t11 : tie.Need-add-t11
-add-t11 c = search needs
-
 add-t12 : tie.Need-add-t12
 add-t12 c = search needs
+
+add-t13 : tie.Need-add-t13
+add-t13 c = search needs
 
 slot-requires-3 : tie.Need-slot-requires-3
 slot-requires-3 c κs = search needs
 
-add-t14 : tie.Need-add-t14
-add-t14 c =
+add-t15 : tie.Need-add-t15
+add-t15 c =
     let entry = c .before .before .before .before .before .before .before in
     record { fits = omega (arith, c .slot3 .ensures, entry .pre .0 .first-le (entry .args .h), entry .pre .0 .state-le, entry .pre .0 .choices-le) }
 
@@ -40,7 +43,7 @@ returns c =
     let self = args .self in
     λ k. record {
       rule = args .rule;
-      before = o + slot-ensures k;
+      before = args .from + slot-ensures k;
       size = slot2 .ensures k;
       after = o + self .state + self .choices
           + c .before .slot3 .ensures k;
@@ -48,4 +51,4 @@ returns c =
     }
 
 pub leads-part-spec : {M : Type 1} → statement M
-leads-part-spec = tie.close (tie.spec slot-requires add-t9 slot-requires-2 add-t11 add-t12 slot-requires-3 add-t14 slot-requires-4 returns)
+leads-part-spec = tie.close (tie.spec slot-requires add-t10 slot-requires-2 add-t12 add-t13 slot-requires-3 add-t15 slot-requires-4 returns)

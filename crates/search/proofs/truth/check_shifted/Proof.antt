@@ -2,7 +2,7 @@
 use mir.Syntax.{w8}
 use mir.Val.{toZ, ofZ}
 use lib.IntN.{ℤ}
-use Rattle.search.proofs.Shifts.{value-some, out-none}
+use Rattle.model.proofs.NewValues.{value-some, out-none}
 use Rattle.search.proofs.CheckLaws.{checked-one}
 use Rattle.model.proofs.StepLaws.{shifted-lt}
 use Rattle.model.specs.Automaton.{shifted, newValue}

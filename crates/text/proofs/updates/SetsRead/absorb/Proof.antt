@@ -7,19 +7,26 @@ use Rattle.text.proofs.updates.SetsRead.absorb.Tie as tie
 returns : tie.Need-returns
 unfolding absorbed
 returns c =
-    let b = c .before .before .before .before .before in
-    let d = b .before .before .before .before in
+    let stored = c .before .before .before .before .stored in
+    let b = c .before .before .before .before .before .before in
+    let d = b .before .before in
+    let e = d .before .before in
+    let f = e .before .before in
     rw (
-      c .put .ensures,
-      c .before .stored .ensures,
-      b .is-undeclared .ensures,
-      b .before .before .is-outside .ensures,
-      d .is-malformed .ensures,
-      d .before .counter .ensures,
+      c .next-count .ensures,
+      c .before .listed-at .ensures,
+      c .before .before .narrow .ensures,
+      c .before .before .before .put .ensures,
+      stored .ensures,
+      b .is-set .ensures,
+      d .is-undeclared .ensures,
+      e .is-outside .ensures,
+      f .is-malformed .ensures,
+      f .before .counter .ensures,
     )
 
 pub absorb-spec : {M : Type 1} → statement M
 absorb-spec =
     tie.close
     (tie.spec (search needs) (search needs) (search needs) (search needs) (search needs) (search needs)
-    (search needs) (search needs) (search needs) returns)
+    (search needs) (search needs) (search needs) (search needs) (search needs) returns)

@@ -10,8 +10,9 @@ returns : tie.Need-returns
 unfolding collected
 returns c =
     let b = c .before .before .before in
-    let none = fault-test (b .before .before .args .self .faults) (b .first .result) (b .first .ensures) (c .before .before .is-none .ensures) in
-    rw (none ∙ c .before .if1 .taken)
+    let first = b .before .first in
+    let none = fault-test (b .before .before .before .args .self .faults) (first .result) (first .ensures) (b .is-none .ensures) in
+    rw (none ∙ c .before .before .if1 .taken)
 
 returns-2 : tie.Need-returns-2
 unfolding collected

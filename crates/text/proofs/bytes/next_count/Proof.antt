@@ -1,8 +1,8 @@
 -- `next_count`: the test of the code decides the definition.
 use borrow.Author.Tests.{lt-ltb, le-ltb}
 use borrow.Author.Needs.{needs}
-use Rattle.text.proofs.atoms.next_count.Statement.{statement}
-use Rattle.text.proofs.atoms.next_count.Tie as tie
+use Rattle.text.proofs.bytes.next_count.Statement.{statement}
+use Rattle.text.proofs.bytes.next_count.Tie as tie
 
 returns : tie.Need-returns
 returns c = rw (lt-ltb _ _ (c .if1 .taken))
