@@ -21,6 +21,11 @@ def wide(line, value):
     )
 
 
+def two_counters(updates):
+    """A with two counters of greatest value 1 and the updates of its edge."""
+    return A.replace(b"vars=0\n", b"vars=2\nvar=1,0\nvar=1,0\n").replace(b"\nset=-\n", b"\nset=" + updates + b"\n")
+
+
 def looping(head, edges, update):
     """A text of a head and so many edges from location 0 to itself, each with one update."""
     edge = b"from=0 to=0 when=- set=%s reset=-" % update
@@ -114,9 +119,17 @@ CASES = [
     ("set=v0:=v0-0", refused(3, 14), wide(14, b"set=v0:=v0-0")),
     ("set=v0:=v9+0", refused(5, 14), wide(14, b"set=v0:=v9+0")),
     ("set=v1:=1,v0:=v9+0", refused(5, 14), wide(14, b"set=v1:=1,v0:=v9+0")),
-    ("set=v1:=1,v0:=1", refused(6, 14), wide(14, b"set=v1:=1,v0:=1")),
+    ("set=v1:=1,v0:=1", (0, 0, 83, 1111, 3475), wide(14, b"set=v1:=1,v0:=1")),
+    ("set=v0:=v0+1,v1:=v0+0", (0, 0, 83, 1117, 3500), wide(14, b"set=v0:=v0+1,v1:=v0+0")),
+    ("set=v1:=v0+0,v0:=v0+1", (0, 0, 83, 1117, 3500), wide(14, b"set=v1:=v0+0,v0:=v0+1")),
     ("set=v0:=1,v0:=2", refused(6, 14), wide(14, b"set=v0:=1,v0:=2")),
+    ("set=v1:=1,v0:=1,v1:=0", refused(6, 14), wide(14, b"set=v1:=1,v0:=1,v1:=0")),
+    ("set=v1:=1,v1:=v9+0", refused(5, 14), wide(14, b"set=v1:=1,v1:=v9+0")),
+    ("two counters set twice and more, a number out of range", refused(4, 14), wide(14, b"set=v0:=1,v1:=1,v0:=1,v1:=1,v0:=32")),
+    ("set=v1:=1,v0:=1,x", refused(3, 14), wide(14, b"set=v1:=1,v0:=1,x")),
     ("reset=x1", refused(5, 15), wide(15, b"reset=x1")),
     ("reset=x0,x0", refused(6, 15), wide(15, b"reset=x0,x0")),
+    ("A with two counters, one raised and then copied", (0, 0, 15, 38, 126), b"bound=1\n" + two_counters(b"v0:=v0+1,v1:=v0+0")),
+    ("A with two counters, one copied and then raised", (0, 0, 15, 38, 126), b"bound=1\n" + two_counters(b"v1:=v0+0,v0:=v0+1")),
     ("reset=-,x0", refused(3, 15), wide(15, b"reset=-,x0")),
 ]

@@ -134,8 +134,9 @@ fn edge<V: Visitor>(layout: &Layout, block: usize, choice: usize, edge: &Edge, v
                 constant_update(group.at(next), choice, usize::from(constant), visitor)?;
             }
             Update::Sum { source, offset } => {
-                let before = layout.counters()[usize::from(source)].at(block);
-                sum_update(before, group.at(next), choice, isize::from(offset), visitor)?;
+                let read_in = if edge.reads_after(index as u8, source) { next } else { block };
+                let read = layout.counters()[usize::from(source)].at(read_in);
+                sum_update(read, group.at(next), choice, isize::from(offset), visitor)?;
             }
         }
     }
@@ -157,13 +158,13 @@ fn constant_update<V: Visitor>(after: Group, choice: usize, constant: usize, vis
     }
 }
 
-fn sum_update<V: Visitor>(before: Group, after: Group, choice: usize, offset: isize, visitor: &mut V) -> Result<(), V::End> {
-    for value in 0..before.length {
+fn sum_update<V: Visitor>(read: Group, after: Group, choice: usize, offset: isize, visitor: &mut V) -> Result<(), V::End> {
+    for value in 0..read.length {
         let result = value as isize + offset;
         if (0..after.length as isize).contains(&result) {
-            visitor.both_imply(choice, before.first + value, after.first + result as usize)?;
+            visitor.both_imply(choice, read.first + value, after.first + result as usize)?;
         } else {
-            visitor.excludes(choice, before.first + value)?;
+            visitor.excludes(choice, read.first + value)?;
         }
     }
     Ok(())

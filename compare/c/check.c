@@ -135,6 +135,10 @@ struct text with_line(struct text base, size_t line, const char *string) {
     return joined(joined(before, text_of(string)), joined(text_of("\n"), after));
 }
 
+struct text two_counters(const char *set) {
+    return with_line(with_line(file_text("models/a.txt"), 5, "vars=2\nvar=1,0\nvar=1,0"), 14, set);
+}
+
 struct text line_feeds(size_t count) {
     uint8_t *bytes = block(count);
     memset(bytes, '\n', count);

@@ -28,6 +28,8 @@ struct text file_text(const char *path);
 struct text joined(struct text first, struct text second);
 /* The text with line `line`, from 1, replaced by a string. */
 struct text with_line(struct text base, size_t line, const char *string);
+/* Model A with two counters of greatest value 1, and a `set` line for its edge, which is line 14. */
+struct text two_counters(const char *set);
 /* A text of so many bytes LF. */
 struct text line_feeds(size_t count);
 /* A model that declares so much; counters reach `greatest`, every inv and when line has the value `atoms`, edges lead from 0 to 0. */

@@ -45,6 +45,24 @@ static void lists(struct text a) {
     check("A at 64 ends with the target", out[2632] == 322 && out[2633] == 0);
 }
 
+/* The two clauses of the edge for the second counter, 30 and 31 from 1. */
+static void copied(const char *set, const int32_t *clauses) {
+    struct text t = two_counters(set);
+    int32_t *out = lent_words(126);
+    check_sizes(set, wirdoku_emit(t.at, t.length, 1, out, 126), WIRDOKU_ACCEPTED, 0, 15, 38, 126);
+    size_t at = 0;
+    for (unsigned ended = 0; at < 118 && ended < 29; at++)
+        ended += out[at] == 0;
+    check(set, memcmp(out + at, clauses, 8 * sizeof *out) == 0);
+}
+
+/* A counter that is set earlier in the list is named in the state after, any other in the state before. */
+static void listed_updates(void) {
+    const int32_t after[8] = {-9, -12, 14, 0, -9, -13, 15, 0}, before[8] = {-9, -3, 14, 0, -9, -4, 15, 0};
+    copied("set=v0:=v0+1,v1:=v0+0", after);
+    copied("set=v1:=v0+0,v0:=v0+1", before);
+}
+
 /* Whether each clause has a literal that the assignment makes true; counts the clauses. */
 static int satisfied(const int32_t *words, size_t length, const uint8_t *assignment, int32_t variables, size_t *clauses) {
     int all = 1, some = 0;
@@ -129,6 +147,7 @@ void list_tests(void) {
     struct text a = file_text("models/a.txt"), b = file_text("models/logger_b.txt");
     totals(a, b);
     lists(a);
+    listed_updates();
     satisfying(b);
     size_program(a);
     sharp_sizes();

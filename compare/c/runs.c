@@ -37,13 +37,34 @@ static void steps(struct text b) {
 static void all_slots(void) {
     struct text t = text_of("locations=12\ninit=10\ntarget=11\nclocks=4\nvars=4\nvar=9,1\nvar=9,2\nvar=9,3\nvar=9,4\n"
                             "inv=-\ninv=-\ninv=-\ninv=-\ninv=-\ninv=-\ninv=-\ninv=-\ninv=-\ninv=-\ninv=-\ninv=-\nedges=1\n"
-                            "from=10\nto=11\nwhen=x0<=30\nset=v0:=v3+0,v1:=v2+0,v2:=v1+0,v3:=v0+0\nreset=x1,x3\n");
+                            "from=10\nto=11\nwhen=x0<=30\nset=v0:=v3+0,v1:=v2+4,v2:=v1-6,v3:=v0-2\nreset=x1,x3\n");
     const struct wirdoku_state start = slots_of(10, 0x01020304, 0), before = slots_of(10, 0x01020304, 0x05060708);
-    const struct wirdoku_state waited = slots_of(10, 0x01020304, 0x15161718), after = slots_of(11, 0x04030201, 0x05000700);
+    const struct wirdoku_state waited = slots_of(10, 0x01020304, 0x15161718), after = slots_of(11, 0x04070102, 0x05000700);
     check_state("every slot: initial", wirdoku_initial(t.at, t.length), WIRDOKU_ACCEPTED, 0, start);
     check_state("every slot: delay", wirdoku_step(t.at, t.length, before, 16), WIRDOKU_ACCEPTED, 0, waited);
     check_state("every slot: edge", wirdoku_step(t.at, t.length, before, 32), WIRDOKU_ACCEPTED, 0, after);
     check_state("every slot: refused", wirdoku_step(t.at, t.length, after, 32), WIRDOKU_STEP_NOT_ALLOWED, 0, after);
+}
+
+/* The edge from the counters' values before to those after. */
+static void set_to(const char *set, uint32_t before, uint32_t after) {
+    struct text t = two_counters(set);
+    check_state(set, wirdoku_step(t.at, t.length, slots_of(0, before, 0), 2), WIRDOKU_ACCEPTED, 0, slots_of(1, after, 0));
+}
+
+/* Updates happen in their written order. */
+static void listed_updates(void) {
+    set_to("set=v0:=v0+1,v1:=v0+0", 0x00000000, 0x01010000);
+    set_to("set=v1:=v0+0,v0:=v0+1", 0x00000000, 0x01000000);
+    set_to("set=v0:=v1+0,v1:=v0+0", 0x00010000, 0x01010000);
+    set_to("set=v1:=v0+0,v0:=v1+0", 0x00010000, 0x00000000);
+    struct text t = two_counters("set=v0:=v0+1,v1:=v0+0");
+    const struct wirdoku_state raised = slots_of(0, 0x01000000, 0);
+    check_state("v0 is at its greatest value", wirdoku_step(t.at, t.length, raised, 2), WIRDOKU_STEP_NOT_ALLOWED, 0, raised);
+    const uint8_t run[1] = {2}, expected[15] = {1, 0, 1, 0, 1, 0, 0, 0, 1, 0, 1, 0, 1, 0, 1};
+    uint8_t *assignment = lent_bytes(16);
+    check_answer("the raised counter copied", wirdoku_run_to_assignment(t.at, t.length, run, 1, assignment, 16), WIRDOKU_ACCEPTED, 0);
+    check("the raised counter copied: its assignment", memcmp(assignment, expected, 15) == 0 && bytes_kept(assignment, 15, 16));
 }
 
 static struct wirdoku_answer walked(struct text t, size_t length, uint8_t b0, uint8_t b1, uint8_t b2) {
@@ -142,6 +163,7 @@ void run_tests(void) {
     struct text a = file_text("models/a.txt"), b = file_text("models/logger_b.txt");
     steps(b);
     all_slots();
+    listed_updates();
     walks(a, b);
     assignments(a);
     encoded(a);

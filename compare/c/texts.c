@@ -26,17 +26,20 @@ static const struct {
     {3, "target=2", WIRDOKU_NOT_DECLARED},
     {15, "reset=x2", WIRDOKU_NOT_DECLARED},
     {14, "set=v0:=v999+0", WIRDOKU_NOT_DECLARED},
-    {14, "set=v1:=0,v0:=0", WIRDOKU_NOT_RISING},
-    {15, "reset=x0,x0", WIRDOKU_NOT_RISING},
+    {14, "set=v1:=1,v0:=1,v1:=0", WIRDOKU_SET_TWICE_OR_NOT_RISING},
+    {15, "reset=x1,x0", WIRDOKU_SET_TWICE_OR_NOT_RISING},
+    {15, "reset=x0,x0", WIRDOKU_SET_TWICE_OR_NOT_RISING},
     {13, "when=v0>0,v0>0,v0>0,v0>0,v0>0", WIRDOKU_TOO_MANY_ATOMS},
     {8, "inv=x0<31,v9=1", WIRDOKU_NOT_OF_FORM},
     {8, "inv=x7<31,x0<1,x0<1,x0<1,x0<1", WIRDOKU_TOO_MANY_ATOMS},
     {8, "inv=x7<31", WIRDOKU_OUT_OF_RANGE},
     {13, "when=v9<40", WIRDOKU_OUT_OF_RANGE},
     {13, "when=v9<31,x0<31", WIRDOKU_OUT_OF_RANGE},
-    {14, "set=v1:=1,v0:=v9+32", WIRDOKU_OUT_OF_RANGE},
-    {14, "set=v1:=1,v0:=v9+0", WIRDOKU_NOT_DECLARED},
-    {14, "set=v0:=1,v1:=1,v0:=1,v1:=1,v0:=1", WIRDOKU_NOT_RISING},
+    {14, "set=v1:=1,v1:=1,x", WIRDOKU_NOT_OF_FORM},
+    {14, "set=v0:=1,v1:=1,v0:=1,v1:=1,v0:=32", WIRDOKU_OUT_OF_RANGE},
+    {14, "set=v1:=1,v1:=v9+32", WIRDOKU_OUT_OF_RANGE},
+    {14, "set=v1:=1,v1:=v9+0", WIRDOKU_NOT_DECLARED},
+    {14, "set=v0:=1,v1:=1,v0:=1,v1:=1,v0:=1", WIRDOKU_SET_TWICE_OR_NOT_RISING},
     {15, "reset=x0,x0,x9", WIRDOKU_NOT_DECLARED},
     {15, "reset=x0,x0,x9,", WIRDOKU_NOT_OF_FORM},
 };
@@ -68,6 +71,8 @@ static void refusals(void) {
     struct text a = file_text("models/a.txt"), base = text_of(BASE);
     char name[128];
     check_answer("the accepted text of the rows", wirdoku_read(base.at, base.length), WIRDOKU_ACCEPTED, 0);
+    struct text falling = with_line(base, 14, "set=v1:=1,v0:=1");
+    check_answer("counters set in falling order", wirdoku_read(falling.at, falling.length), WIRDOKU_ACCEPTED, 0);
     for (size_t i = 0; i < sizeof ROWS / sizeof *ROWS; i++) {
         snprintf(name, sizeof name, "line %zu: %s", ROWS[i].line, ROWS[i].changed);
         refused(name, with_line(base, ROWS[i].line, ROWS[i].changed), ROWS[i].number, ROWS[i].line);

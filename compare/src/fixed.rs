@@ -2,7 +2,7 @@
 
 use reference::gen::models::{model_a, model_b};
 use reference::model::{Atom, Model, Relation};
-use wirdoku::library::{self, Answer, FileAnswer, Sizes};
+use wirdoku::library::{self, Answer, FileAnswer, Sizes, State};
 
 use crate::expected::List;
 use crate::lent::Lent;
@@ -21,6 +21,8 @@ pub fn fixed(tally: &mut Tally, _: Seeds) {
     runs_of_a_at_2(tally);
     runs_of_b(tally);
     initial_invariant(tally);
+    listed_updates(tally);
+    sets(tally);
     greatest_bound(tally);
     limits_of_the_text(tally);
     nulls::nulls(tally);
@@ -178,6 +180,65 @@ fn initial_invariant(tally: &mut Tally) {
     calls::encode(tally, 5, &text, &[], 5);
     calls::reading(tally, 5, &text);
     tally.case(|| "P10".to_string());
+}
+
+/// Model A with two counters of greatest value 1 and a list of updates, which stands in line 14.
+fn setting(set: &str) -> Vec<u8> {
+    let a = String::from_utf8(written(&model_a())).unwrap_or_default();
+    a.replace("vars=0", "vars=2\nvar=1,0\nvar=1,0").replace("\nset=-", &format!("\nset={set}")).into_bytes()
+}
+
+fn counters(location: u8, v0: u8, v1: u8) -> State {
+    State { location, counters: [v0, v1, 0, 0], clocks: [0; 4] }
+}
+
+/// Updates in their written order: a raised counter and its copy in both orders, of which the lists differ in two
+/// clauses and the runs in their end; and two copies.
+fn listed_updates(tally: &mut Tally) {
+    let (after, before) = ("v0:=v0+1,v1:=v0+0", "v1:=v0+0,v0:=v0+1");
+    for (set, copied, clauses) in [(after, 1, [[-9, -12, 14], [-9, -13, 15]]), (before, 0, [[-9, -3, 14], [-9, -4, 15]])] {
+        let text = setting(set);
+        list(tally, &text, 1, sizes(0, 15, 38, 126));
+        let mut words = [0; 126];
+        library::emit(&text, 1, &mut words);
+        let found = words.split(|word| *word == 0).skip(29).take(2);
+        tally.same("clauses 30 and 31", clauses.map(|clause| clause.to_vec()).to_vec(), found.map(<[i32]>::to_vec).collect());
+        let stepped = library::step(&text, counters(0, 0, 0), 2);
+        tally.same("the edge", (0, counters(1, 1, copied)), (stepped.number, stepped.state));
+        let again = library::step(&text, counters(0, 1, 0), 2);
+        tally.same("the edge from v0=1", (28, counters(0, 1, 0)), (again.number, again.state));
+        let mut assignment = [9; 15];
+        let answer = library::run_to_assignment(&text, &[2], &mut assignment);
+        let expected = [1, 0, 1, 0, 1, 0, 0, 0, 1, 0, 1, 0, 1, 1 - copied, copied];
+        tally.same("the run 2", (ACCEPTED, expected), (answer, assignment));
+        calls::decode(tally, 5, &text, (1, &expected), 1);
+        tally.case(|| format!("set={set}"));
+    }
+    let copies = setting("v0:=v1+0,v1:=v0+0");
+    let stepped = library::step(&copies, counters(0, 0, 1), 2);
+    tally.same("two copies", (0, counters(1, 1, 1)), (stepped.number, stepped.state));
+    calls::step(tally, &copies, counters(0, 0, 1), 2);
+    tally.case(|| "set=v0:=v1+0,v1:=v0+0".to_string());
+}
+
+/// Lists of updates: any order is taken, a counter that is set twice is not; 3, 4 and 5 come before 6.
+fn sets(tally: &mut Tally) {
+    let cases = [
+        ("v1:=1,v0:=1", 0),
+        ("v1:=v1+0,v0:=v1+0", 0),
+        ("v1:=1,v0:=1,v1:=0", 6),
+        ("v0:=1,v0:=1", 6),
+        ("v1:=1,v1:=v9+0", 5),
+        ("v0:=1,v1:=1,v0:=1,v1:=1,v0:=32", 4),
+        ("v0:=1,v1:=1,v0:=1,v1:=1,v0:=31", 6),
+        ("v1:=1,v0:=1,x", 3),
+    ];
+    for (set, number) in cases {
+        let text = setting(set);
+        tally.answer("read", told(number, if number == 0 { 0 } else { 14 }), library::read(&text));
+        calls::reading(tally, 5, &text);
+        tally.case(|| format!("set={set}"));
+    }
 }
 
 /// 64 is taken and 65 gives 21, in every call with a bound or a run.

@@ -1,6 +1,7 @@
 //! Texts with other values: lines that keep their key and get a value of the key's form, with numbers
-//! at and beyond the limits, too many items, items that do not rise, and signs that are wrong. Several
-//! faults can stand in one line, so that the order in which a line is tried is seen.
+//! at and beyond the limits, too many items, counters set in any order and twice, resets that do not rise,
+//! and signs that are wrong. Several faults can stand in one line, so that the order in which a line is
+//! tried is seen.
 
 use reference::gen::models::any_model;
 use reference::gen::rng::Rng;

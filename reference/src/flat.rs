@@ -3,11 +3,11 @@
 //!
 //! In order: locations, init, target, clocks, counters; four times greatest,
 //! initial; sixteen times four atoms; edges; 32 times source, target, four
-//! atoms, four updates, four resets. An atom is four bytes: sort (0 blank,
-//! 1 clock, 2 counter), index, relation (0 to 5 for < <= = >= > !=), constant.
-//! An update is three bytes: sort (0 keep, 1 constant, 2 sum), constant or
-//! source, offset as a byte (two's complement). A reset is one byte, 0 or 1.
-//! Parts that a sort does not use are 0.
+//! atoms, four updates, the order's four slots, four resets. An atom is four
+//! bytes: sort (0 blank, 1 clock, 2 counter), index, relation (0 to 5 for
+//! < <= = >= > !=), constant. An update is three bytes: sort (0 keep, 1 constant,
+//! 2 sum), constant or source, offset as a byte (two's complement). A reset is
+//! one byte, 0 or 1. Parts that a sort does not use are 0.
 
 use crate::model::{Atom, Atoms, Comparison, Edge, Model, Relation, Update};
 
@@ -37,6 +37,7 @@ fn edge_bytes(edge: &Edge) -> Vec<u8> {
             Update::Sum { source, offset } => [2, source, offset as u8],
         });
     }
+    bytes.extend(edge.order);
     bytes.extend(edge.resets.map(u8::from));
     bytes
 }
@@ -100,6 +101,9 @@ impl Source<'_> {
         self.atoms(&mut edge.guard)?;
         for update in &mut edge.updates {
             *update = self.update()?;
+        }
+        for slot in &mut edge.order {
+            *slot = self.byte()?;
         }
         for reset in &mut edge.resets {
             *reset = self.reset()?;

@@ -235,7 +235,7 @@ impl Lister<'_> {
             self.failing_values(t - 1, choice, atom)?;
         }
         for index in 0..usize::from(self.model.counters) {
-            self.update(t, choice, index, edge.updates[index])?;
+            self.update(t, choice, index, edge)?;
         }
         for index in 0..usize::from(self.model.clocks) {
             self.edge_clock(t, choice, index, edge.resets[index])?;
@@ -243,16 +243,19 @@ impl Lister<'_> {
         Flow::Continue(())
     }
 
-    fn update(&mut self, t: u32, choice: i32, index: usize, update: Update) -> Flow {
+    /// One counter of an edge. A source that is read after its update has its
+    /// literals of state t, any other those of state t-1.
+    fn update(&mut self, t: u32, choice: i32, index: usize, edge: &Edge) -> Flow {
         let after = self.numbering.counter(t, index);
-        match update {
+        match edge.updates[index] {
             Update::Keep => self.kept(choice, self.numbering.counter(t - 1, index), after),
             Update::Constant(constant) => self.with_result(&[-choice], after, i64::from(constant)),
             Update::Sum { source, offset } => {
-                let before = self.numbering.counter(t - 1, usize::from(source));
-                for value in before.values() {
+                let read_in = if edge.reads_after(index as u8, source) { t } else { t - 1 };
+                let read = self.numbering.counter(read_in, usize::from(source));
+                for value in read.values() {
                     let result = i64::from(value) + i64::from(offset);
-                    self.with_result(&[-choice, -before.member(value)], after, result)?;
+                    self.with_result(&[-choice, -read.member(value)], after, result)?;
                 }
                 Flow::Continue(())
             }

@@ -99,8 +99,7 @@ pub type Atoms = [Atom; MAX_ATOMS];
 /// No atom at all.
 pub const NO_ATOMS: Atoms = [Atom::Blank; MAX_ATOMS];
 
-/// What an edge does to one counter. All updates read the values from before
-/// the edge.
+/// What an edge does to one counter.
 #[derive(Clone, Copy, PartialEq, Eq, Hash, Debug)]
 pub enum Update {
     Keep,
@@ -118,13 +117,60 @@ pub struct Edge {
     pub target: u8,
     pub guard: Atoms,
     pub updates: [Update; MAX_COUNTERS],
+    /// The counters that are not kept, in the order in which their updates
+    /// happen; the slots after them are blank (0).
+    pub order: Order,
     pub resets: [bool; MAX_CLOCKS],
 }
 
+/// Slots of counters, the first ones used.
+pub type Order = [u8; MAX_COUNTERS];
+
 impl Edge {
     /// The content of an unused edge slot.
-    pub const BLANK: Edge =
-        Edge { source: 0, target: 0, guard: NO_ATOMS, updates: [Update::Keep; MAX_COUNTERS], resets: [false; MAX_CLOCKS] };
+    pub const BLANK: Edge = Edge {
+        source: 0,
+        target: 0,
+        guard: NO_ATOMS,
+        updates: [Update::Keep; MAX_COUNTERS],
+        order: [0; MAX_COUNTERS],
+        resets: [false; MAX_CLOCKS],
+    };
+
+    /// The used slots of the order, as many as there are counters not kept.
+    pub fn listed(&self) -> &[u8] {
+        &self.order[..set_counters(&self.updates).count()]
+    }
+
+    /// "A source counter set earlier in the list is read after its update": by
+    /// the update of `counter`. Any other source, the counter itself among them,
+    /// is read before the edge.
+    pub fn reads_after(&self, counter: u8, source: u8) -> bool {
+        let mut earlier = self.listed().iter().take_while(|listed| **listed != counter);
+        earlier.any(|listed| *listed == source)
+    }
+
+    /// The counters of a well-formed edge whose update reads a counter set earlier.
+    pub fn later_readers(&self) -> impl Iterator<Item = u8> + '_ {
+        self.listed().iter().copied().filter(move |counter| match self.updates[usize::from(*counter)] {
+            Update::Sum { source, .. } => self.reads_after(*counter, source),
+            Update::Keep | Update::Constant(_) => false,
+        })
+    }
+}
+
+/// The counters that are not kept, rising.
+fn set_counters(updates: &[Update]) -> impl Iterator<Item = u8> + '_ {
+    (0..).zip(updates).filter(|(_, update)| **update != Update::Keep).map(|(counter, _)| counter)
+}
+
+/// The order that lists the counters that are not kept as they rise.
+pub fn rising_order(updates: &[Update]) -> Order {
+    let mut order = Edge::BLANK.order;
+    for (slot, counter) in order.iter_mut().zip(set_counters(updates)) {
+        *slot = counter;
+    }
+    order
 }
 
 /// A counter's range and initial value; the least value is 0.
@@ -190,7 +236,8 @@ fn unused<T>(slots: &[T], count: u8) -> &[T] {
 
 /// "A model record is well formed if it meets all limits above, names only what
 /// is declared, fills atom slots from the first, and its unused slots are blank
-/// (number 0, no atom, keep, no reset)."
+/// (number 0, no atom, keep, no reset)." 20 also "unless the order names each
+/// counter not kept exactly once and is blank beyond".
 pub fn well_formed(model: &Model) -> bool {
     numbers_well_formed(model) && counters_well_formed(model) && invariants_well_formed(model) && edges_well_formed(model)
 }
@@ -229,7 +276,17 @@ fn edge_well_formed(model: &Model, edge: &Edge) -> bool {
         && edge.guard.iter().all(|a| guard_atom_well_formed(model, *a))
         && used(&edge.updates, model.counters).iter().all(|u| update_well_formed(model, *u))
         && unused(&edge.updates, model.counters).iter().all(|u| *u == Update::Keep)
+        && order_well_formed(edge)
         && unused(&edge.resets, model.clocks).iter().all(|reset| !reset)
+}
+
+/// The used slots are the counters not kept, in some order; the others are 0.
+fn order_well_formed(edge: &Edge) -> bool {
+    let listed = edge.listed();
+    let beyond = &edge.order[listed.len()..];
+    let mut sorted = listed.to_vec();
+    sorted.sort_unstable();
+    set_counters(&edge.updates).eq(sorted) && beyond.iter().all(|slot| *slot == 0)
 }
 
 /// No atom stands after a blank slot.

@@ -10,8 +10,8 @@ pub const WRONG_FORM: u32 = 3;
 pub const OUT_OF_RANGE: u32 = 4;
 /// Location, clock or counter not declared.
 pub const NOT_DECLARED: u32 = 5;
-/// `set` or `reset` not strictly rising.
-pub const NOT_RISING: u32 = 6;
+/// A counter is set twice in one edge, or `reset` is not strictly rising.
+pub const SET_TWICE_OR_NOT_RISING: u32 = 6;
 /// More than four items in `inv` or `when`.
 pub const TOO_MANY_ITEMS: u32 = 7;
 /// Bytes left after the last line.

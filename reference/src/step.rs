@@ -37,16 +37,17 @@ pub fn delay(model: &Model, state: State, ticks: u32) -> Option<State> {
 
 /// "Edge e: the state stands in its source, the guard holds before, every new
 /// counter value lies in its range (else the edge can't be taken), and the
-/// target's invariant holds afterwards."
+/// target's invariant holds afterwards." Updates happen in their listed order.
 pub fn edge(model: &Model, state: State, edge: &Edge) -> Option<State> {
     if state.location != edge.source || !state.meets(&edge.guard) {
         return None;
     }
     let mut after = state;
     after.location = edge.target;
-    for (index, counter) in model.used_counters().iter().enumerate() {
-        let value = updated(&state, index, edge.updates[index]);
-        if value < 0 || value > i32::from(counter.greatest) {
+    for counter in edge.listed() {
+        let index = usize::from(*counter);
+        let value = updated(&after, index, edge.updates[index]);
+        if value < 0 || value > i32::from(model.counter[index].greatest) {
             return None;
         }
         after.counters[index] = value as u8;
@@ -59,7 +60,8 @@ pub fn edge(model: &Model, state: State, edge: &Edge) -> Option<State> {
     after.meets_invariant(model).then_some(after)
 }
 
-/// A counter's value after an update, in range or not, from the values before.
+/// A counter's value after its update, in range or not, from the values before
+/// that update.
 fn updated(before: &State, index: usize, update: Update) -> i32 {
     match update {
         Update::Keep => i32::from(before.counters[index]),

@@ -8,12 +8,12 @@
 use std::ops::RangeInclusive;
 
 use crate::model::{
-    test_record, Atom, Atoms, Counter, Edge, Model, Relation, Update, MAX_ATOMS, MAX_CLOCKS, MAX_CLOCK_CONSTANT, MAX_COUNTERS,
-    MAX_COUNTER_VALUE, MAX_EDGES, MAX_LOCATIONS, MAX_OFFSET, NO_ATOMS,
+    test_record, Atom, Atoms, Counter, Edge, Model, Order, Relation, Update, MAX_ATOMS, MAX_CLOCKS, MAX_CLOCK_CONSTANT,
+    MAX_COUNTERS, MAX_COUNTER_VALUE, MAX_EDGES, MAX_LOCATIONS, MAX_OFFSET, NO_ATOMS,
 };
 use crate::refusal::{
-    Refusal, BYTES_LEFT, NOT_DECLARED, NOT_RISING, OUT_OF_RANGE, TEXT_TOO_LONG, TOO_MANY_ITEMS, WRONG_BOUND_LINE, WRONG_FORM,
-    WRONG_LINE,
+    Refusal, BYTES_LEFT, NOT_DECLARED, OUT_OF_RANGE, SET_TWICE_OR_NOT_RISING, TEXT_TOO_LONG, TOO_MANY_ITEMS, WRONG_BOUND_LINE,
+    WRONG_FORM, WRONG_LINE,
 };
 
 /// Most bytes of a model text.
@@ -90,13 +90,12 @@ impl<'a> Reader<'a> {
     }
 
     fn edge_lines(&mut self, model: &Model) -> Result<Edge, Refusal> {
-        Ok(Edge {
-            source: self.location_line("from", model)?,
-            target: self.location_line("to", model)?,
-            guard: self.atoms_line("when", model)?,
-            updates: self.set_line(model)?,
-            resets: self.reset_line(model)?,
-        })
+        let source = self.location_line("from", model)?;
+        let target = self.location_line("to", model)?;
+        let guard = self.atoms_line("when", model)?;
+        let (updates, order) = self.set_line(model)?;
+        let resets = self.reset_line(model)?;
+        Ok(Edge { source, target, guard, updates, order, resets })
     }
 
     /// The value of the due line, or 2: no LF, or not the due key and `=`.
@@ -161,18 +160,20 @@ impl<'a> Reader<'a> {
         Ok(atoms)
     }
 
-    /// An edge's updates: 2, 3, 4, 5, 6.
-    fn set_line(&mut self, model: &Model) -> Result<[Update; MAX_COUNTERS], Refusal> {
+    /// An edge's updates and the order in which they are written: 2, 3, 4, 5, 6.
+    fn set_line(&mut self, model: &Model) -> Result<([Update; MAX_COUNTERS], Order), Refusal> {
         let value = self.due_line("set")?;
         let found = self.need(items(value, set_form), WRONG_FORM)?;
         self.test(found.iter().all(SetItem::in_range), OUT_OF_RANGE)?;
         self.test(found.iter().all(|item| item.declared(model)), NOT_DECLARED)?;
-        self.test(found.windows(2).all(|pair| pair[0].counter < pair[1].counter), NOT_RISING)?;
-        let mut updates = [Update::Keep; MAX_COUNTERS];
-        for item in &found {
+        let set_before = |place: usize| found[..place].iter().any(|item| item.counter == found[place].counter);
+        self.test(!(0..found.len()).any(set_before), SET_TWICE_OR_NOT_RISING)?;
+        let (mut updates, mut order) = (Edge::BLANK.updates, Edge::BLANK.order);
+        for (slot, item) in order.iter_mut().zip(&found) {
+            *slot = item.counter as u8;
             updates[item.counter as usize] = item.update();
         }
-        Ok(updates)
+        Ok((updates, order))
     }
 
     /// An edge's resets: 2, 3, 5, 6.
@@ -180,7 +181,7 @@ impl<'a> Reader<'a> {
         let value = self.due_line("reset")?;
         let found = self.need(items(value, reset_form), WRONG_FORM)?;
         self.test(found.iter().all(|clock| *clock < u32::from(model.clocks)), NOT_DECLARED)?;
-        self.test(found.windows(2).all(|pair| pair[0] < pair[1]), NOT_RISING)?;
+        self.test(found.windows(2).all(|pair| pair[0] < pair[1]), SET_TWICE_OR_NOT_RISING)?;
         let mut resets = [false; MAX_CLOCKS];
         for clock in &found {
             resets[*clock as usize] = true;
@@ -389,7 +390,7 @@ pub fn write(model: &Model) -> Result<String, Refusal> {
         lines.push(format!("from={}", edge.source));
         lines.push(format!("to={}", edge.target));
         lines.push(format!("when={}", written_atoms(&edge.guard)));
-        lines.push(format!("set={}", written_updates(&edge.updates)));
+        lines.push(format!("set={}", written_updates(edge)));
         lines.push(format!("reset={}", written_resets(&edge.resets)));
     }
     Ok(lines.join("\n") + "\n")
@@ -403,11 +404,12 @@ fn written_atoms(atoms: &Atoms) -> String {
     }))
 }
 
-fn written_updates(updates: &[Update]) -> String {
-    written_items(updates.iter().enumerate().filter_map(|(index, update)| match update {
+/// The updates in their listed order.
+fn written_updates(edge: &Edge) -> String {
+    written_items(edge.listed().iter().filter_map(|counter| match edge.updates[usize::from(*counter)] {
         Update::Keep => None,
-        Update::Constant(constant) => Some(format!("v{index}:={constant}")),
-        Update::Sum { source, offset } => Some(format!("v{index}:=v{source}{offset:+}")),
+        Update::Constant(constant) => Some(format!("v{counter}:={constant}")),
+        Update::Sum { source, offset } => Some(format!("v{counter}:=v{source}{offset:+}")),
     }))
 }
 

@@ -3,7 +3,7 @@
 
 mod common;
 
-use common::{model, with_line, MODEL_A, MODEL_B, PAIR};
+use common::{model, with_line, MODEL_A, MODEL_B};
 use reference::assign::{assignment_of, decode, encode, run_of};
 use reference::list::{emit, totals, words, Totals};
 use reference::model::Model;
@@ -80,14 +80,6 @@ fn edges_block_out_of_range_counters_and_failing_guards() {
     assert_eq!(step_call(&down, state(1, 1, 2), 6), (0, state(2, 0, 2)));
     let constant = model(&with_line(MODEL_B, 20, "set=v0:=31"));
     assert_eq!(step_call(&constant, state(1, 1, 2), 6).0, 28);
-}
-
-#[test]
-fn updates_read_the_values_from_before() {
-    let swap = model(&with_line(PAIR, 14, "set=v0:=v1+0,v1:=v0+0"));
-    let before = State { location: 0, counters: [1, 3, 0, 0], clocks: [1, 1, 0, 0] };
-    let after = State { location: 1, counters: [3, 1, 0, 0], clocks: [1, 1, 0, 0] };
-    assert_eq!(step_call(&swap, before, 2), (0, after));
 }
 
 #[test]

@@ -64,7 +64,7 @@ fn assignments_go_on_with_no_value_changed() {
 #[test]
 fn cut_assignments_satisfy_exactly_in_the_target() {
     let (mut inside, mut outside) = (0, 0);
-    for seed in 0..300 {
+    for seed in 0..400 {
         let (model, run) = model_and_walk(&mut Rng::new(seed), 24);
         let assignment = match assignment_of(&model, &run) {
             Ok(assignment) => assignment,

@@ -7,7 +7,7 @@ use common::{model, MODEL_A, PAIR};
 use reference::assign::{decode, encode};
 use reference::gen::models::{largest, model_b};
 use reference::list::{clauses, emit, totals, visit_clauses, words, Flow};
-use reference::model::{well_formed, Atom, Counter, Edge, Model, Relation, Update, NO_ATOMS};
+use reference::model::{rising_order, well_formed, Atom, Counter, Edge, Model, Relation, Update, NO_ATOMS};
 use reference::refusal::Refusal;
 use reference::search::{all_runs, count_runs, shortest};
 use reference::state::State;
@@ -19,6 +19,13 @@ fn after(change: impl FnOnce(&mut Model)) -> bool {
     let mut record = model(PAIR);
     change(&mut record);
     well_formed(&record)
+}
+
+/// Gives an edge one update more, and the order that lists its updates.
+fn set(model: &mut Model, edge: usize, counter: usize, update: Update) {
+    let edge = &mut model.edge[edge];
+    edge.updates[counter] = update;
+    edge.order = rising_order(&edge.updates);
 }
 
 #[test]
@@ -63,13 +70,73 @@ fn edges_at_every_byte() {
         assert_eq!(after(|m| m.edge[0].target = byte), byte < 2);
         assert_eq!(after(|m| m.edge[1].source = byte), byte == 0);
         assert_eq!(after(|m| m.edge[31].target = byte), byte == 0);
-        assert_eq!(after(|m| m.edge[0].updates[1] = Update::Constant(byte)), byte <= 31);
+        assert_eq!(after(|m| set(m, 0, 1, Update::Constant(byte))), byte <= 31);
         let sum = |source| Update::Sum { source, offset: 0 };
-        assert_eq!(after(|m| m.edge[0].updates[1] = sum(byte)), byte < 2);
+        assert_eq!(after(|m| set(m, 0, 1, sum(byte))), byte < 2);
     }
     for offset in -128..=127 {
         let sum = Update::Sum { source: 0, offset };
-        assert_eq!(after(|m| m.edge[0].updates[0] = sum), (-31..=31).contains(&offset));
+        assert_eq!(after(|m| set(m, 0, 0, sum)), (-31..=31).contains(&offset));
+    }
+}
+
+/// Whether the pair model is well formed if its edge sets these counters to 1 and has
+/// this order.
+fn ordered(counters: &[usize], order: [u8; 4]) -> bool {
+    after(|m| {
+        for counter in counters {
+            m.edge[0].updates[*counter] = Update::Constant(1);
+        }
+        m.edge[0].order = order;
+    })
+}
+
+#[test]
+fn the_order_names_each_counter_that_is_set_once() {
+    for order in [[0, 1, 0, 0], [1, 0, 0, 0]] {
+        assert!(ordered(&[0, 1], order), "{order:?}");
+    }
+    for order in [[0, 0, 0, 0], [0, 1, 1, 0], [0, 1, 0, 1], [1, 1, 0, 0], [0, 2, 0, 0], [2, 1, 0, 0], [0, 1, 2, 3]] {
+        assert!(!ordered(&[0, 1], order), "{order:?}");
+    }
+    assert!(ordered(&[1], [1, 0, 0, 0]));
+    for order in [[0, 0, 0, 0], [0, 1, 0, 0], [1, 1, 0, 0]] {
+        assert!(!ordered(&[1], order), "{order:?}");
+    }
+    // A blank slot is 0, which names v0 too.
+    assert!(ordered(&[0], [0, 0, 0, 0]));
+    assert!(ordered(&[], [0, 0, 0, 0]));
+    assert!(!ordered(&[], [1, 0, 0, 0]));
+    assert!(!ordered(&[], [0, 0, 0, 1]));
+}
+
+#[test]
+fn orders_at_every_byte() {
+    for byte in 0..=255 {
+        assert_eq!(ordered(&[0, 1], [byte, 1, 0, 0]), byte == 0);
+        assert_eq!(ordered(&[0, 1], [byte, 0, 0, 0]), byte == 1);
+        assert_eq!(ordered(&[0, 1], [1, byte, 0, 0]), byte == 0);
+        assert_eq!(ordered(&[0, 1], [0, 1, byte, 0]), byte == 0);
+        assert_eq!(ordered(&[0, 1], [0, 1, 0, byte]), byte == 0);
+        assert_eq!(ordered(&[0], [byte, 0, 0, 0]), byte == 0);
+    }
+}
+
+/// Of all orders of four slots, 24 list four counters.
+#[test]
+fn every_order_of_four_counters() {
+    let all = |m: &mut Model, order: [u8; 4]| {
+        m.counters = 4;
+        m.edge[0].updates = [Update::Constant(0); 4];
+        m.edge[0].order = order;
+    };
+    let slots = (0..625_u16).map(|n| [n / 125, n / 25 % 5, n / 5 % 5, n % 5].map(|slot| slot as u8));
+    let formed: Vec<[u8; 4]> = slots.filter(|order| after(|m| all(m, *order))).collect();
+    assert_eq!(formed.len(), 24);
+    for order in formed {
+        let mut sorted = order;
+        sorted.sort_unstable();
+        assert_eq!(sorted, [0, 1, 2, 3]);
     }
 }
 
@@ -116,13 +183,15 @@ fn unused_slots_are_blank() {
     assert!(!after(|m| m.invariant[15][0] = atom));
     assert!(!after(|m| m.edge[1].guard[0] = atom));
     assert!(!after(|m| m.edge[31].guard[0] = atom));
-    assert!(!after(|m| m.edge[1].updates[0] = Update::Constant(0)));
+    assert!(!after(|m| set(m, 1, 0, Update::Constant(0))));
+    assert!(!after(|m| m.edge[1].order[0] = 1));
+    assert!(!after(|m| m.edge[31].order[3] = 1));
     assert!(!after(|m| m.edge[1].resets[0] = true));
     assert!(after(|m| m.edge[0].resets = [true, true, false, false]));
     assert!(!after(|m| m.edge[0].resets[2] = true));
     assert!(!after(|m| m.edge[0].resets[3] = true));
-    assert!(!after(|m| m.edge[0].updates[2] = Update::Constant(0)));
-    assert!(!after(|m| m.edge[0].updates[3] = Update::Sum { source: 0, offset: 0 }));
+    assert!(!after(|m| set(m, 0, 2, Update::Constant(0))));
+    assert!(!after(|m| set(m, 0, 3, Update::Sum { source: 0, offset: 0 })));
     assert!(!after(|m| m.counter[2] = Counter { greatest: 1, initial: 0 }));
     assert!(after(|m| m.edge[1] = Edge::BLANK));
 }

@@ -294,9 +294,20 @@ fn refusal_5_declarations() {
 }
 
 #[test]
-fn refusal_6_rising_order() {
-    check(PAIR, 14, &[("set=v0:=1,v1:=1", 0), ("set=v1:=1,v0:=1", 6), ("set=v0:=1,v0:=1", 6), ("set=v0:=1,v1:=1,v0:=1", 6)]);
-    check(PAIR, 15, &[("reset=x1,x0", 6), ("reset=x0,x0", 6), ("reset=x0,x1,x1", 6)]);
+fn refusal_6_set_twice_or_reset_not_rising() {
+    check(
+        PAIR,
+        14,
+        &[
+            ("set=v0:=1,v1:=1", 0),
+            ("set=v1:=1,v0:=1", 0),
+            ("set=v0:=1,v0:=1", 6),
+            ("set=v0:=1,v0:=v1+0", 6),
+            ("set=v0:=1,v1:=1,v0:=1", 6),
+            ("set=v1:=1,v0:=1,v1:=0", 6),
+        ],
+    );
+    check(PAIR, 15, &[("reset=x0,x1", 0), ("reset=x1,x0", 6), ("reset=x0,x0", 6), ("reset=x0,x1,x1", 6)]);
 }
 
 #[test]
@@ -336,6 +347,12 @@ fn each_number_is_tried_over_the_whole_line() {
     );
     check(PAIR, 13, &[("when=v9<40", 4), ("when=v9<1,x0<31", 4), ("when=v9<1", 5)]);
     check(PAIR, 14, &[("set=v1:=1,v0:=v9+0", 5), ("set=v1:=1,v0:=v0+32", 4), ("set=v9:=1,v0:=32", 4), ("set=v9:=32,v0:=1,x", 3)]);
+    // 3, 4 and 5 before 6.
+    check(
+        PAIR,
+        14,
+        &[("set=v1:=1,v1:=v9+0", 5), ("set=v0:=1,v1:=1,v0:=1,v1:=1,v0:=32", 4), ("set=v1:=1,v0:=1,x", 3), ("set=v9:=1,v9:=1", 5)],
+    );
     check(PAIR, 15, &[("reset=x1,x0,x2", 5), ("reset=x1,x0,y", 3)]);
 }
 
@@ -343,7 +360,7 @@ fn each_number_is_tried_over_the_whole_line() {
 fn the_first_bad_line_is_the_one_named() {
     let text = with_line(&with_line(PAIR, 8, "inv=x9<1"), 7, "var=3,4");
     assert_eq!(refusal(text.as_bytes()), (4, 7));
-    let text = with_line(&with_line(PAIR, 14, "set=v1:=1,v0:=1"), 15, "reset=");
+    let text = with_line(&with_line(PAIR, 14, "set=v1:=1,v1:=1"), 15, "reset=");
     assert_eq!(refusal(text.as_bytes()), (6, 14));
 }
 
@@ -363,6 +380,7 @@ fn items_fill_the_record() {
         target: 1,
         guard: [Atom::counter(1, Relation::NotEqual, 2), Atom::clock(1, Relation::GreaterEqual, 4), Atom::Blank, Atom::Blank],
         updates: [Update::Sum { source: 1, offset: -3 }, Update::Constant(9), Update::Keep, Update::Keep],
+        order: [0, 1, 0, 0],
         resets: [false, true, false, false],
     };
     assert_eq!(found.edge[0], expected);
@@ -373,4 +391,6 @@ fn plus_zero_is_an_update_and_not_keep() {
     let found = model(&with_line(PAIR, 14, "set=v0:=v0+0"));
     assert_eq!(found.edge[0].updates[0], Update::Sum { source: 0, offset: 0 });
     assert_eq!(found.edge[0].updates[1], Update::Keep);
+    let listed = model(&with_line(PAIR, 14, "set=v1:=v1+0,v0:=v0+0"));
+    assert_eq!((listed.edge[0].order, listed.edge[0].listed()), ([1, 0, 0, 0], &[1, 0][..]));
 }

@@ -14,7 +14,7 @@ use crate::list::{emitted, fixing, List};
 use crate::pairs::Pair;
 use crate::tally::Tally;
 
-const PAIRS: usize = 60;
+const PAIRS: usize = 100;
 
 /// The satisfiable pairs, every second one, up to a number.
 pub fn test(desk: &mut Desk, tally: &mut Tally, pairs: &[Pair]) {

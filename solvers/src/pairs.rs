@@ -120,7 +120,7 @@ fn shares(tally: &mut Tally, pairs: &[Pair], by_all: usize) {
 type ModelShare = (&'static str, usize, fn(&Model) -> bool);
 
 /// What models must have, and how many at least.
-const MODEL_SHARES: [ModelShare; 8] = [
+const MODEL_SHARES: [ModelShare; 9] = [
     ("with clocks", 150, |m| m.clocks > 0),
     ("with counters", 150, |m| m.counters > 0),
     ("with an invariant", 100, |m| m.invariant.iter().any(|atoms| *atoms != NO_ATOMS)),
@@ -128,6 +128,9 @@ const MODEL_SHARES: [ModelShare; 8] = [
     ("with a guard on a counter", 100, |m| guarded(m, |atom| matches!(atom, Atom::Counter(_)))),
     ("with a constant update", 100, |m| updates(m, |update| matches!(update, Update::Constant(_)))),
     ("with a sum update", 100, |m| updates(m, |update| matches!(update, Update::Sum { .. }))),
+    ("with an update that reads a counter set earlier", 60, |m| {
+        m.used_edges().iter().any(|e| e.later_readers().next().is_some())
+    }),
     ("with a reset", 100, |m| m.used_edges().iter().any(|e| e.resets.contains(&true))),
 ];
 

@@ -18,7 +18,7 @@ pub fn sentence(number: u8) -> Option<&'static str> {
               counter values and offsets up to 31, an initial value up to its greatest value"
         }
         5 => "a location, clock or counter is not declared",
-        6 => "the counters of set, or the clocks of reset, do not rise from left to right",
+        6 => "a counter is set twice in one edge, or the clocks of reset do not rise from left to right",
         7 => "an invariant or a guard has more than four atoms",
         8 => "something follows the last line that is due",
         9 => "the first line of the size program's input is not `bound=` and a number",

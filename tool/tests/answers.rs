@@ -103,6 +103,33 @@ step bytes: 4 5 4 5 4 6
     }
 }
 
+/// The second counter gets the raised first one: updates happen in their written order.
+#[test]
+fn the_checkpoint_of_the_raised_counter() {
+    let path = model("boot_logger_checkpoint.txt");
+    let expected = "\
+this run of 7 steps reaches the target
+step  choice   location  v0  v1  v2  x0  elapsed
+   0  -               0   0   0   0   0        0
+   1  delay 1         0   0   0   0   1        1
+   2  edge 0          1   1   1   0   0        1
+   3  delay 3         1   1   1   0   3        4
+   4  edge 2          2   1   1   0   3        4
+   5  edge 3          3   1   1   1   3        4
+   6  edge 4          3   0   1   0   3        4
+   7  edge 5          4   0   1   0   3        4
+step bytes: 1 5 3 7 8 9 10
+";
+    let outcome = wirdoku(&["walk", &path, "1", "5", "3", "7", "8", "9", "10"]);
+    assert_eq!((outcome.status, outcome.out.as_str()), (10, expected), "{:?}", outcome);
+    for solver in SOLVERS {
+        for (bound, status) in [("6", 20), ("7", 10)] {
+            let outcome = wirdoku(&["check", &path, "--bound", bound, "--solver", solver, "--quiet"]);
+            assert_eq!(outcome.status, status, "{:?}", outcome);
+        }
+    }
+}
+
 #[test]
 fn a_run_of_no_steps() {
     let text = model_text("a.txt").replace("init=0", "init=1");

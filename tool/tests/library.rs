@@ -193,12 +193,33 @@ fn steps_from_states() {
 #[test]
 fn all_slots_of_a_state_arrive() {
     let text = b"locations=2\ninit=0\ntarget=1\nclocks=4\nvars=4\nvar=9,1\nvar=9,2\nvar=9,3\nvar=9,4\ninv=-\ninv=-\nedges=1\n\
-                 from=0\nto=1\nwhen=x0<=30\nset=v0:=v3+0,v1:=v2+0,v2:=v1+0,v3:=v0+0\nreset=x1,x3\n";
+                 from=0\nto=1\nwhen=x0<=30\nset=v0:=v3+0,v1:=v2+4,v2:=v1-6,v3:=v0-2\nreset=x1,x3\n";
     let start = State { location: 0, counters: [1, 2, 3, 4], clocks: [0; 4] };
     assert_eq!(library::initial(text), state_answer(0, 0, start));
     let before = State { clocks: [5, 6, 7, 8], ..start };
-    let after = State { location: 1, counters: [4, 3, 2, 1], clocks: [5, 0, 7, 0] };
+    let after = State { location: 1, counters: [4, 7, 1, 2], clocks: [5, 0, 7, 0] };
     assert_eq!(library::step(text, before, 32), state_answer(0, 0, after));
+}
+
+/// Model A with two counters, of which the edge raises the first and copies it, in two orders.
+#[test]
+fn updates_happen_in_their_written_order() {
+    let text = |set: &str| {
+        let counters = model_text("a.txt").replace("vars=0", "vars=2\nvar=1,0\nvar=1,0");
+        counters.replace("\nset=-", &format!("\nset={}", set)).into_bytes()
+    };
+    let state = |location, v0, v1| State { location, counters: [v0, v1, 0, 0], clocks: [0; 4] };
+    let cases =
+        [("v0:=v0+1,v1:=v0+0", 1, [-9, -12, 14, 0, -9, -13, 15, 0]), ("v1:=v0+0,v0:=v0+1", 0, [-9, -3, 14, 0, -9, -4, 15, 0])];
+    for (set, copied, clauses) in cases {
+        let text = text(set);
+        assert_eq!(library::step(&text, state(0, 0, 0), 2), state_answer(0, 0, state(1, 1, copied)), "{}", set);
+        assert_eq!(library::step(&text, state(0, 1, 0), 2), state_answer(28, 0, state(0, 1, 0)), "{}", set);
+        let mut out = [i32::MIN; 126];
+        assert_eq!(library::emit(&text, 1, &mut out), sizes(0, 0, 15, 38, 126), "{}", set);
+        assert!(out.windows(8).any(|words| words == clauses), "{}", set);
+    }
+    assert_eq!(library::read(&text("v1:=1,v0:=1,v1:=0")), answer(6, 14));
 }
 
 #[test]

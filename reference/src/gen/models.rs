@@ -2,7 +2,7 @@
 
 use super::rng::Rng;
 use crate::model::{
-    Atom, Atoms, Counter, Edge, Model, Relation, Update, MAX_ATOMS, MAX_CLOCKS, MAX_CLOCK_CONSTANT, MAX_COUNTERS,
+    Atom, Atoms, Counter, Edge, Model, Order, Relation, Update, MAX_ATOMS, MAX_CLOCKS, MAX_CLOCK_CONSTANT, MAX_COUNTERS,
     MAX_COUNTER_VALUE, MAX_EDGES, MAX_LOCATIONS, MAX_OFFSET, NO_ATOMS,
 };
 
@@ -134,10 +134,40 @@ fn edge(rng: &mut Rng, model: &Model, limits: &Limits) -> Edge {
     for index in 0..usize::from(model.counters) {
         edge.updates[index] = update(rng, model, limits);
     }
+    edge.order = order(rng, &edge.updates);
+    read_earlier(rng, &mut edge);
     for index in 0..usize::from(model.clocks) {
         edge.resets[index] = rng.one_in(3);
     }
     edge
+}
+
+/// The counters that are not kept, in any order; the slots after them are blank.
+pub fn order(rng: &mut Rng, updates: &[Update; MAX_COUNTERS]) -> Order {
+    let mut order = Edge::BLANK.order;
+    let mut listed = 0;
+    for (counter, update) in updates.iter().enumerate() {
+        if *update != Update::Keep {
+            let place = rng.below(listed + 1);
+            order[listed] = order[place];
+            order[place] = counter as u8;
+            listed += 1;
+        }
+    }
+    order
+}
+
+/// Lets half of the sums that stand after another update read a counter that is set
+/// earlier.
+fn read_earlier(rng: &mut Rng, edge: &mut Edge) {
+    for place in 1..edge.listed().len() {
+        let update = &mut edge.updates[usize::from(edge.order[place])];
+        if let Update::Sum { source, .. } = update {
+            if rng.one_in(2) {
+                *source = edge.order[rng.below(place)];
+            }
+        }
+    }
 }
 
 /// An update; some lead out of every range.
@@ -178,7 +208,8 @@ pub fn largest() -> Model {
 }
 
 /// A model at every limit that has runs: four atoms in every invariant and
-/// guard, every kind of update, all edges from the initial location to itself.
+/// guard, every kind of update, a source read before the edge and after its own
+/// update, all edges from the initial location to itself.
 pub fn full() -> Model {
     let mut model = largest();
     let at_most = |clock, constant| Atom::clock(clock, Relation::LessEqual, constant);
@@ -193,24 +224,27 @@ pub fn full() -> Model {
         ];
         edge.updates[0] = Update::Constant(number);
         edge.updates[1] = Update::Sum { source: 0, offset: number as i8 - 16 };
+        edge.order = if index % 2 == 0 { [1, 0, 0, 0] } else { [0, 1, 0, 0] };
         edge.resets[clock] = true;
     }
     model
 }
 
 /// The largest model with the last location throughout, and one atom, one update
-/// and one sort of reset.
+/// of all counters, the last counter first, and one sort of reset.
 pub fn at_the_last_location(atom: Atom, update: Update, reset: bool) -> Model {
     let mut model = largest();
     (model.init, model.target) = (15, 15);
     model.counter = [Counter { greatest: MAX_COUNTER_VALUE, initial: MAX_COUNTER_VALUE }; MAX_COUNTERS];
     model.invariant = [[atom; MAX_ATOMS]; MAX_LOCATIONS];
-    model.edge = [Edge { source: 15, target: 15, guard: [atom; MAX_ATOMS], updates: [update; 4], resets: [reset; 4] }; MAX_EDGES];
+    let (guard, updates, order, resets) = ([atom; MAX_ATOMS], [update; 4], [3, 0, 1, 2], [reset; 4]);
+    model.edge = [Edge { source: 15, target: 15, guard, updates, order, resets }; MAX_EDGES];
     model
 }
 
 /// The model with the longest DIMACS file: the greatest totals, and the last clock,
-/// counter and location named throughout, since their numbers have the most digits.
+/// counter and location named throughout, since their numbers have the most digits;
+/// the last counter is set first, so that the others read it in the later state.
 pub fn longest_file() -> Model {
     let sum = Update::Sum { source: 3, offset: 0 };
     let mut model = at_the_last_location(Atom::clock(3, Relation::Less, 0), sum, false);

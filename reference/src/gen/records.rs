@@ -1,8 +1,8 @@
 //! Damaged records and random states.
 
-use super::models::any_model;
+use super::models::{any_model, order};
 use super::rng::Rng;
-use crate::model::{ceiling, Atom, Atoms, Edge, Model, Relation, Update, MAX_CLOCKS, MAX_COUNTERS};
+use crate::model::{ceiling, Atom, Atoms, Edge, Model, Order, Relation, Update, MAX_CLOCKS, MAX_COUNTERS};
 use crate::state::State;
 
 /// A record: well formed once in four, else with one or two fields overwritten
@@ -74,11 +74,17 @@ fn slot(rng: &mut Rng, slots: usize, used: u8) -> usize {
 }
 
 fn damage_edge(rng: &mut Rng, edge: &mut Edge) {
-    match rng.below(5) {
+    match rng.below(7) {
         0 => edge.source = number(rng),
         1 => edge.target = number(rng),
         2 => damage_atoms(rng, &mut edge.guard),
-        3 => edge.updates[rng.below(MAX_COUNTERS)] = update(rng),
+        3 => {
+            edge.updates[rng.below(MAX_COUNTERS)] = update(rng);
+            if !rng.one_in(4) {
+                edge.order = order(rng, &edge.updates);
+            }
+        }
+        4 | 5 => damage_order(rng, &mut edge.order),
         _ => {
             let clock = rng.below(MAX_CLOCKS);
             edge.resets[clock] = !edge.resets[clock];
@@ -94,6 +100,18 @@ fn damage_atoms(rng: &mut Rng, atoms: &mut Atoms) {
         1 => Atom::clock(number(rng), relation, number(rng)),
         _ => Atom::counter(number(rng), relation, number(rng)),
     };
+}
+
+/// Swaps two slots, repeats one in another, makes them blank from one on, or gives
+/// one a number.
+fn damage_order(rng: &mut Rng, order: &mut Order) {
+    let (one, other) = (rng.below(order.len()), rng.below(order.len()));
+    match rng.below(4) {
+        0 => order.swap(one, other),
+        1 => order[one] = order[other],
+        2 => order[one..].fill(0),
+        _ => order[one] = if rng.one_in(4) { number(rng) } else { rng.below(MAX_COUNTERS) as u8 },
+    }
 }
 
 fn update(rng: &mut Rng) -> Update {

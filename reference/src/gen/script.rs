@@ -4,10 +4,11 @@
 //! Lines: `0 0` begins with the blank model; `1 FIELD N` sets a number at the
 //! head (locations, init, target, clocks, counters, edges); `2 I G N` a counter;
 //! `3 L K ATOM` an atom of an invariant; `4 E FROM TO` an edge's ends; `5 E K ATOM`
-//! an atom of a guard; `6 E K UPDATE` an update; `7 E K R` a reset. An atom is
-//! its sort (0 none, 1 clock, 2 counter), index, relation and constant; an update
-//! its sort (0 keep, 1 constant, 2 sum), number and offset plus 32, where 65 to 68
-//! stand for the offsets -128, -33, 33 and 127. Questions:
+//! an atom of a guard; `6 E K UPDATE` an update; `7 E K R` a reset; `8 E K N` a
+//! slot of the order. An atom is its sort (0 none, 1 clock, 2 counter), index,
+//! relation and constant; an update its sort (0 keep, 1 constant, 2 sum), number
+//! and offset plus 32, where 65 to 68 stand for the offsets -128, -33, 33 and 127.
+//! Questions:
 //! `10` refusal; `11` refusal and ceiling; `12 BOUND` refusal, S, H, N; `13 RUN`
 //! refusal and place; `14 STATE BYTE` refusal and state; `15 BOUND` refusal and
 //! totals of the list; `16 BOUND HIGH LOW` the same for an emission of at most
@@ -269,6 +270,11 @@ fn build_edge(e: usize, edge: &Edge, script: &mut Script) {
     for (k, reset) in edge.resets.iter().enumerate() {
         if *reset {
             script.tell(&[7, e32, k as u32, 1]);
+        }
+    }
+    for (k, counter) in edge.order.iter().enumerate() {
+        if *counter != 0 {
+            script.tell(&[8, e32, k as u32, u32::from(*counter)]);
         }
     }
 }

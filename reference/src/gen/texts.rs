@@ -80,7 +80,7 @@ fn bound_line(rng: &mut Rng) -> Vec<u8> {
 /// One random damage.
 fn damaged(rng: &mut Rng, mut text: Vec<u8>) -> Vec<u8> {
     let place = rng.below(text.len());
-    match rng.below(14) {
+    match rng.below(16) {
         0 if !text.is_empty() => {
             text.remove(place);
         }
@@ -92,6 +92,7 @@ fn damaged(rng: &mut Rng, mut text: Vec<u8>) -> Vec<u8> {
         6 | 7 => text = with_number(rng, &text),
         8..=11 => text = with_lines(rng, &text, more_items),
         12 => text = with_lines(rng, &text, other_value),
+        13 | 14 => text = with_lines(rng, &text, moved_item),
         _ => text = with_lines(rng, &text, moved_line),
     }
     text
@@ -169,6 +170,28 @@ fn add_item(line: &mut Vec<u8>, item: &str) {
     if ended {
         line.push(b'\n');
     }
+}
+
+/// Swaps two items of a line with several, or puts one in another's place or
+/// before all.
+fn moved_item(rng: &mut Rng, mut lines: Lines) -> Lines {
+    let several = |line: &[u8]| line.contains(&b',') && !line.starts_with(b"var=");
+    let places: Vec<usize> = (0..lines.len()).filter(|place| several(&lines[*place])).collect();
+    if places.is_empty() {
+        return lines;
+    }
+    let line = &mut lines[rng.pick(&places)];
+    let text = String::from_utf8_lossy(line).into_owned();
+    let (key, value) = text.trim_end_matches('\n').split_once('=').unwrap_or_default();
+    let mut items: Vec<&str> = value.split(',').collect();
+    let (one, other) = (rng.below(items.len()), rng.below(items.len()));
+    match rng.below(4) {
+        0 => items[one] = items[other],
+        1 => items.insert(0, items[other]),
+        _ => items.swap(one, other),
+    }
+    *line = format!("{key}={}\n", items.join(",")).into_bytes();
+    lines
 }
 
 /// Gives a line another value.

@@ -104,6 +104,26 @@ set=-
 reset=-
 ";
 
+/// Model A with two counters, of which the edge raises the first and then copies it.
+/// Line 14 is `set`.
+pub const C2: &str = "\
+locations=2
+init=0
+target=1
+clocks=0
+vars=2
+var=1,0
+var=1,0
+inv=-
+inv=-
+edges=1
+from=0
+to=1
+when=-
+set=v0:=v0+1,v1:=v0+0
+reset=-
+";
+
 /// The model of a text that must be accepted.
 pub fn model(text: &str) -> Model {
     let reading = read(text.as_bytes());
