@@ -120,11 +120,11 @@ delayedValue m d (counter i) v = v
 delayedValue m d (clock i) v = min (v + d) (ceiling m)
 
 -- ---- updates: keep, a constant, or another counter plus an offset
--- the new value of a counter, if it lies in its range; `before` gives the values that the update reads
+-- the new value of a counter, if it lies in its range; `read` gives the values that the update reads
 abbrev pub newCounter : (ℕ → ℕ) → ℕ → ℕ → Update → Option ℕ
-newCounter before greatest own Keep = some own
-newCounter before greatest own (Constant c) = inRange greatest c
-newCounter before greatest own (Sum w offset) = shifted offset greatest (before w)
+newCounter read greatest own Keep = some own
+newCounter read greatest own (Constant c) = inRange greatest c
+newCounter read greatest own (Sum w offset) = shifted offset greatest (read w)
 
 -- the update is keep
 abbrev pub isKeep : Update → Bool

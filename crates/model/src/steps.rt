@@ -199,8 +199,8 @@ impl State {
         ensures { λ r. ⌜ r ≡ stepped self (edgeStep m e self) ⌝ }
     {
         let counters = m.counters;
-        let before = self.counters;
-        let updated = e.updated(counters, before);
+        let shown = self.counters;
+        let updated = e.updated(counters, shown);
         if !updated.allowed {
             return Stepped {
                 allowed: false,

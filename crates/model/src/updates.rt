@@ -26,13 +26,13 @@ impl Update {
         }
     }
 
-    pub(crate) fn next(self, own: u8, before: [u8; Model::COUNTERS], greatest: u8) -> NewValue
-        ensures { λ r. ⌜ r ≡ newValue (newCounter (λ w. getD before w 0) greatest own self) ⌝ }
+    pub(crate) fn next(self, own: u8, values: [u8; Model::COUNTERS], greatest: u8) -> NewValue
+        ensures { λ r. ⌜ r ≡ newValue (newCounter (λ w. getD values w 0) greatest own self) ⌝ }
     {
         match self {
             Update::Keep => NewValue::Value(own),
             Update::Constant(c) => in_range(greatest, c as u16),
-            Update::Sum { source, offset } => shift(offset, greatest, slot(before, source)),
+            Update::Sum { source, offset } => shift(offset, greatest, slot(values, source)),
         }
     }
 }
