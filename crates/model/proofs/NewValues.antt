@@ -3,7 +3,7 @@ use Prim.Native.Nat.{ℕ, zero, suc, _+_, _≤_, _<_}
 use native.Mathlib.Numerals.{add-one}
 use mathlib.Core.Path.{_≡_, refl, ap, _∙_}
 use mathlib.Core.Logic.{⊎-elim}
-use mathlib.Core.Bool.{true, false}
+use mathlib.Core.Bool.{true, false, false≢true}
 use mathlib.Core.List.{List}
 use mathlib.Core.Option.{Option, none, some, Option·map}
 use lib.ListN.{length, getD, set, length-set, List·getD-eq-default}
@@ -29,18 +29,12 @@ out-none (some v) e = let z : _≡_ {A = ℕ} 0 1 = cc in absurd (omega arith)
 
 -- the counters after updates, or that one left its range
 pub updated-some : (vs : List ℕ) {u : Updated} (x : Option (List ℕ)) → u ≡ updatedFrom vs x → u .allowed ≡ true → x ≡ some (u .values)
-updated-some vs none e t = let z : false ≡ true = cc in absurd (clash z)
-  where
-    clash : false ≡ true → ⊥
-    clash z = let w : _≡_ {A = ℕ} 0 1 = cc in omega arith
+updated-some vs none e t = let z : false ≡ true = cc in absurd (false≢true z)
 updated-some vs (some now) e t = rw e refl
 
 pub updated-none : (vs : List ℕ) {u : Updated} (x : Option (List ℕ)) → u ≡ updatedFrom vs x → u .allowed ≡ false → x ≡ none
 updated-none vs none e t = refl
-updated-none vs (some now) e t = let z : false ≡ true = cc in absurd (clash z)
-  where
-    clash : false ≡ true → ⊥
-    clash z = let w : _≡_ {A = ℕ} 0 1 = cc in omega arith
+updated-none vs (some now) e t = let z : false ≡ true = cc in absurd (false≢true z)
 
 set-past : (l : List ℕ) (i v : ℕ) → length l ≤ i → set l i v ≡ l
 set-past l i v p =

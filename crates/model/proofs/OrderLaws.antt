@@ -53,6 +53,17 @@ pub record Ordered (e : Edge) : Type 0 where
   pub slot-set : (k : ℕ) → k < listed e → T (not (isKeep (updateAt e (counterIn (e .order) k))))
   pub slot-first : (k : ℕ) → k < listed e → placeIn (e .order) (counterIn (e .order) k) ≡ k
 
+-- ---- new values
+new-same : (f g : ℕ → ℕ) (greatest own : ℕ) (u : Update) → ((w : ℕ) → f w ≡ g w) → newCounter f greatest own u ≡ newCounter g greatest own u
+new-same f g greatest own Keep h = refl
+new-same f g greatest own (Constant c) h = refl
+new-same f g greatest own (Sum w z) h = ap (shifted z greatest) (h w)
+
+map-iff : (x : Option ℕ) (f : ℕ → List ℕ) (l : List ℕ) → Option·map f x ≡ some l → (y : ℕ) × (x ≡ some y) × (f y ≡ l)
+map-iff none f l h = absurd (some-none h)
+map-iff (some y) f l h = (y, refl, some-inj h)
+
+-- ---- the order of an edge
 module _ (e : Edge) (ok : Ordered e) where
   abbrev slot : ℕ → ℕ
   slot k = counterIn (e .order) k
@@ -124,136 +135,129 @@ module _ (e : Edge) (ok : Ordered e) where
   pub kept-place : (i : ℕ) → T (isKeep (updateAt e i)) → listed e ≤ place i
   kept-place i t = ⊎-elim (λ l. absurd (T-not (isKeep (updateAt e i)) (place-set i l) t)) (λ l. l) (lt-or-le (place i) (listed e))
 
--- ---- the values after the updates
-new-same : (f g : ℕ → ℕ) (greatest own : ℕ) (u : Update) → ((w : ℕ) → f w ≡ g w) → newCounter f greatest own u ≡ newCounter g greatest own u
-new-same f g greatest own Keep h = refl
-new-same f g greatest own (Constant c) h = refl
-new-same f g greatest own (Sum w z) h = ap (shifted z greatest) (h w)
+  -- ---- the values after the updates
+  module _ (counters : List Counter) where
+    abbrev greatest : ℕ → ℕ
+    greatest i = getD counters i blankCounter .greatest
 
-map-iff : (x : Option ℕ) (f : ℕ → List ℕ) (l : List ℕ) → Option·map f x ≡ some l → (y : ℕ) × (x ≡ some y) × (f y ≡ l)
-map-iff none f l h = absurd (some-none h)
-map-iff (some y) f l h = (y, refl, some-inj h)
+    -- what the k-th update reads of counter w, where the counters show vs before and new after all updates
+    abbrev pub readAtPlace : ℕ → List ℕ → List ℕ → ℕ → ℕ
+    readAtPlace k vs new w = cond (ltb (place w) k) (getD new w 0) (getD vs w 0)
 
-module _ (counters : List Counter) (e : Edge) (ok : Ordered e) where
-  abbrev greatest : ℕ → ℕ
-  greatest i = getD counters i blankCounter .greatest
+    -- the first n listed updates lead from vs to new, counter by counter
+    pub record Updates (n : ℕ) (vs new : List ℕ) : Type 0 where
+      pub long : length new ≡ length vs
+      pub kept : (i : ℕ) → n ≤ place i → getD new i 0 ≡ getD vs i 0
+      pub sets : (k : ℕ) → k < n → newCounter (readAtPlace k vs new) (greatest (slot k)) (getD vs (slot k) 0) (updateAt e (slot k)) ≡ some (getD new (slot k) 0)
 
-  abbrev at : ℕ → ℕ
-  at k = counterIn (e .order) k
+    -- the counter at place n stands at no other place
+    apart : (n i : ℕ) → n < listed e → place i ≢ n → i ≢ slot n
+    apart n i l h q = h (ap place q ∙ ok .slot-first n l)
 
-  abbrev placed : ℕ → ℕ
-  placed x = placeIn (e .order) x
+    read-same : (k n : ℕ) (vs new : List ℕ) (y w : ℕ) → k ≤ n → n < listed e → readAtPlace k vs (set new (slot n) y) w ≡ readAtPlace k vs new w
+    read-same k n vs new y w p l = ⊎-elim
+        (λ q. let t = lt→ltb (place w) k q in
+        cond-T (ltb (place w) k) (getD (set new (slot n) y) w 0) (getD vs w 0) t ∙ getD-set-other new (slot n) w y 0 (apart n w l (λ z. omega (arith, z)))
+        ∙ sym (cond-T (ltb (place w) k) (getD new w 0) (getD vs w 0) t))
+        (λ q. let f = not-lt (place w) k q in
+        cond-F (ltb (place w) k) (getD (set new (slot n) y) w 0) (getD vs w 0) f ∙ sym (cond-F (ltb (place w) k) (getD new w 0) (getD vs w 0) f))
+        (lt-or-le (place w) k)
 
-  -- what the k-th update reads of counter w, where the counters show vs before and new after all updates
-  abbrev pub readAtPlace : ℕ → List ℕ → List ℕ → ℕ → ℕ
-  readAtPlace k vs new w = cond (ltb (placed w) k) (getD new w 0) (getD vs w 0)
+    -- the update at place n reads what those before it left
+    read-left : (n : ℕ) (vs now : List ℕ) → Updates n vs now → (w : ℕ) → readAtPlace n vs now w ≡ getD now w 0
+    read-left n vs now h w = ⊎-elim
+        (λ q. cond-T (ltb (place w) n) (getD now w 0) (getD vs w 0) (lt→ltb (place w) n q))
+        (λ q. cond-F (ltb (place w) n) (getD now w 0) (getD vs w 0) (not-lt (place w) n q) ∙ sym (h .kept w q))
+        (lt-or-le (place w) n)
 
-  -- the first n listed updates lead from vs to new, counter by counter
-  pub record Updates (n : ℕ) (vs new : List ℕ) : Type 0 where
-    pub long : length new ≡ length vs
-    pub kept : (i : ℕ) → n ≤ placed i → getD new i 0 ≡ getD vs i 0
-    pub sets : (k : ℕ) → k < n → newCounter (readAtPlace k vs new) (greatest (at k)) (getD vs (at k) 0) (updateAt e (at k)) ≡ some (getD new (at k) 0)
+    updates-more : (n : ℕ) (vs now : List ℕ) (y : ℕ) → n < listed e → length vs ≡ 4 → Updates n vs now → nextCounter counters e now (slot n) ≡ some y
+        → Updates (suc n) vs (set now (slot n) y)
+    updates-more n vs now y l four h t = record {
+      long = length-set now (slot n) y ∙ h .long;
+      kept = λ i p. getD-set-other now (slot n) i y 0 (apart n i l (λ z. omega (arith, z))) ∙ h .kept i (omega arith);
+      sets = λ k p. below-cases k n p last earlier;
+    }
+      where
+        last : {k : ℕ} → k ≡ n
+            → newCounter (readAtPlace k vs (set now (slot n) y)) (greatest (slot k)) (getD vs (slot k) 0) (updateAt e (slot k))
+            ≡ some (getD (set now (slot n) y) (slot k) 0)
+        last q = rw q (
+            new-same (readAtPlace n vs (set now (slot n) y)) (λ w. getD now w 0) (greatest (slot n)) (getD vs (slot n) 0) (updateAt e (slot n))
+            (λ w. read-same n n vs now y w (omega arith) l ∙ read-left n vs now h w) ∙
+            ap (λ (own : ℕ). newCounter (λ w. getD now w 0) (greatest (slot n)) own (updateAt e (slot n)))
+            (sym (h .kept (slot n) (omega (arith, ok .slot-first n l)))) ∙
+            t ∙ ap some (sym (getD-set-same now (slot n) y 0 (omega (arith, ok .slot-lt n l, h .long)))))
 
-  -- the counter at place n stands at no other place
-  apart : (n i : ℕ) → n < listed e → placed i ≢ n → i ≢ at n
-  apart n i l h q = h (ap placed q ∙ ok .slot-first n l)
+        earlier : {k : ℕ} → k < n
+            → newCounter (readAtPlace k vs (set now (slot n) y)) (greatest (slot k)) (getD vs (slot k) 0) (updateAt e (slot k))
+            ≡ some (getD (set now (slot n) y) (slot k) 0)
+        earlier {k} p =
+            new-same (readAtPlace k vs (set now (slot n) y)) (readAtPlace k vs now) (greatest (slot k)) (getD vs (slot k) 0) (updateAt e (slot k))
+            (λ w. read-same k n vs now y w (omega arith) l) ∙
+            h .sets k p ∙ ap some (sym (getD-set-other now (slot n) (slot k) y 0 (apart n (slot k) l (λ z. omega (arith, z, ok .slot-first k (omega arith))))))
 
-  read-same : (k n : ℕ) (vs new : List ℕ) (y w : ℕ) → k ≤ n → n < listed e → readAtPlace k vs (set new (at n) y) w ≡ readAtPlace k vs new w
-  read-same k n vs new y w p l = ⊎-elim
-      (λ q. let t = lt→ltb (placed w) k q in
-      cond-T (ltb (placed w) k) (getD (set new (at n) y) w 0) (getD vs w 0) t ∙ getD-set-other new (at n) w y 0 (apart n w l (λ z. omega (arith, z)))
-      ∙ sym (cond-T (ltb (placed w) k) (getD new w 0) (getD vs w 0) t))
-      (λ q. let f = not-lt (placed w) k q in
-      cond-F (ltb (placed w) k) (getD (set new (at n) y) w 0) (getD vs w 0) f ∙ sym (cond-F (ltb (placed w) k) (getD new w 0) (getD vs w 0) f))
-      (lt-or-le (placed w) k)
+    pub updated-to : (n : ℕ) (vs new : List ℕ) → n ≤ listed e → length vs ≡ 4 → updated counters e vs n ≡ some new → Updates n vs new
+    unfolding updated applied
+    updated-to zero vs new l four h =
+        record {
+          long = ap length (sym (some-inj h));
+          kept = λ i p. ap (λ (v : List ℕ). getD v i 0) (sym (some-inj h));
+          sets = λ k p. absurd (not-suc-le-zero p);
+        }
+    updated-to (suc n) vs new l four h =
+        let now = then-iff (updated counters e vs n) (λ now. applied counters e now (slot n)) new .0 h in
+        let y = map-iff (nextCounter counters e (now .0) (slot n)) (set (now .0) (slot n)) new (now .2) in
+        subst (Updates (suc n) vs) (y .2) (updates-more n vs (now .0) (y .0) (omega arith) four (updated-to n vs (now .0) (omega arith) four (now .1)) (y .1))
 
-  -- the update at place n reads what those before it left
-  read-left : (n : ℕ) (vs now : List ℕ) → Updates n vs now → (w : ℕ) → readAtPlace n vs now w ≡ getD now w 0
-  read-left n vs now h w = ⊎-elim
-      (λ q. cond-T (ltb (placed w) n) (getD now w 0) (getD vs w 0) (lt→ltb (placed w) n q))
-      (λ q. cond-F (ltb (placed w) n) (getD now w 0) (getD vs w 0) (not-lt (placed w) n q) ∙ sym (h .kept w q))
-      (lt-or-le (placed w) n)
+    pub updated-of : (n : ℕ) (vs new : List ℕ) → n ≤ listed e → length vs ≡ 4 → Updates n vs new → updated counters e vs n ≡ some new
+    unfolding updated applied
+    updated-of zero vs new l four h = ap some (ext-getD 0 vs new (sym (h .long)) (λ i p. sym (h .kept i (omega arith))))
+    updated-of (suc n) vs new l four h =
+        then-iff (updated counters e vs n) (λ now. applied counters e now (slot n)) new .1
+        (before, updated-of n vs before (omega arith) four back, ap (Option·map (set before (slot n))) next ∙ ap some again)
+      where
+        -- the counters before the last update
+        before : List ℕ
+        before = set new (slot n) (getD vs (slot n) 0)
 
-  updates-more : (n : ℕ) (vs now : List ℕ) (y : ℕ) → n < listed e → length vs ≡ 4 → Updates n vs now → nextCounter counters e now (at n) ≡ some y
-      → Updates (suc n) vs (set now (at n) y)
-  updates-more n vs now y l four h t = record {
-    long = length-set now (at n) y ∙ h .long;
-    kept = λ i p. getD-set-other now (at n) i y 0 (apart n i l (λ z. omega (arith, z))) ∙ h .kept i (omega arith);
-    sets = λ k p. below-cases k n p last earlier;
-  }
-    where
-      last : {k : ℕ} → k ≡ n
-          → newCounter (readAtPlace k vs (set now (at n) y)) (greatest (at k)) (getD vs (at k) 0) (updateAt e (at k)) ≡ some (getD (set now (at n) y) (at k) 0)
-      last q = rw q (
-          new-same (readAtPlace n vs (set now (at n) y)) (λ w. getD now w 0) (greatest (at n)) (getD vs (at n) 0) (updateAt e (at n))
-          (λ w. read-same n n vs now y w (omega arith) l ∙ read-left n vs now h w) ∙
-          ap (λ (own : ℕ). newCounter (λ w. getD now w 0) (greatest (at n)) own (updateAt e (at n)))
-          (sym (h .kept (at n) (omega (arith, ok .slot-first n l)))) ∙
-          t ∙ ap some (sym (getD-set-same now (at n) y 0 (omega (arith, ok .slot-lt n l, h .long)))))
+        own : getD before (slot n) 0 ≡ getD vs (slot n) 0
+        own = getD-set-same new (slot n) (getD vs (slot n) 0) 0 (omega (arith, ok .slot-lt n l, h .long))
 
-      earlier : {k : ℕ} → k < n
-          → newCounter (readAtPlace k vs (set now (at n) y)) (greatest (at k)) (getD vs (at k) 0) (updateAt e (at k)) ≡ some (getD (set now (at n) y) (at k) 0)
-      earlier {k} p =
-          new-same (readAtPlace k vs (set now (at n) y)) (readAtPlace k vs now) (greatest (at k)) (getD vs (at k) 0) (updateAt e (at k))
-          (λ w. read-same k n vs now y w (omega arith) l) ∙
-          h .sets k p ∙ ap some (sym (getD-set-other now (at n) (at k) y 0 (apart n (at k) l (λ z. omega (arith, z, ok .slot-first k (omega arith))))))
+        back : Updates n vs before
+        back = record {
+          long = length-set new (slot n) (getD vs (slot n) 0) ∙ h .long;
+          kept = λ i p. ⊎-elim
+              (λ q. getD-set-other new (slot n) i (getD vs (slot n) 0) 0 (apart n i l (λ z. omega (arith, z))) ∙ h .kept i q)
+              (λ q. let here : i ≡ slot n = sym (place-at (e .order) i (omega (arith, listed-le e))) ∙ ap slot q in rw here own)
+              (after i p);
+          sets = λ k p.
+              new-same (readAtPlace k vs before) (readAtPlace k vs new) (greatest (slot k)) (getD vs (slot k) 0) (updateAt e (slot k))
+              (λ w. read-same k n vs new (getD vs (slot n) 0) w (omega arith) l) ∙
+              h .sets k (omega arith)
+              ∙ ap some (sym (getD-set-other new (slot n) (slot k) (getD vs (slot n) 0) 0
+              (apart n (slot k) l (λ z. omega (arith, z, ok .slot-first k (omega arith))))));
+        }
+          where
+            after : (i : ℕ) → n ≤ place i → (suc n ≤ place i) ⊎ (place i ≡ n)
+            after i p = ⊎-elim (λ q. inl q) (λ q. inr (omega arith)) (lt-or-le n (place i))
 
-  pub updated-to : (n : ℕ) (vs new : List ℕ) → n ≤ listed e → length vs ≡ 4 → updated counters e vs n ≡ some new → Updates n vs new
-  unfolding updated applied
-  updated-to zero vs new l four h =
-      record { long = ap length (sym (some-inj h)); kept = λ i p. ap (λ (v : List ℕ). getD v i 0) (sym (some-inj h)); sets = λ k p. absurd (not-suc-le-zero p) }
-  updated-to (suc n) vs new l four h =
-      let now = then-iff (updated counters e vs n) (λ now. applied counters e now (at n)) new .0 h in
-      let y = map-iff (nextCounter counters e (now .0) (at n)) (set (now .0) (at n)) new (now .2) in
-      subst (Updates (suc n) vs) (y .2) (updates-more n vs (now .0) (y .0) (omega arith) four (updated-to n vs (now .0) (omega arith) four (now .1)) (y .1))
+        next : nextCounter counters e before (slot n) ≡ some (getD new (slot n) 0)
+        next =
+            ap (λ (own : ℕ). newCounter (λ w. getD before w 0) (greatest (slot n)) own (updateAt e (slot n))) own ∙
+            sym (new-same (readAtPlace n vs new) (λ w. getD before w 0) (greatest (slot n)) (getD vs (slot n) 0) (updateAt e (slot n))
+            (λ w. sym (read-same n n vs new (getD vs (slot n) 0) w (omega arith) l) ∙ read-left n vs before back w)) ∙
+            h .sets n (omega arith)
 
-  pub updated-of : (n : ℕ) (vs new : List ℕ) → n ≤ listed e → length vs ≡ 4 → Updates n vs new → updated counters e vs n ≡ some new
-  unfolding updated applied
-  updated-of zero vs new l four h = ap some (ext-getD 0 vs new (sym (h .long)) (λ i p. sym (h .kept i (omega arith))))
-  updated-of (suc n) vs new l four h =
-      then-iff (updated counters e vs n) (λ now. applied counters e now (at n)) new .1
-      (before, updated-of n vs before (omega arith) four back, ap (Option·map (set before (at n))) next ∙ ap some again)
-    where
-      -- the counters before the last update
-      before : List ℕ
-      before = set new (at n) (getD vs (at n) 0)
-
-      own : getD before (at n) 0 ≡ getD vs (at n) 0
-      own = getD-set-same new (at n) (getD vs (at n) 0) 0 (omega (arith, ok .slot-lt n l, h .long))
-
-      back : Updates n vs before
-      back = record {
-        long = length-set new (at n) (getD vs (at n) 0) ∙ h .long;
-        kept = λ i p. ⊎-elim
-            (λ q. getD-set-other new (at n) i (getD vs (at n) 0) 0 (apart n i l (λ z. omega (arith, z))) ∙ h .kept i q)
-            (λ q. let here : i ≡ at n = sym (place-at (e .order) i (omega (arith, listed-le e))) ∙ ap at q in rw here own)
-            (after i p);
-        sets = λ k p.
-            new-same (readAtPlace k vs before) (readAtPlace k vs new) (greatest (at k)) (getD vs (at k) 0) (updateAt e (at k))
-            (λ w. read-same k n vs new (getD vs (at n) 0) w (omega arith) l) ∙
-            h .sets k (omega arith)
-            ∙ ap some (sym (getD-set-other new (at n) (at k) (getD vs (at n) 0) 0 (apart n (at k) l (λ z. omega (arith, z, ok .slot-first k (omega arith))))));
-      }
-        where
-          after : (i : ℕ) → n ≤ placed i → (suc n ≤ placed i) ⊎ (placed i ≡ n)
-          after i p = ⊎-elim (λ q. inl q) (λ q. inr (omega arith)) (lt-or-le n (placed i))
-
-      next : nextCounter counters e before (at n) ≡ some (getD new (at n) 0)
-      next =
-          ap (λ (own : ℕ). newCounter (λ w. getD before w 0) (greatest (at n)) own (updateAt e (at n))) own ∙
-          sym (new-same (readAtPlace n vs new) (λ w. getD before w 0) (greatest (at n)) (getD vs (at n) 0) (updateAt e (at n))
-          (λ w. sym (read-same n n vs new (getD vs (at n) 0) w (omega arith) l) ∙ read-left n vs before back w)) ∙
-          h .sets n (omega arith)
-
-      again : set before (at n) (getD new (at n) 0) ≡ new
-      again = ext-getD 0 (set before (at n) (getD new (at n) 0)) new
-          (length-set before (at n) (getD new (at n) 0) ∙ length-set new (at n) (getD vs (at n) 0)) (λ i p. one i (split (eqb i (at n))))
-        where
-          one : (i : ℕ) → T (eqb i (at n)) ⊎ T (not (eqb i (at n))) → getD (set before (at n) (getD new (at n) 0)) i 0 ≡ getD new i 0
-          one i (inl t) = let q = eq-T i (at n) .0 t in
-              rw q (getD-set-same before (at n) (getD new (at n) 0) 0 (omega (arith, ok .slot-lt n l, h .long, length-set new (at n) (getD vs (at n) 0))))
-          one i (inr f) = let q : i ≢ at n = λ z. T-not (eqb i (at n)) f (eq-T i (at n) .1 z) in
-              getD-set-other before (at n) i (getD new (at n) 0) 0 q ∙ getD-set-other new (at n) i (getD vs (at n) 0) 0 q
+        again : set before (slot n) (getD new (slot n) 0) ≡ new
+        again = ext-getD 0 (set before (slot n) (getD new (slot n) 0)) new
+            (length-set before (slot n) (getD new (slot n) 0) ∙ length-set new (slot n) (getD vs (slot n) 0)) (λ i p. one i (split (eqb i (slot n))))
+          where
+            one : (i : ℕ) → T (eqb i (slot n)) ⊎ T (not (eqb i (slot n))) → getD (set before (slot n) (getD new (slot n) 0)) i 0 ≡ getD new i 0
+            one i (inl t) = let q = eq-T i (slot n) .0 t in
+                rw q (getD-set-same before (slot n) (getD new (slot n) 0) 0
+                (omega (arith, ok .slot-lt n l, h .long, length-set new (slot n) (getD vs (slot n) 0))))
+            one i (inr f) = let q : i ≢ slot n = λ z. T-not (eqb i (slot n)) f (eq-T i (slot n) .1 z) in
+                getD-set-other before (slot n) i (getD new (slot n) 0) 0 q ∙ getD-set-other new (slot n) i (getD vs (slot n) 0) 0 q
 
 -- ---- the written list
 -- the counters that an edge sets, in the order in which its updates are listed

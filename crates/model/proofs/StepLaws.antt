@@ -220,17 +220,17 @@ module _ (m : Model) (ok : WellFormed m) (e : Edge) (eo : WellFormedEdge m e) (s
   keep-new f greatest own (Sum w z) h = absurd h
 
   -- the counters that the listed updates leave
-  updates-to : Updates (m .counters) e order-ok (listed e) (s .counters) (t .counters) → (i : ℕ) → i < m .vars → Sets i
+  updates-to : Updates e order-ok (m .counters) (listed e) (s .counters) (t .counters) → (i : ℕ) → i < m .vars → Sets i
   unfolding setEarlier
   updates-to h i l = ⊎-elim
       (λ k. keep-new (readBy e s t i) (counterAt m i .greatest) (value s (counter i)) (updateAt e i) k ∙ ap some (sym (h .kept i (kept-place e order-ok i k))))
       (λ k. let p = set-place e order-ok i (omega (arith, ok .vars-le)) k in
       let here = place-at (e .order) i (omega (arith, p, listed-le e)) in
-      subst (λ (x : ℕ). newCounter (readAtPlace (m .counters) e order-ok (placeIn (e .order) i) (s .counters) (t .counters)) (counterAt m x .greatest)
+      subst (λ (x : ℕ). newCounter (readAtPlace e order-ok (m .counters) (placeIn (e .order) i) (s .counters) (t .counters)) (counterAt m x .greatest)
       (value s (counter x)) (updateAt e x) ≡ some (value t (counter x))) here (h .sets (placeIn (e .order) i) p))
       (split (isKeep (updateAt e i)))
 
-  updates-of : Shaped m t → ((i : ℕ) → i < m .vars → Sets i) → Updates (m .counters) e order-ok (listed e) (s .counters) (t .counters)
+  updates-of : Shaped m t → ((i : ℕ) → i < m .vars → Sets i) → Updates e order-ok (m .counters) (listed e) (s .counters) (t .counters)
   unfolding setEarlier
   updates-of q′ h = record { long = q′ .counters-len ∙ sym (q .counters-len); kept = rest; sets = by-place }
     where
@@ -248,11 +248,11 @@ module _ (m : Model) (ok : WellFormed m) (e : Edge) (eo : WellFormedEdge m e) (s
 
       by-place : (k : ℕ) → k < listed e →
           let i = counterIn (e .order) k in
-          newCounter (readAtPlace (m .counters) e order-ok k (s .counters) (t .counters)) (counterAt m i .greatest) (value s (counter i)) (updateAt e i)
+          newCounter (readAtPlace e order-ok (m .counters) k (s .counters) (t .counters)) (counterAt m i .greatest) (value s (counter i)) (updateAt e i)
           ≡ some (value t (counter i))
       by-place k l =
           let i = counterIn (e .order) k in
-          subst (λ (p : ℕ). newCounter (readAtPlace (m .counters) e order-ok p (s .counters) (t .counters)) (counterAt m i .greatest) (value s (counter i))
+          subst (λ (p : ℕ). newCounter (readAtPlace e order-ok (m .counters) p (s .counters) (t .counters)) (counterAt m i .greatest) (value s (counter i))
           (updateAt e i) ≡ some (value t (counter i))) (order-ok .slot-first k l) (h i (declared i (order-ok .slot-lt k l) (order-ok .slot-set k l)))
         where
           declared : (i : ℕ) → i < 4 → T (not (isKeep (updateAt e i))) → i < m .vars
@@ -279,7 +279,7 @@ module _ (m : Model) (ok : WellFormed m) (e : Edge) (eo : WellFormedEdge m e) (s
   unfolding afterEdge
   clocks-after vs = length-list _ 4
 
-  after-shape : (vs : List ℕ) → Updates (m .counters) e (eo .order-ok) (listed e) (s .counters) vs → Shaped m (afterEdge e s vs)
+  after-shape : (vs : List ℕ) → Updates e (eo .order-ok) (m .counters) (listed e) (s .counters) vs → Shaped m (afterEdge e s vs)
   after-shape vs h = record {
     counters-len = ap length (counters-after vs) ∙ h .long ∙ q .counters-len;
     clocks-len = clocks-after vs;
@@ -301,13 +301,13 @@ module _ (m : Model) (ok : WellFormed m) (e : Edge) (eo : WellFormedEdge m e) (s
           let vs = n .0 in
           let g = only-if (edgeAllowed m e s vs) (afterEdge e s vs) t .0 (n .2) in
           let a = allowed-iff m e s vs .0 (g .0) in
-          let u = updated-to (m .counters) e (eo .order-ok) (listed e) (s .counters) vs (omega arith) (q .counters-len) (n .1) in
+          let u = updated-to e (eo .order-ok) (m .counters) (listed e) (s .counters) vs (omega arith) (q .counters-len) (n .1) in
           let is : vs ≡ t .counters = sym (counters-after vs) ∙ ap (λ (x : State). x .counters) (g .1) in
           record {
             shape = subst (λ (x : State). Shaped m x) (g .1) (after-shape vs u);
             leaves = a .0;
             guard = a .1;
-            sets = updates-to m ok e eo s t q (subst (Updates (m .counters) e (eo .order-ok) (listed e) (s .counters)) is u);
+            sets = updates-to m ok e eo s t q (subst (Updates e (eo .order-ok) (m .counters) (listed e) (s .counters)) is u);
             resets = λ i l. sym (clock-after vs i (omega (arith, ok .clocks-le))) ∙ ap (λ (x : State). value x (clock i)) (g .1);
             lands = sym (ap (λ (x : State). x .location) (g .1)) ∙ location-after vs;
             allowed = subst (λ (x : State). T (invariantHolds m x)) (g .1) (a .2);
@@ -324,7 +324,7 @@ module _ (m : Model) (ok : WellFormed m) (e : Edge) (eo : WellFormedEdge m e) (s
           ]) in
           then-iff (updated (m .counters) e (s .counters) (listed e)) after t .1 (
             vs,
-            updated-of (m .counters) e (eo .order-ok) (listed e) (s .counters) vs (omega arith) (q .counters-len) u,
+            updated-of e (eo .order-ok) (m .counters) (listed e) (s .counters) vs (omega arith) (q .counters-len) u,
             only-if (edgeAllowed m e s vs) (afterEdge e s vs) t .1
                 (allowed-iff m e s vs .1 (h .leaves, h .guard, subst (λ (x : State). T (invariantHolds m x)) (sym eq) (h .allowed)), eq),
           )
