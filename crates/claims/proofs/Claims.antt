@@ -1,7 +1,7 @@
 -- What is claimed of the calls, the page to read first: demands 2 and 3 and the corollary on the shortest run, of the words that emission leaves in the
 -- lent buffer, of any solver's assignment to them, and of what the conversions and the walker answer and leave; that the DIMACS file has those words; the
--- same of the calls for C on a text; that updates happen in their written order; and the rows. specs/Words.antt, Calls.antt, Files.antt, Texts.antt and
--- Cases.antt say what the statements mean; each proof is cited.
+-- same of the calls for C on a text; that updates happen in their written order; that 16 bits are enough for a number; and the rows. specs/Words.antt,
+-- Calls.antt, Files.antt, Texts.antt and Cases.antt say what the statements mean; each proof is cited.
 use mathlib.Core.Path.{_≡_}
 use mathlib.Core.Logic.{_↔_}
 use mathlib.Core.List.{List, _++_}
@@ -30,6 +30,8 @@ use Rattle.dimacs.specs.DimacsCall.{FileReport}
 use Rattle.dimacs.specs.File.{file}
 use Rattle.list.proofs.SourcesBefore
 use Rattle.list.proofs.SourcesBefore.{itemsFromBefore}
+use Rattle.parts.specs.Numbering.{SixteenBits}
+use Rattle.parts.proofs.SixteenBits as SixteenLaws
 use Rattle.text.specs.bytes.Faulty.{faultNumber}
 use Rattle.text.specs.declared.updates.SetRead.{SetRead}
 use Rattle.text.specs.updates.Sets.{setFaults, updateSlots, orderSlots}
@@ -172,8 +174,14 @@ pub no-earlier-lists : (width : ℕ → ℕ) (m : Model) (o c : ℕ) (e : Edge) 
     ++ resetsItems width m o c e
 no-earlier-lists = SourcesBefore.no-earlier-lists
 
+-- ---- sixteen bits are enough for a number
+-- For every well-formed record, step up to 64 and declared member: the number is that of the list's variable, at most 21,776, and no value on the way to
+-- it leaves 16 bits; the members in document 01's order have the numbers 1 to N.
+pub sixteen-bits : (m : Model) → T (wellFormed m) → SixteenBits m
+sixteen-bits = SixteenLaws.sixteen-bits
+
 -- ---- the rows
--- P1 to P10, and the lists of the small models: every row holds.
+-- P1 to P10, the lists of the small models, and numbers of members: every row holds.
 pub all-rows : T allRowsHold
 all-rows = Rows.all-rows
 

@@ -1,4 +1,5 @@
--- The cases that document 01 marks P, and rows that pin the definitions: a list of rows over the worked models and the small models.
+-- The cases that document 01 marks P, and rows that pin the definitions: a list of rows over the worked models, the small models and the model at every
+-- limit.
 -- proofs/Claims.antt has the one claim that covers all rows.
 use mathlib.Core.Bool.{Bool, true, false, _&&_, cond}
 use mathlib.Core.List.{List, [], _∷_, map}
@@ -8,18 +9,19 @@ use lib.ListN.{length, replicate}
 use lib.IntN.{ℤ, pos, negsuc}
 use Rattle.model.specs.declared.Model.{Model}
 use Rattle.model.specs.Indexed.{each}
-use Rattle.model.specs.Automaton.{ceiling, stateSize, choices, variables}
+use Rattle.model.specs.Automaton.{ceiling, Component, loc, counter, clock, stateSize, choices, variables}
 use Rattle.model.specs.Form.{wellFormed}
 use Rattle.model.specs.Refusal.{Refusal, isAccepted}
 use Rattle.model.specs.Run.{isRun}
 use Rattle.list.specs.Lists.{allOf}
 use Rattle.list.specs.Clauses.{clauses}
 use Rattle.list.specs.Assignments.{satisfied}
+use Rattle.parts.specs.Numbering.{stateNumber, choiceNumber, numbersInOrder}
 use Rattle.walk.specs.Walker.{walkReport}
 use Rattle.encode.specs.EncodeCall.{encodeReport, encodeLeft}
 use Rattle.decode.specs.DecodeCall.{decodeReport, decodeLeft}
 use Rattle.emission.specs.EmitCall.{EmitReport, emitReport, emitLeft}
-use Rattle.samples.specs.Models.{modelA, waitingA, modelB}
+use Rattle.samples.specs.Models.{modelA, waitingA, modelB, fullModel}
 use Rattle.claims.specs.RowModels.{clockRelations, counterRelations, counterUpdates, twoOfEach, raisedThenCopied, copiedThenRaised, twoOrders}
 use Rattle.claims.specs.RowWords.{neg, end, clockRelationsWords, counterRelationsWords, counterUpdatesWords, twoOfEachWords}
 use Rattle.claims.specs.RowWords.{raisedThenCopiedWords, copiedThenRaisedWords, twoOrdersWords}
@@ -34,6 +36,11 @@ pub data Fact : Type 0 where
   totalsAre : Model → ℕ → ℕ → ℕ → Fact
   -- N for k
   variablesAre : Model → ℕ → ℕ → Fact
+  -- in state t, this value of this component has this number; in step t + 1, this choice
+  stateNumberIs : Model → ℕ → Component → ℕ → ℕ → Fact
+  choiceNumberIs : Model → ℕ → ℕ → ℕ → Fact
+  -- the members for k in document 01's order have these numbers
+  numbersAre : Model → ℕ → List ℕ → Fact
   -- emission for k leaves these words, in order, in a buffer of as many
   wordsAre : Model → ℕ → List ℤ → Fact
   -- of all assignments for k, exactly these satisfy the list
@@ -83,6 +90,9 @@ holds (areFormed ms) = allOf wellFormed ms
 holds (countsAre m k v c w) = equalCounts (emitReport m k w) v c w
 holds (totalsAre m top s h) = eqb (ceiling m) top && eqb (stateSize m) s && eqb (choices m) h
 holds (variablesAre m k n) = eqb (variables m k) n
+holds (stateNumberIs m t x v n) = eqb (stateNumber m t x v) n
+holds (choiceNumberIs m t c n) = eqb (choiceNumber m t c) n
+holds (numbersAre m k ns) = equalLists eqb (numbersInOrder m k) ns
 holds (wordsAre m k ws) = equalLists equalIntegers (emitLeft m k (length ws) (replicate (length ws) (pos 0))) ws
 holds (satisfiedBy m k found) = equalLists (equalLists eqb) (keepIf (λ a. satisfied a (clauses m k)) (strings 2 (variables m k))) found
 holds (decodesTo m k a r) =
@@ -93,7 +103,7 @@ holds (runsAre m k rs) = equalLists (equalLists eqb) (keepIf (isRun m) (strings 
 holds (runRefused m r number place) = equalRefusal (walkReport m r) number place
 
 -- ---- the rows
--- A row: the number of its case P1 to P10 and what it says; 0 for what the cases take for granted and for the small models.
+-- A row: the number of its case P1 to P10 and what it says; 0 for what the cases take for granted, for the small models and for numbers.
 pub record Row : Type 0 where
   pub number : ℕ
   pub says : Fact
@@ -101,7 +111,7 @@ pub record Row : Type 0 where
 abbrev P : ℕ → Fact → Row
 P n f = record { number = n; says = f }
 
--- P1 to P10, and the lists of the small models for one step.
+-- P1 to P10, the lists of the small models for one step, and the numbers of members, up to the greatest.
 unfoldable pub rows : List Row
 rows =
     P 0 (areFormed (modelA ∷ waitingA ∷ modelB ∷ clockRelations ∷ counterRelations ∷ counterUpdates ∷ twoOfEach ∷ [])) ∷
@@ -137,7 +147,16 @@ rows =
     P 0 (decodesTo copiedThenRaised 1 (1 ∷ 0 ∷ 1 ∷ 0 ∷ 1 ∷ 0 ∷ 0 ∷ 0 ∷ 1 ∷ 0 ∷ 1 ∷ 0 ∷ 1 ∷ 1 ∷ 0 ∷ []) (2 ∷ [])) ∷
     P 0 (wordsAre twoOrders 1 twoOrdersWords) ∷
     P 0 (decodesTo twoOrders 1 (1 ∷ 1 ∷ 0 ∷ 0 ∷ 1 ∷ 0 ∷ 0 ∷ 1 ∷ 0 ∷ 1 ∷ 0 ∷ 1 ∷ 0 ∷ 1 ∷ []) (2 ∷ [])) ∷
-    P 0 (runRefused twoOrders (3 ∷ 3 ∷ []) 28 2) ∷ []
+    P 0 (runRefused twoOrders (3 ∷ 3 ∷ []) 28 2) ∷
+    P 0 (numbersAre modelA 1 (1 ∷ 2 ∷ 3 ∷ 4 ∷ 5 ∷ 6 ∷ 7 ∷ [])) ∷
+    P 0 (stateNumberIs modelB 1 (counter 0) 1 25) ∷
+    P 0 (choiceNumberIs modelB 2 7 57) ∷
+    P 0 (stateNumberIs modelB 3 loc 3 61) ∷
+    P 0 (stateNumberIs modelB 3 (clock 0) 4 68) ∷
+    P 0 (areFormed (fullModel ∷ [])) ∷
+    P 0 (choiceNumberIs fullModel 63 63 21504) ∷
+    P 0 (stateNumberIs fullModel 64 loc 15 21520) ∷
+    P 0 (stateNumberIs fullModel 64 (clock 3) 31 21776) ∷ []
 
 -- Every row holds.
 unfoldable pub allRowsHold : Bool

@@ -18,7 +18,8 @@ pub fn put_choice(b: GroupTable, o: usize, out: &mut [i32], at: usize) -> usize
     requires { ⌜ StepIn b o mostVariables × RoomFor (groupClauses (o + b .state) (b .choices)) (now out) at ⌝ }
     ensures { λ r. ⌜ WroteClauses (groupClauses (o + b .state) (b .choices)) (now (out .entry)) (now (out .exit)) at r ⌝ }
 {
-    put_group(o + b.state, b.choices, out, at)
+    let start = o as u16 + b.state as u16;
+    put_group(start as usize, b.choices, out, at)
 }
 
 // Delay `d` on group `g`, under its choice `x`: a clock rises to M at most, all else stays.
@@ -36,10 +37,11 @@ fn put_delay_group(
     requires { ⌜ Lent b (now first) (now size) × (x < mostVariables) × (d ≤ b .top) × (g < 9) × (b .vars ≤ 4) × Fits (delayPart b o d g) mostVariables × RoomFor (partClauses x (delayPart b o d g)) (now out) at ⌝ }
     ensures { λ r. ⌜ WroteClauses (partClauses x (delayPart b o d g)) (now (out .entry)) (now (out .exit)) at r ⌝ }
 {
-    let place = first[g] as usize;
+    let place = first[g];
     let n = size[g] as usize;
-    let before = o + place;
-    let after = o + b.state + b.choices + place;
+    let block = o as u16;
+    let before = (block + place) as usize;
+    let after = (block + b.state as u16 + b.choices as u16 + place) as usize;
     if g < 1 + b.vars {
         return put_kept(x, before, after, n, out, at);
     }
@@ -59,7 +61,7 @@ pub fn put_delay(
     requires { ⌜ Lent b (now first) (now size) × BlockIn b o mostVariables × StepIn b o mostVariables × (b .vars ≤ 4) × (d ≤ b .top) × RoomFor (delayPieces b o d) (now out) at ⌝ }
     ensures { λ r. ⌜ WroteClauses (delayPieces b o d) (now (out .entry)) (now (out .exit)) at r ⌝ }
 {
-    let x = o + b.state + d;
+    let x = (o as u16 + b.state as u16 + d as u16) as usize;
     let mut end = at;
     for g in 0..b.groups {
         end = put_delay_group(b, first, size, x, o, d, g, out, end);

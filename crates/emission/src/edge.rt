@@ -40,19 +40,24 @@ fn put_update(
     ensures { λ r. ⌜ WroteClauses (partClauses x (updatePart b o order i update)) (now (out .entry)) (now (out .exit)) at r ⌝ }
 {
     let g = 1 + i;
-    let place = first[g] as usize;
-    let next = o + b.state + b.choices;
-    let after = next + place;
+    let place = first[g];
+    let block = o as u16;
+    let next = block + b.state as u16 + b.choices as u16;
+    let after = (next + place) as usize;
     match update {
-        Update::Keep => put_kept(x, o + place, after, size[g] as usize, out, at),
+        Update::Keep => {
+            let kept = block + place;
+            put_kept(x, kept as usize, after, size[g] as usize, out, at)
+        }
         Update::Constant(n) => put_constant(x, after, n, greatest, out, at),
         Update::Sum { source, offset } => {
             let w = 1 + source as usize;
-            let from = read_at(order, source, i as u8, o, next);
-            let before = from + first[w] as usize;
+            let following = next as usize;
+            let from = read_at(order, source, i as u8, o, following);
+            let before = from as u16 + first[w];
             put_shifted(
                 x,
-                before,
+                before as usize,
                 after,
                 size[w] as usize,
                 offset,
@@ -107,10 +112,14 @@ fn put_reset(
     ensures { λ r. ⌜ WroteClauses (partClauses x (resetPart b o i update)) (now (out .entry)) (now (out .exit)) at r ⌝ }
 {
     let g = 1 + b.vars + i;
-    let place = first[g] as usize;
-    let after = o + b.state + b.choices + place;
+    let place = first[g];
+    let block = o as u16;
+    let after = (block + b.state as u16 + b.choices as u16 + place) as usize;
     match update {
-        ClockUpdate::Unchanged => put_kept(x, o + place, after, size[g] as usize, out, at),
+        ClockUpdate::Unchanged => {
+            let unchanged = block + place;
+            put_kept(x, unchanged as usize, after, size[g] as usize, out, at)
+        }
         ClockUpdate::Reset => put_implication(x, after, out, at),
     }
 }
@@ -153,9 +162,12 @@ fn put_edge(
     requires { ⌜ Lent b (now first) (now size) × (x < mostVariables) × Bounded b × EdgeFits b o e × RoomFor (each (b .groups + 5) (edgePiece x b e o)) (now out) at ⌝ }
     ensures { λ r. ⌜ WroteClauses (each (b .groups + 5) (edgePiece x b e o)) (now (out .entry)) (now (out .exit)) at r ⌝ }
 {
-    let next = o + b.state + b.choices;
-    let target = put_implication(x, o + e.source as usize, out, at);
-    let guarded = put_implication(x, next + e.target as usize, out, target);
+    let block = o as u16;
+    let next = block + b.state as u16 + b.choices as u16;
+    let source = block + e.source as u16;
+    let target = put_implication(x, source as usize, out, at);
+    let goal = next + e.target as u16;
+    let guarded = put_implication(x, goal as usize, out, target);
     let guard = e.guard;
     let counters = put_atoms(b.vars, first, size, o, x, guard, out, guarded);
     let clocks = put_updates(b, first, size, x, o, e, out, counters);
@@ -178,12 +190,13 @@ pub fn put_edges(
     requires { ⌜ Lent b (now first) (now size) × Bounded b × EdgesFit b edges o (from + count) × RoomFor (each count (λ i. edgeIn b edges o (from + i))) (now out) at ⌝ }
     ensures { λ r. ⌜ WroteClauses (each count (λ i. edgeIn b edges o (from + i))) (now (out .entry)) (now (out .exit)) at r ⌝ }
 {
-    let start = o + b.state + b.top as usize + 1;
+    let start = o as u16 + b.state as u16 + b.top as u16 + 1;
     let mut end = at;
     for i in 0..count {
         let e = from + i;
         let edge = edges[e];
-        end = put_edge(b, first, size, start + e, o, edge, out, end);
+        let x = start + e as u16;
+        end = put_edge(b, first, size, x as usize, o, edge, out, end);
     }
     end
 }

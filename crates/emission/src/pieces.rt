@@ -55,13 +55,15 @@ fn put_state_piece(
     ensures { λ r. ⌜ WroteClauses (statePiece m o piece) (now (out .entry)) (now (out .exit)) 0 r ⌝ }
 {
     if piece < b.groups {
-        return put_group(o + first[piece] as usize, size[piece] as usize, out, 0);
+        let start = o as u16 + first[piece];
+        return put_group(start as usize, size[piece] as usize, out, 0);
     }
     let l = piece - b.groups;
     let invariants = m.invariants;
     let v = invariants[l];
     let atoms = v.atoms;
-    put_atoms(b.vars, first, size, o, o + l, atoms, out, 0)
+    let x = o as u16 + l as u16;
+    put_atoms(b.vars, first, size, o, x as usize, atoms, out, 0)
 }
 
 // Piece `piece` of step t + 1, from state `t`: the choice, a delay, an edge, or a piece of the state after.

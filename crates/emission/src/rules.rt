@@ -51,7 +51,8 @@ pub fn put_excluded(
 {
     let mut end = at;
     for v in 0..n {
-        end = put_excluded_value(x, before + v, relation, constant, v, out, end);
+        let member = before as u16 + v as u16;
+        end = put_excluded_value(x, member as usize, relation, constant, v, out, end);
     }
     end
 }
@@ -70,7 +71,9 @@ pub fn put_kept(
 {
     let mut end = at;
     for v in 0..n {
-        end = put_joint_implication(x, before + v, after + v, out, end);
+        let held = before as u16 + v as u16;
+        let kept = after as u16 + v as u16;
+        end = put_joint_implication(x, held as usize, kept as usize, out, end);
     }
     end
 }
@@ -91,7 +94,10 @@ pub fn put_raised(
 {
     let mut end = at;
     for v in 0..n {
-        end = put_joint_implication(x, before + v, after + smaller(v + d, top), out, end);
+        let shown = before as u16 + v as u16;
+        let u = smaller(v + d, top);
+        let raised = after as u16 + u as u16;
+        end = put_joint_implication(x, shown as usize, raised as usize, out, end);
     }
     end
 }
@@ -114,7 +120,10 @@ fn put_shifted_value(
     let new = shift(offset, greatest, v as u8);
     match new {
         NewValue::OutOfRange => put_exclusion(x, y, out, at),
-        NewValue::Value(u) => put_joint_implication(x, y, after + u as usize, out, at),
+        NewValue::Value(u) => {
+            let shifted = after as u16 + u as u16;
+            put_joint_implication(x, y, shifted as usize, out, at)
+        }
     }
 }
 
@@ -134,7 +143,8 @@ pub fn put_shifted(
 {
     let mut end = at;
     for v in 0..n {
-        end = put_shifted_value(x, before + v, after, v, offset, greatest, out, end);
+        let source = before as u16 + v as u16;
+        end = put_shifted_value(x, source as usize, after, v, offset, greatest, out, end);
     }
     end
 }
@@ -152,7 +162,8 @@ pub fn put_constant(
     ensures { λ r. ⌜ WroteClauses (ruleClauses x 0 after 0 (cond (leb n greatest) (Rule.Set n) Rule.Forbid)) (now (out .entry)) (now (out .exit)) at r ⌝ }
 {
     if n <= greatest {
-        return put_implication(x, after + n as usize, out, at);
+        let set = after as u16 + n as u16;
+        return put_implication(x, set as usize, out, at);
     }
     put_negated_unit(x, out, at)
 }

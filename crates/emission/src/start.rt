@@ -44,7 +44,7 @@ pub fn put_initial(
     let mut end = at;
     for g in 0..b.groups {
         let v = initial_value(b, initial, g);
-        end = put_unit(first[g] as usize + v, out, end);
+        end = put_unit((first[g] + v as u16) as usize, out, end);
     }
     end
 }

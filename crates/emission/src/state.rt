@@ -37,7 +37,8 @@ fn put_groups(
 {
     let mut end = at;
     for g in 0..b.groups {
-        end = put_group(o + first[g] as usize, size[g] as usize, out, end);
+        let start = o as u16 + first[g];
+        end = put_group(start as usize, size[g] as usize, out, end);
     }
     end
 }
@@ -106,7 +107,7 @@ fn put_atom(
     if g == 0 {
         return at;
     }
-    let before = o + first[g] as usize;
+    let before = (o as u16 + first[g]) as usize;
     let relation = c.relation;
     put_excluded(x, before, size[g] as usize, relation, c.constant, out, at)
 }
@@ -151,7 +152,8 @@ fn put_invariants(
     for l in 0..size[0] as usize {
         let v = invariants[l];
         let atoms = v.atoms;
-        end = put_atoms(b.vars, first, size, o, o + l, atoms, out, end);
+        let x = o as u16 + l as u16;
+        end = put_atoms(b.vars, first, size, o, x as usize, atoms, out, end);
     }
     end
 }

@@ -1,5 +1,6 @@
 // Words of literals, and a writer for each kind of clause. A variable is counted from 0, as in the list's definitions; variable `a` has the
-// number a + 1. Each writer stores its clauses from index `at` on and returns the index after them.
+// number a + 1. Here and in the other writers a variable is summed in 16 bits and widened for the next call; indexes of the buffer are not. Each
+// writer stores its clauses from index `at` on and returns the index after them.
 ghost use mathlib.Core.Path.{_≡_};
 ghost use mathlib.Core.List.{List, [], _∷_};
 ghost use Prim.Native.Nat.{ℕ, _+_, _<_, _≤_};
@@ -13,7 +14,7 @@ fn positive(a: usize) -> i32
     requires { ⌜ a < mostVariables ⌝ }
     ensures { λ r. ⌜ r ≡ word (bare a) ⌝ }
 {
-    (a + 1) as i32
+    (a as u16 + 1) as i32
 }
 
 // The word of a negated variable.
@@ -21,7 +22,7 @@ fn negative(a: usize) -> i32
     requires { ⌜ a < mostVariables ⌝ }
     ensures { λ r. ⌜ r ≡ word (negated a) ⌝ }
 {
-    -((a + 1) as i32)
+    -((a as u16 + 1) as i32)
 }
 
 // The clause `a`.
@@ -94,7 +95,7 @@ fn put_members(b: usize, n: usize, out: &mut [i32], at: usize) -> usize
 {
     let mut end = at;
     for v in 0..n {
-        let w = positive(b + v);
+        let w = positive((b as u16 + v as u16) as usize);
         out[end] = w;
         end += 1;
     }
@@ -109,7 +110,9 @@ fn put_pairs_of(b: usize, n: usize, i: usize, out: &mut [i32], at: usize) -> usi
 {
     let mut end = at;
     for j in 0..n - (i + 1) {
-        end = put_exclusion(b + i, b + i + 1 + j, out, end);
+        let x = b as u16 + i as u16;
+        let y = x + 1 + j as u16;
+        end = put_exclusion(x as usize, y as usize, out, end);
     }
     end
 }

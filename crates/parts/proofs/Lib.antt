@@ -4,5 +4,6 @@ pub mod PartPieces
 pub mod PartFits
 pub mod EdgeKinds
 pub mod NumberingLaws
+pub mod SixteenBits
 pub mod PartLengths
 pub mod KnownLaws

@@ -1,6 +1,6 @@
 -- The number of a solver variable in terms of the list's blocks, and bounds of what a well-formed record's blocks hold.
 use mathlib.Core.Path.{_≡_, refl, sym, ap, _∙_}
-use Prim.Native.Nat.{ℕ, _+_, _*_, _≤_}
+use Prim.Native.Nat.{ℕ, _+_, _*_, _≤_, _<_}
 use native.Mathlib.Nat.{mul-le-mul}
 use native.Mathlib.Omega.{arith}
 use lib.Dec.{T}
@@ -13,7 +13,7 @@ use Rattle.model.proofs.FormLaws.{WellFormed, formed, stateSize-le, choices-le,
 use Rattle.list.specs.Items.{offset, stateWidth, blockAt, stateMember, choiceMember}
 use Rattle.list.specs.Clauses.{oneHotWidth, variableOf}
 use Rattle.list.proofs.OneHot.{state-width-is, block-is}
-use Rattle.parts.specs.Numbering.{variableNumber}
+use Rattle.parts.specs.Numbering.{variableNumber, sixteenBits, InSixteenBits}
 
 module _ (m : Model) where
   -- a variable's number is one more than its place after the blocks before
@@ -35,6 +35,23 @@ module _ (m : Model) where
       let w : stateSize m + choices m ≤ 336 = omega (arith, stateSize-le m ok, choices-le m ok) in
       omega (arith, block-is m t, mul-le-mul h w)
 
+  -- no value on the way to a number leaves 16 bits
+  pub in-sixteen-bits : T (wellFormed m) → (t p : ℕ) → t ≤ 64 → p < stateSize m + choices m → InSixteenBits m t p
+  unfolding variableNumber
+  in-sixteen-bits ok t p h l =
+      let blocks : stateSize m + choices m ≤ 336 = omega (arith, stateSize-le m (formed m ok), choices-le m (formed m ok)) in
+      let before : t * (stateSize m + choices m) ≤ 64 * 336 = mul-le-mul h blocks in
+      record {
+        state-in = omega arith;
+        choices-in = omega arith;
+        blocks-in = omega arith;
+        step-in = omega arith;
+        before-in = omega arith;
+        place-in = omega arith;
+        variable-in = omega arith;
+        number-in = omega arith;
+      }
+
 -- ---- by the totals that the code answers
 -- H at most, of a well-formed record
 pub choices-most : (m : Model) (z : Totals) → T (wellFormed m) → KnownTotals m z → z .choices ≤ 64
@@ -47,3 +64,12 @@ module _ (m : Model) (z : Totals) (k : KnownTotals m z) where
   pub number-is : (t p : ℕ) → variableNumber m t p ≡ t * (z .state + z .choices) + p + 1
   unfolding variableNumber
   number-is t p = rw (state-of-totals m z k, choices-of-totals m z k) refl
+
+  -- no value on the way leaves 16 bits, said of the lengths that the code has
+  pub way-in : T (wellFormed m) → (t p : ℕ) → t ≤ 64 → p < z .state + z .choices
+      → (z .state < sixteenBits) × (z .choices < sixteenBits) × (z .state + z .choices < sixteenBits) × (t * (z .state + z .choices) + p + 1 < sixteenBits)
+  way-in ok t p h l =
+      let s = state-of-totals m z k in
+      let c = choices-of-totals m z k in
+      let way : InSixteenBits m t p = in-sixteen-bits m ok t p h (omega arith) in
+      (omega (arith, way .state-in), omega (arith, way .choices-in), omega (arith, way .blocks-in), omega (arith, number-is t p, way .number-in))

@@ -79,9 +79,9 @@ fn group_size(m: Model, top: u8, g: usize) -> usize
     let i = g - 1;
     if i < m.vars as usize {
         let c = m.counters[i];
-        return c.greatest as usize + 1;
+        return (c.greatest as u16 + 1) as usize;
     }
-    top as usize + 1
+    (top as u16 + 1) as usize
 }
 
 pub fn group_table(m: Model, z: Totals) -> GroupTable
@@ -91,11 +91,11 @@ pub fn group_table(m: Model, z: Totals) -> GroupTable
     let top = z.ceiling as u8;
     let mut first = [0u16; 9];
     let mut size = [0u16; 9];
-    let mut sum: usize = 0;
+    let mut sum: u16 = 0;
     for g in 0..9 {
-        let n = group_size(m, top, g);
-        first[g] = sum as u16;
-        size[g] = n as u16;
+        let n = group_size(m, top, g) as u16;
+        first[g] = sum;
+        size[g] = n;
         sum += n;
     }
     let counters = m.counters;
@@ -126,7 +126,7 @@ impl GroupTable {
         let size = self.size;
         Part {
             rule: Rule::Exclude { relation, constant },
-            before: o + slot(first, g),
+            before: (o as u16 + slot(first, g) as u16) as usize,
             size: slot(size, g),
             after: 0,
             into: 0,
@@ -168,9 +168,12 @@ impl GroupTable {
         let size = self.size;
         Part {
             rule,
-            before: from + slot(first, g),
+            before: (from as u16 + slot(first, g) as u16) as usize,
             size: slot(size, g),
-            after: o + self.state + self.choices + slot(first, h),
+            after: (o as u16
+                + self.state as u16
+                + self.choices as u16
+                + slot(first, h) as u16) as usize,
             into: slot(size, h),
         }
     }
@@ -207,7 +210,10 @@ impl GroupTable {
             rule,
             before: 0,
             size: 1,
-            after: o + self.state + self.choices + slot(first, h),
+            after: (o as u16
+                + self.state as u16
+                + self.choices as u16
+                + slot(first, h) as u16) as usize,
             into: slot(size, h),
         }
     }
@@ -250,7 +256,8 @@ impl GroupTable {
             Update::Keep => self.leads_part(o, o, 1 + i, 1 + i, Rule::Keep),
             Update::Constant(n) => self.set_part(o, 1 + i, self.constant_rule(i, n)),
             Update::Sum { source, offset } => {
-                let from = read_at(order, source, i as u8, o, o + self.state + self.choices);
+                let next = o as u16 + self.state as u16 + self.choices as u16;
+                let from = read_at(order, source, i as u8, o, next as usize);
                 let w = 1 + source as usize;
                 let rule = self.shift_rule(i, offset);
                 self.leads_part(from, o, w, 1 + i, rule)
@@ -290,7 +297,7 @@ impl GroupTable {
                 rule: Rule::Set(e.target),
                 before: 0,
                 size: 1,
-                after: o + self.state + self.choices,
+                after: (o as u16 + self.state as u16 + self.choices as u16) as usize,
                 into: locations,
             };
         }

@@ -10,12 +10,15 @@ ghost use Rattle.list.specs.Items.{blockAt};
 ghost use Rattle.list.specs.Clauses.{oneHotWidth};
 ghost use Rattle.parts.specs.Numbering.{variableNumber};
 
-// The number, from 1, of place `p` in the block of state `t` and the choice block after it. `z` are the totals of `m`.
+// The number, from 1, of place `p` in the block of state `t` and the choice block after it. `z` are the totals of `m`. No value on the way leaves
+// 16 bits (specs/Numbering.antt: `InSixteenBits`); the number is widened at the end.
 pub fn variable_number(m: Model, z: Totals, t: usize, p: usize) -> usize
     requires { ⌜ T (wellFormed m) × KnownTotals m z × (t ≤ 64) × (p < z .state + z .choices) ⌝ }
     ensures { λ r. ⌜ r ≡ variableNumber m t p ⌝ }
 {
-    t * (z.state + z.choices) + p + 1
+    let state = z.state as u16;
+    let choices = z.choices as u16;
+    (t as u16 * (state + choices) + p as u16 + 1) as usize
 }
 
 // How many variables come before the block of state `t`.

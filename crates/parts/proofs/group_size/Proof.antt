@@ -32,6 +32,9 @@ cast-result-2 c = search needs
 add-result : tie.Need-add-result
 add-result c = search needs
 
+cast-result-3 : tie.Need-cast-result-3
+cast-result-3 c = search needs
+
 returns-2 : tie.Need-returns-2
 returns-2 c =
     let entry = c .before .before .before .before in
@@ -42,6 +45,9 @@ returns-2 c =
 add-result-2 : tie.Need-add-result-2
 add-result-2 c = search needs
 
+cast-result-4 : tie.Need-cast-result-4
+cast-result-4 c = search needs
+
 returns-3 : tie.Need-returns-3
 returns-3 c =
     let entry = c .before .before in
@@ -50,4 +56,6 @@ returns-3 c =
     (ap (λ (n : ℕ). n + 1) (pre .1) ∙ size-clock t1 (entry .args .g) (c .before .if1 .left) (c .if2 .left), omega (arith, formed t1 (pre .0) .ceiling-le))
 
 pub group-size-spec : {M : Type 1} → statement M
-group-size-spec = tie.close (tie.spec cast-result returns sub-i cast-if2 mul-c element-copy-out-c cast-result-2 add-result returns-2 add-result-2 returns-3)
+group-size-spec =
+    tie.close (tie.spec cast-result returns sub-i cast-if2 mul-c element-copy-out-c cast-result-2 add-result cast-result-3 returns-2 add-result-2
+    cast-result-4 returns-3)

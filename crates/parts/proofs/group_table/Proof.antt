@@ -34,17 +34,14 @@ loop-holds c = (omega arith, refl, refl, ceiling-of-totals _ _ (c .before .pre .
 group-size-requires : tie.Need-group-size-requires Inv-loop μ-loop
 group-size-requires c κs = (c .before .before .before .pre .0, c .before .loop .inv .3)
 
-cast-first : tie.Need-cast-first Inv-loop μ-loop
-cast-first c = record { fits = omega arith }
+cast-n : tie.Need-cast-n Inv-loop μ-loop
+cast-n c = record { fits = omega (arith, c .group-size .ensures .1) }
 
 mul-first : tie.Need-mul-first Inv-loop μ-loop
 mul-first c = search needs
 
 array-write-first : tie.Need-array-write-first Inv-loop μ-loop
 array-write-first c = search needs
-
-cast-size : tie.Need-cast-size Inv-loop μ-loop
-cast-size c = record { fits = omega (arith, c .group-size .ensures .1) }
 
 mul-size : tie.Need-mul-size Inv-loop μ-loop
 mul-size c = search needs
@@ -79,20 +76,20 @@ loop-again c =
       filled _ _ _ _ (omega arith) (v .7) (size .ensures .0),
     )
 
-cast-t17 : tie.Need-cast-t17 Inv-loop μ-loop
-cast-t17 c = search needs
+cast-t16 : tie.Need-cast-t16 Inv-loop μ-loop
+cast-t16 c = search needs
 
-add-t18 : tie.Need-add-t18 Inv-loop μ-loop
-add-t18 c = search needs
+add-t17 : tie.Need-add-t17 Inv-loop μ-loop
+add-t17 c = search needs
 
-cast-t19 : tie.Need-cast-t19 Inv-loop μ-loop
-cast-t19 c = search needs
+cast-t18 : tie.Need-cast-t18 Inv-loop μ-loop
+cast-t18 c = search needs
 
-add-t20 : tie.Need-add-t20 Inv-loop μ-loop
-add-t20 c = search needs
+add-t19 : tie.Need-add-t19 Inv-loop μ-loop
+add-t19 c = search needs
 
-cast-t23 : tie.Need-cast-t23 Inv-loop μ-loop
-cast-t23 c = search needs
+cast-t22 : tie.Need-cast-t22 Inv-loop μ-loop
+cast-t22 c = search needs
 
 returns : tie.Need-returns Inv-loop μ-loop
 unfolding groupTable
@@ -117,5 +114,5 @@ returns c =
 
 pub group-table-spec : {M : Type 1} → statement M
 group-table-spec =
-    tie.close (tie.spec Inv-loop μ-loop cast-top loop-holds group-size-requires cast-first mul-first array-write-first cast-size mul-size array-write-size
-    add-sum add-g loop-less loop-again cast-t17 add-t18 cast-t19 add-t20 cast-t23 returns)
+    tie.close (tie.spec Inv-loop μ-loop cast-top loop-holds group-size-requires cast-n mul-first array-write-first mul-size array-write-size add-sum add-g
+    loop-less loop-again cast-t16 add-t17 cast-t18 add-t19 cast-t22 returns)

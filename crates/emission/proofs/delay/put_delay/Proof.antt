@@ -16,11 +16,23 @@ Inv-loop b first size o d out₀ at x end₀ g₀ g-end out end g = (g ≤ g-end
 abbrev μ-loop : tie.MeasureT-loop
 μ-loop b first size o d out₀ at x end₀ g₀ g-end out end g = g-end - g
 
+cast-x : tie.Need-cast-x Inv-loop μ-loop
+cast-x c = search needs
+
+cast-x-2 : tie.Need-cast-x-2 Inv-loop μ-loop
+cast-x-2 c = search needs
+
 add-x : tie.Need-add-x Inv-loop μ-loop
 add-x c = omega (arith, c .before .before .before .pre .2 .choice-in)
 
+cast-x-3 : tie.Need-cast-x-3 Inv-loop μ-loop
+cast-x-3 c = search needs
+
 add-x-2 : tie.Need-add-x-2 Inv-loop μ-loop
 add-x-2 c = omega (arith, c .before .before .before .pre .2 .choice-in, c .before .before .before .pre .2 .delay-is-choice)
+
+cast-x-4 : tie.Need-cast-x-4 Inv-loop μ-loop
+cast-x-4 c = search needs
 
 loop-holds : tie.Need-loop-holds Inv-loop μ-loop
 loop-holds c = (omega arith, wrote-each-none _ _ _ (omega (arith, c .before .before .before .pre .5 .words .room)))
@@ -57,4 +69,6 @@ returns c =
     rw done at (c .before .loop .inv .1)
 
 pub put-delay-spec : {M : Type 1} → statement M
-put-delay-spec = tie.close (tie.spec Inv-loop μ-loop add-x add-x-2 loop-holds put-delay-group-requires add-g loop-less loop-again same-length returns)
+put-delay-spec =
+    tie.close (tie.spec Inv-loop μ-loop cast-x cast-x-2 add-x cast-x-3 add-x-2 cast-x-4 loop-holds put-delay-group-requires add-g loop-less loop-again
+    same-length returns)

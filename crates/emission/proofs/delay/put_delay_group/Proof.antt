@@ -16,9 +16,6 @@ mul-place c = search needs
 shared-slice-read-place : tie.Need-shared-slice-read-place
 shared-slice-read-place c = search needs
 
-cast-place : tie.Need-cast-place
-cast-place c = omega (arith, c .shared-slice-known3 .given (c .before .before .before .args .g))
-
 mul-n : tie.Need-mul-n
 mul-n c = search needs
 
@@ -28,19 +25,38 @@ shared-slice-read-n c = search needs
 cast-n : tie.Need-cast-n
 cast-n c = omega (arith, c .shared-slice-known4 .given (c .before .before .before .before .args .g))
 
+cast-block : tie.Need-cast-block
+cast-block c = search needs
+
 add-before : tie.Need-add-before
 add-before c =
     let start = c .before .before .before .before in
     omega (arith, first-at (start .pre .0) (start .args .g), start .pre .5 .before-in)
 
+cast-before : tie.Need-cast-before
+cast-before c =
+    let start = c .before .before .before .before in
+    omega (arith, first-at (start .pre .0) (start .args .g), start .pre .5 .before-in)
+
+cast-after : tie.Need-cast-after
+cast-after c = search needs
+
 add-after : tie.Need-add-after
 add-after c = omega (arith, c .before .before .before .before .before .pre .5 .after-in)
+
+cast-after-2 : tie.Need-cast-after-2
+cast-after-2 c = search needs
 
 add-after-2 : tie.Need-add-after-2
 add-after-2 c = omega (arith, c .before .before .before .before .before .before .pre .5 .after-in)
 
 add-after-3 : tie.Need-add-after-3
 add-after-3 c =
+    let start = c .before .before .before .before .before .before in
+    omega (arith, first-at (start .pre .0) (start .args .g), start .pre .5 .after-in)
+
+cast-after-3 : tie.Need-cast-after-3
+cast-after-3 c =
     let start = c .before .before .before .before .before .before in
     omega (arith, first-at (start .pre .0) (start .args .g), start .pre .5 .after-in)
 
@@ -87,5 +103,6 @@ returns-2 c =
 
 pub put-delay-group-spec : {M : Type 1} → statement M
 put-delay-group-spec =
-    tie.close (tie.spec mul-place shared-slice-read-place cast-place mul-n shared-slice-read-n cast-n add-before add-after add-after-2 add-after-3 add-if1
-    put-kept-requires same-length returns cast-put-raised put-raised-requires same-length-2 returns-2)
+    tie.close (tie.spec mul-place shared-slice-read-place mul-n shared-slice-read-n cast-n cast-block add-before cast-before cast-after add-after
+    cast-after-2 add-after-2 add-after-3 cast-after-3 add-if1 put-kept-requires same-length returns cast-put-raised put-raised-requires same-length-2
+    returns-2)

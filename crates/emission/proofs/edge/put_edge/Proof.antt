@@ -8,19 +8,33 @@ use borrow.Author.Needs.{needs}
 use Rattle.emission.proofs.edge.put_edge.Statement.{statement}
 use Rattle.emission.proofs.edge.put_edge.Tie as tie
 
+cast-block : tie.Need-cast-block
+cast-block c = omega (arith, target-in (c .before .before .pre .2) (c .before .before .pre .3))
+
+cast-next : tie.Need-cast-next
+cast-next c = search needs
+
 add-next : tie.Need-add-next
 add-next c = omega (arith, target-in (c .before .before .before .pre .2) (c .before .before .before .pre .3))
+
+cast-next-2 : tie.Need-cast-next-2
+cast-next-2 c = search needs
 
 add-next-2 : tie.Need-add-next-2
 add-next-2 c =
     let pre = c .before .before .before .before .pre in
     omega (arith, target-in (pre .2) (pre .3))
 
-cast-put-implication : tie.Need-cast-put-implication
-cast-put-implication c = search needs
+cast-source : tie.Need-cast-source
+cast-source c = search needs
 
-add-put-implication : tie.Need-add-put-implication
-add-put-implication c =
+add-source : tie.Need-add-source
+add-source c =
+    let pre = c .before .before .before .before .before .pre in
+    omega (arith, source-in (pre .2) (pre .3))
+
+cast-put-implication : tie.Need-cast-put-implication
+cast-put-implication c =
     let pre = c .before .before .before .before .before .pre in
     omega (arith, source-in (pre .2) (pre .3))
 
@@ -34,13 +48,18 @@ put-implication-requires c κs =
       room-first _ (room-first _ (room-first _ (room-first _ (room-as (edge-kinds (a .b) (a .x) (a .o) (a .e) (p .2 .vars-in)) (p .4))))),
     )
 
-cast-put-implication-2 : tie.Need-cast-put-implication-2
-cast-put-implication-2 c = search needs
+cast-goal : tie.Need-cast-goal
+cast-goal c = search needs
 
-add-put-implication-2 : tie.Need-add-put-implication-2
-add-put-implication-2 c =
-    let start = c .before .before .before .before .before .before .before .before .before in
-    omega (arith, target-in (start .pre .2) (start .pre .3))
+add-goal : tie.Need-add-goal
+add-goal c =
+    let pre = c .before .before .before .before .before .before .before .before .before .pre in
+    omega (arith, target-in (pre .2) (pre .3))
+
+cast-put-implication-2 : tie.Need-cast-put-implication-2
+cast-put-implication-2 c =
+    let pre = c .before .before .before .before .before .before .before .before .before .pre in
+    omega (arith, target-in (pre .2) (pre .3))
 
 put-implication-requires-2 : tie.Need-put-implication-requires-2
 put-implication-requires-2 c κs =
@@ -122,5 +141,5 @@ returns c =
 
 pub put-edge-spec : {M : Type 1} → statement M
 put-edge-spec =
-    tie.close (tie.spec add-next add-next-2 cast-put-implication add-put-implication put-implication-requires cast-put-implication-2 add-put-implication-2
-    put-implication-requires-2 put-atoms-requires put-updates-requires put-resets-requires same-length returns)
+    tie.close (tie.spec cast-block cast-next add-next cast-next-2 add-next-2 cast-source add-source cast-put-implication put-implication-requires cast-goal
+    add-goal cast-put-implication-2 put-implication-requires-2 put-atoms-requires put-updates-requires put-resets-requires same-length returns)

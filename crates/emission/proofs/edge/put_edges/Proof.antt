@@ -17,11 +17,17 @@ Inv-loop b first size o from count out₀ at edges start end₀ i₀ out end i =
 abbrev μ-loop : tie.MeasureT-loop
 μ-loop b first size o from count out₀ at edges start end₀ i₀ out end i = count - i
 
+cast-start : tie.Need-cast-start Inv-loop μ-loop
+cast-start c = search needs
+
+cast-start-2 : tie.Need-cast-start-2 Inv-loop μ-loop
+cast-start-2 c = search needs
+
 add-start : tie.Need-add-start Inv-loop μ-loop
 add-start c = omega (arith, c .before .before .before .pre .2 .choices-in)
 
-cast-start : tie.Need-cast-start Inv-loop μ-loop
-cast-start c = search needs
+cast-start-3 : tie.Need-cast-start-3 Inv-loop μ-loop
+cast-start-3 c = search needs
 
 add-start-2 : tie.Need-add-start-2 Inv-loop μ-loop
 add-start-2 c = omega (arith, c .before .before .before .before .pre .2 .choices-in)
@@ -41,8 +47,14 @@ mul-edge c = omega (arith, c .before .before .before .before .before .before .pr
 array-copy-out-edge : tie.Need-array-copy-out-edge Inv-loop μ-loop
 array-copy-out-edge c = omega (arith, c .before .before .before .before .before .before .pre .2 .edges-le)
 
-add-put-edge : tie.Need-add-put-edge Inv-loop μ-loop
-add-put-edge c = omega (arith, c .before .before .before .before .before .before .before .pre .2 .choices-in)
+cast-x : tie.Need-cast-x Inv-loop μ-loop
+cast-x c = search needs
+
+add-x : tie.Need-add-x Inv-loop μ-loop
+add-x c = search needs
+
+cast-put-edge : tie.Need-cast-put-edge Inv-loop μ-loop
+cast-put-edge c = search needs
 
 put-edge-requires : tie.Need-put-edge-requires Inv-loop μ-loop
 put-edge-requires c κs =
@@ -79,5 +91,5 @@ returns c =
 
 pub put-edges-spec : {M : Type 1} → statement M
 put-edges-spec =
-    tie.close (tie.spec Inv-loop μ-loop add-start cast-start add-start-2 add-start-3 loop-holds add-e mul-edge array-copy-out-edge add-put-edge
-    put-edge-requires add-i loop-less loop-again same-length returns)
+    tie.close (tie.spec Inv-loop μ-loop cast-start cast-start-2 add-start cast-start-3 add-start-2 add-start-3 loop-holds add-e mul-edge array-copy-out-edge
+    cast-x add-x cast-put-edge put-edge-requires add-i loop-less loop-again same-length returns)

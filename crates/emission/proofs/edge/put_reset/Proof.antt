@@ -1,6 +1,10 @@
 -- put_reset: the part of a clock's update, case by case: a row of Keep or one clause.
 use native.Mathlib.Omega.{arith}
-use Prim.Native.Nat.{_+_}
+use lib.ListN.{getD}
+use denote.Ref.{now}
+use Prim.Native.Nat.{_+_, _≤_}
+use Rattle.parts.specs.Numbering.{mostVariables}
+use Rattle.parts.specs.PartsOf.{nextAt}
 use mathlib.Core.Path.{ap, _∙_}
 use Rattle.parts.proofs.PartPieces.{part-is}
 use Rattle.parts.specs.Rules.{partClauses}
@@ -23,34 +27,41 @@ mul-place c = search needs
 shared-slice-read-place : tie.Need-shared-slice-read-place
 shared-slice-read-place c = search needs
 
-cast-place : tie.Need-cast-place
-cast-place c =
-    let start = c .before .before .before .before in
-    omega (arith, c .shared-slice-known3 .given (1 + start .args .b .vars + start .args .i))
-
-add-after : tie.Need-add-after
-add-after c =
-    let start = c .before .before .before .before .before in
-    omega (arith, reset-after (start .args .b) (start .args .o) (start .args .i) (start .args .update) (start .pre .3))
-
-add-after-2 : tie.Need-add-after-2
-add-after-2 c =
-    let start = c .before .before .before .before .before .before in
-    omega (arith, reset-after (start .args .b) (start .args .o) (start .args .i) (start .args .update) (start .pre .3))
-
-add-after-3 : tie.Need-add-after-3
-add-after-3 c =
-    let start = c .before .before .before .before .before .before in
+-- the group after begins below the most variables
+after-in : (start : tie.Start) → let a = start .args in nextAt (a .b) (a .o) + getD (now (a .first)) (1 + a .b .vars + a .i) 0 ≤ mostVariables
+after-in start =
     let a = start .args in
     omega (arith, first-at (start .pre .0) (1 + a .b .vars + a .i), reset-after (a .b) (a .o) (a .i) (a .update) (start .pre .3))
+
+cast-block : tie.Need-cast-block
+cast-block c = omega (arith, after-in (c .before .before .before .before))
+
+cast-after : tie.Need-cast-after
+cast-after c = omega (arith, after-in (c .before .before .before .before .before))
+
+add-after : tie.Need-add-after
+add-after c = omega (arith, after-in (c .before .before .before .before .before))
+
+cast-after-2 : tie.Need-cast-after-2
+cast-after-2 c = omega (arith, after-in (c .before .before .before .before .before .before))
+
+add-after-2 : tie.Need-add-after-2
+add-after-2 c = omega (arith, after-in (c .before .before .before .before .before .before))
+
+add-after-3 : tie.Need-add-after-3
+add-after-3 c = omega (arith, after-in (c .before .before .before .before .before .before))
+
+cast-after-3 : tie.Need-cast-after-3
+cast-after-3 c = omega (arith, after-in (c .before .before .before .before .before .before))
 
 enum-told : tie.Need-enum-told
 enum-told c = search needs
 
-add-put-kept : tie.Need-add-put-kept
-add-put-kept c =
-    let start = c .before .before .before .before .before .before .before .before in
-    omega (arith, fits-as (unchanged-is (start .pre .0) (start .args .o) (start .args .i) (c .enum-told .given .1)) (start .pre .3) .before-in)
+add-unchanged : tie.Need-add-unchanged
+add-unchanged c = omega (arith, after-in (c .before .before .before .before .before .before .before .before))
+
+cast-put-kept : tie.Need-cast-put-kept
+cast-put-kept c = omega (arith, after-in (c .before .before .before .before .before .before .before .before))
 
 mul-put-kept : tie.Need-mul-put-kept
 mul-put-kept c = search needs
@@ -58,8 +69,8 @@ mul-put-kept c = search needs
 shared-slice-read-put-kept : tie.Need-shared-slice-read-put-kept
 shared-slice-read-put-kept c = search needs
 
-cast-put-kept : tie.Need-cast-put-kept
-cast-put-kept c =
+cast-put-kept-2 : tie.Need-cast-put-kept-2
+cast-put-kept-2 c =
     let start = c .before .before .before .before .before .before .before .before .before in
     omega (arith, c .shared-slice-known4 .given (1 + start .args .b .vars + start .args .i))
 
@@ -103,5 +114,6 @@ returns-2 c =
 
 pub put-reset-spec : {M : Type 1} → statement M
 put-reset-spec =
-    tie.close (tie.spec add-g add-g-2 mul-place shared-slice-read-place cast-place add-after add-after-2 add-after-3 enum-told add-put-kept mul-put-kept
-    shared-slice-read-put-kept cast-put-kept put-kept-requires enum-told-2 put-implication-requires same-length returns same-length-2 returns-2)
+    tie.close (tie.spec add-g add-g-2 mul-place shared-slice-read-place cast-block cast-after add-after cast-after-2 add-after-2 add-after-3 cast-after-3
+    enum-told add-unchanged cast-put-kept mul-put-kept shared-slice-read-put-kept cast-put-kept-2 put-kept-requires enum-told-2 put-implication-requires
+    same-length returns same-length-2 returns-2)

@@ -7,7 +7,8 @@ use mir.Val.{toZ, ofZ}
 use lib.ListN.{getD}
 use lib.IntN.{ℤ}
 use denote.Ref.{now}
-use Prim.Native.Nat.{_+_}
+use Prim.Native.Nat.{_+_, _≤_}
+use Rattle.parts.specs.Numbering.{mostVariables}
 use mathlib.Core.Path.{_≡_, sym, ap, _∙_}
 use Rattle.parts.proofs.PartPieces.{part-is, set-is}
 use Rattle.parts.specs.PartsOf.{nextAt}
@@ -29,33 +30,41 @@ mul-place c = search needs
 shared-slice-read-place : tie.Need-shared-slice-read-place
 shared-slice-read-place c = search needs
 
-cast-place : tie.Need-cast-place
-cast-place c = omega (arith, c .shared-slice-known3 .given (1 + c .before .before .before .args .i))
-
-add-next : tie.Need-add-next
-add-next c =
-    let start = c .before .before .before .before in
-    omega (arith, update-after (start .args .b) (start .args .o) (start .args .i) _ (start .args .update) (start .pre .4 .fits))
-
-add-next-2 : tie.Need-add-next-2
-add-next-2 c =
-    let start = c .before .before .before .before .before in
-    omega (arith, update-after (start .args .b) (start .args .o) (start .args .i) _ (start .args .update) (start .pre .4 .fits))
-
-add-after : tie.Need-add-after
-add-after c =
-    let start = c .before .before .before .before .before in
+-- the group after begins below the most variables
+after-in : (start : tie.Start) → let a = start .args in nextAt (a .b) (a .o) + getD (now (a .first)) (1 + a .i) 0 ≤ mostVariables
+after-in start =
     let a = start .args in
     omega (arith, first-at (start .pre .0) (1 + a .i), update-after (a .b) (a .o) (a .i) _ (a .update) (start .pre .4 .fits))
+
+cast-block : tie.Need-cast-block
+cast-block c = omega (arith, after-in (c .before .before .before))
+
+cast-next : tie.Need-cast-next
+cast-next c = omega (arith, after-in (c .before .before .before .before))
+
+add-next : tie.Need-add-next
+add-next c = omega (arith, after-in (c .before .before .before .before))
+
+cast-next-2 : tie.Need-cast-next-2
+cast-next-2 c = omega (arith, after-in (c .before .before .before .before .before))
+
+add-next-2 : tie.Need-add-next-2
+add-next-2 c = omega (arith, after-in (c .before .before .before .before .before))
+
+add-after : tie.Need-add-after
+add-after c = omega (arith, after-in (c .before .before .before .before .before))
+
+cast-after : tie.Need-cast-after
+cast-after c = omega (arith, after-in (c .before .before .before .before .before))
 
 enum-told : tie.Need-enum-told
 enum-told c = search needs
 
-add-put-kept : tie.Need-add-put-kept
-add-put-kept c =
-    let start = c .before .before .before .before .before .before .before in
-    let q = keep-is (start .pre .0) (start .args .o) (start .args .order) (start .args .i) (c .enum-told .given .1) in
-    omega (arith, fits-as q (start .pre .4 .fits) .before-in)
+add-kept : tie.Need-add-kept
+add-kept c = omega (arith, after-in (c .before .before .before .before .before .before .before))
+
+cast-put-kept : tie.Need-cast-put-kept
+cast-put-kept c = omega (arith, after-in (c .before .before .before .before .before .before .before))
 
 mul-put-kept : tie.Need-mul-put-kept
 mul-put-kept c = search needs
@@ -63,8 +72,8 @@ mul-put-kept c = search needs
 shared-slice-read-put-kept : tie.Need-shared-slice-read-put-kept
 shared-slice-read-put-kept c = search needs
 
-cast-put-kept : tie.Need-cast-put-kept
-cast-put-kept c = omega (arith, c .shared-slice-known4 .given (1 + c .before .before .before .before .before .before .before .before .args .i))
+cast-put-kept-2 : tie.Need-cast-put-kept-2
+cast-put-kept-2 c = omega (arith, c .shared-slice-known4 .given (1 + c .before .before .before .before .before .before .before .before .args .i))
 
 put-kept-requires : tie.Need-put-kept-requires
 put-kept-requires c κs =
@@ -94,11 +103,22 @@ cast-w c = search needs
 add-w : tie.Need-add-w
 add-w c = search needs
 
+cast-following : tie.Need-cast-following
+cast-following c = omega (arith, after-in (c .before .before .before .before .before .before .before .before))
+
 cast-read-at : tie.Need-cast-read-at
 cast-read-at c = search needs
 
 read-at-requires : tie.Need-read-at-requires
 read-at-requires c κs = search needs
+
+cast-before : tie.Need-cast-before
+cast-before c =
+    let at-update2 = c .before .before in
+    let start = at-update2 .before .before .before .before .before .before .before in
+    let a = start .args in
+    let q = sum-is (start .pre .0) (a .o) (a .order) (a .i) _ _ (c .read-at .ensures) (start .pre .3) (at-update2 .update2 .given .1) in
+    omega (arith, fits-as q (start .pre .4 .fits) .before-in)
 
 mul-before : tie.Need-mul-before
 mul-before c = search needs
@@ -110,11 +130,16 @@ shared-slice-read-before c =
     let a = start .args in
     omega (arith, start .pre .0 .first-long, sum-in (start .pre .0) (a .o) (a .order) (a .i) _ _ (at-update2 .update2 .given .1) (start .pre .4))
 
-cast-before : tie.Need-cast-before
-cast-before c = omega (arith, c .shared-slice-known5 .given (1 + c .before .before .before .update2 .given .0 .0))
-
 add-before : tie.Need-add-before
 add-before c =
+    let at-update2 = c .before .before .before in
+    let start = at-update2 .before .before .before .before .before .before .before in
+    let a = start .args in
+    let q = sum-is (start .pre .0) (a .o) (a .order) (a .i) _ _ (c .before .read-at .ensures) (start .pre .3) (at-update2 .update2 .given .1) in
+    omega (arith, fits-as q (start .pre .4 .fits) .before-in)
+
+cast-put-shifted : tie.Need-cast-put-shifted
+cast-put-shifted c =
     let at-update2 = c .before .before .before in
     let start = at-update2 .before .before .before .before .before .before .before in
     let a = start .args in
@@ -131,8 +156,8 @@ shared-slice-read-put-shifted c =
     let a = start .args in
     omega (arith, start .pre .0 .size-long, sum-in (start .pre .0) (a .o) (a .order) (a .i) _ _ (at-update2 .update2 .given .1) (start .pre .4))
 
-cast-put-shifted : tie.Need-cast-put-shifted
-cast-put-shifted c = omega (arith, c .shared-slice-known6 .given (1 + c .before .before .before .before .update2 .given .0 .0))
+cast-put-shifted-2 : tie.Need-cast-put-shifted-2
+cast-put-shifted-2 c = omega (arith, c .shared-slice-known6 .given (1 + c .before .before .before .before .update2 .given .0 .0))
 
 put-shifted-requires : tie.Need-put-shifted-requires
 put-shifted-requires c κs =
@@ -191,7 +216,7 @@ returns-3 c =
 
 pub put-update-spec : {M : Type 1} → statement M
 put-update-spec =
-    tie.close (tie.spec add-g mul-place shared-slice-read-place cast-place add-next add-next-2 add-after enum-told add-put-kept mul-put-kept
-    shared-slice-read-put-kept cast-put-kept put-kept-requires enum-known-update put-constant-requires enum-known-update-2 cast-w add-w cast-read-at
-    read-at-requires mul-before shared-slice-read-before cast-before add-before mul-put-shifted shared-slice-read-put-shifted cast-put-shifted
-    put-shifted-requires same-length returns same-length-2 returns-2 same-length-3 returns-3)
+    tie.close (tie.spec add-g mul-place shared-slice-read-place cast-block cast-next add-next cast-next-2 add-next-2 add-after cast-after enum-told add-kept
+    cast-put-kept mul-put-kept shared-slice-read-put-kept cast-put-kept-2 put-kept-requires enum-known-update put-constant-requires enum-known-update-2
+    cast-w add-w cast-following cast-read-at read-at-requires cast-before mul-before shared-slice-read-before add-before cast-put-shifted mul-put-shifted
+    shared-slice-read-put-shifted cast-put-shifted-2 put-shifted-requires same-length returns same-length-2 returns-2 same-length-3 returns-3)

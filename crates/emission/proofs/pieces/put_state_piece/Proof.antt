@@ -14,32 +14,36 @@ use borrow.Author.Needs.{needs}
 use Rattle.emission.proofs.pieces.put_state_piece.Statement.{statement}
 use Rattle.emission.proofs.pieces.put_state_piece.Tie as tie
 
+cast-start : tie.Need-cast-start
+cast-start c = search needs
+
+mul-start : tie.Need-mul-start
+mul-start c = search needs
+
+shared-slice-read-start : tie.Need-shared-slice-read-start
+shared-slice-read-start c =
+    let start = c .before .before .before .before .before in
+    omega (arith, start .pre .1 .first-long, at-most-nine (start .pre .0))
+
+add-start : tie.Need-add-start
+add-start c =
+    let start = c .before .before .before .before .before in
+    let p = start .pre in
+    let g = start .args .piece in
+    omega (arith, p .2, first-at (p .1) g, known-in (p .0) g (c .before .if1 .taken))
+
+cast-put-group : tie.Need-cast-put-group
+cast-put-group c =
+    let start = c .before .before .before .before .before in
+    let p = start .pre in
+    let g = start .args .piece in
+    omega (arith, p .2, first-at (p .1) g, known-in (p .0) g (c .before .if1 .taken))
+
 mul-put-group : tie.Need-mul-put-group
 mul-put-group c = search needs
 
 shared-slice-read-put-group : tie.Need-shared-slice-read-put-group
 shared-slice-read-put-group c =
-    let start = c .before .before .before .before .before in
-    omega (arith, start .pre .1 .first-long, at-most-nine (start .pre .0))
-
-cast-put-group : tie.Need-cast-put-group
-cast-put-group c =
-    let start = c .before .before .before .before .before in
-    omega (arith, c .shared-slice-known3 .given (start .args .piece))
-
-add-put-group : tie.Need-add-put-group
-add-put-group c =
-    let first-test = c .before in
-    let start = first-test .before .before .before .before in
-    let p = start .pre in
-    let g = start .args .piece in
-    omega (arith, p .2, first-at (p .1) g, known-in (p .0) g (first-test .if1 .taken))
-
-mul-put-group-2 : tie.Need-mul-put-group-2
-mul-put-group-2 c = search needs
-
-shared-slice-read-put-group-2 : tie.Need-shared-slice-read-put-group-2
-shared-slice-read-put-group-2 c =
     let start = c .before .before .before .before .before .before in
     omega (arith, start .pre .1 .size-long, at-most-nine (start .pre .0))
 
@@ -80,8 +84,17 @@ array-copy-out-v c =
     let k = start .pre .0 in
     omega (arith, known-groups k, wf k .locations-le)
 
-add-put-atoms : tie.Need-add-put-atoms
-add-put-atoms c = search needs
+cast-x : tie.Need-cast-x
+cast-x c = search needs
+
+cast-x-2 : tie.Need-cast-x-2
+cast-x-2 c = search needs
+
+add-x : tie.Need-add-x
+add-x c = search needs
+
+cast-put-atoms : tie.Need-cast-put-atoms
+cast-put-atoms c = search needs
 
 put-atoms-requires : tie.Need-put-atoms-requires
 put-atoms-requires c κs =
@@ -115,5 +128,5 @@ returns-2 c =
 
 pub put-state-piece-spec : {M : Type 1} → statement M
 put-state-piece-spec =
-    tie.close (tie.spec mul-put-group shared-slice-read-put-group cast-put-group add-put-group mul-put-group-2 shared-slice-read-put-group-2
-    cast-put-group-2 put-group-requires same-length returns mul-v array-copy-out-v add-put-atoms put-atoms-requires same-length-2 returns-2)
+    tie.close (tie.spec cast-start mul-start shared-slice-read-start add-start cast-put-group mul-put-group shared-slice-read-put-group cast-put-group-2
+    put-group-requires same-length returns mul-v array-copy-out-v cast-x cast-x-2 add-x cast-put-atoms put-atoms-requires same-length-2 returns-2)

@@ -6,14 +6,14 @@ use borrow.Author.Needs.{needs}
 use Rattle.emission.proofs.rules.put_constant.Statement.{statement}
 use Rattle.emission.proofs.rules.put_constant.Tie as tie
 
-add-put-implication : tie.Need-add-put-implication
-add-put-implication c =
-    let args = c .before .args in
-    omega (
-      arith,
-      constant-reach (args .x) (args .after) (args .n) (args .greatest)
-          (c .if1 .taken),
-    )
+cast-set : tie.Need-cast-set
+cast-set c = search needs
+
+add-set : tie.Need-add-set
+add-set c = search needs
+
+cast-put-implication : tie.Need-cast-put-implication
+cast-put-implication c = search needs
 
 put-implication-requires : tie.Need-put-implication-requires
 put-implication-requires c κs =
@@ -45,4 +45,6 @@ returns-2 c =
     wrote-as (constant-out (a .x) (a .after) (a .n) (a .greatest) (c .before .before .before .if1 .left)) (c .before .put-negated-unit .ensures)
 
 pub put-constant-spec : {M : Type 1} → statement M
-put-constant-spec = tie.close (tie.spec add-put-implication put-implication-requires same-length returns put-negated-unit-requires same-length-2 returns-2)
+put-constant-spec =
+    tie.close (tie.spec cast-set add-set cast-put-implication put-implication-requires same-length returns put-negated-unit-requires same-length-2
+    returns-2)

@@ -19,8 +19,17 @@ abbrev μ-loop : tie.MeasureT-loop
 loop-holds : tie.Need-loop-holds Inv-loop μ-loop
 loop-holds c = (omega arith, wrote-each-none _ _ _ (omega (arith, c .pre .3 .words .room)))
 
-add-put-excluded-value : tie.Need-add-put-excluded-value Inv-loop μ-loop
-add-put-excluded-value c = search needs
+cast-member : tie.Need-cast-member Inv-loop μ-loop
+cast-member c = search needs
+
+cast-member-2 : tie.Need-cast-member-2 Inv-loop μ-loop
+cast-member-2 c = search needs
+
+add-member : tie.Need-add-member Inv-loop μ-loop
+add-member c = search needs
+
+cast-put-excluded-value : tie.Need-cast-put-excluded-value Inv-loop μ-loop
+cast-put-excluded-value c = search needs
 
 put-excluded-value-requires : tie.Need-put-excluded-value-requires Inv-loop μ-loop
 put-excluded-value-requires c κs =
@@ -47,4 +56,5 @@ returns c =
 
 pub put-excluded-spec : {M : Type 1} → statement M
 put-excluded-spec =
-    tie.close (tie.spec Inv-loop μ-loop loop-holds add-put-excluded-value put-excluded-value-requires add-v loop-less loop-again same-length returns)
+    tie.close (tie.spec Inv-loop μ-loop loop-holds cast-member cast-member-2 add-member cast-put-excluded-value put-excluded-value-requires add-v loop-less
+    loop-again same-length returns)

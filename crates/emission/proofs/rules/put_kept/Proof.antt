@@ -19,11 +19,29 @@ abbrev μ-loop : tie.MeasureT-loop
 loop-holds : tie.Need-loop-holds Inv-loop μ-loop
 loop-holds c = (omega arith, wrote-each-none _ _ _ (omega (arith, c .pre .3 .words .room)))
 
-add-put-joint-implication : tie.Need-add-put-joint-implication Inv-loop μ-loop
-add-put-joint-implication c = search needs
+cast-held : tie.Need-cast-held Inv-loop μ-loop
+cast-held c = search needs
 
-add-put-joint-implication-2 : tie.Need-add-put-joint-implication-2 Inv-loop μ-loop
-add-put-joint-implication-2 c = search needs
+cast-held-2 : tie.Need-cast-held-2 Inv-loop μ-loop
+cast-held-2 c = search needs
+
+add-held : tie.Need-add-held Inv-loop μ-loop
+add-held c = search needs
+
+cast-kept : tie.Need-cast-kept Inv-loop μ-loop
+cast-kept c = search needs
+
+cast-kept-2 : tie.Need-cast-kept-2 Inv-loop μ-loop
+cast-kept-2 c = search needs
+
+add-kept : tie.Need-add-kept Inv-loop μ-loop
+add-kept c = search needs
+
+cast-put-joint-implication : tie.Need-cast-put-joint-implication Inv-loop μ-loop
+cast-put-joint-implication c = search needs
+
+cast-put-joint-implication-2 : tie.Need-cast-put-joint-implication-2 Inv-loop μ-loop
+cast-put-joint-implication-2 c = search needs
 
 put-joint-implication-requires : tie.Need-put-joint-implication-requires Inv-loop μ-loop
 put-joint-implication-requires c κs =
@@ -50,5 +68,5 @@ returns c =
 
 pub put-kept-spec : {M : Type 1} → statement M
 put-kept-spec =
-    tie.close (tie.spec Inv-loop μ-loop loop-holds add-put-joint-implication add-put-joint-implication-2 put-joint-implication-requires add-v loop-less
-    loop-again same-length returns)
+    tie.close (tie.spec Inv-loop μ-loop loop-holds cast-held cast-held-2 add-held cast-kept cast-kept-2 add-kept cast-put-joint-implication
+    cast-put-joint-implication-2 put-joint-implication-requires add-v loop-less loop-again same-length returns)

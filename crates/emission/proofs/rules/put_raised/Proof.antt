@@ -20,8 +20,14 @@ abbrev μ-loop : tie.MeasureT-loop
 loop-holds : tie.Need-loop-holds Inv-loop μ-loop
 loop-holds c = (omega arith, wrote-each-none _ _ _ (omega (arith, c .pre .4 .words .room)))
 
-add-put-joint-implication : tie.Need-add-put-joint-implication Inv-loop μ-loop
-add-put-joint-implication c = search needs
+cast-shown : tie.Need-cast-shown Inv-loop μ-loop
+cast-shown c = search needs
+
+cast-shown-2 : tie.Need-cast-shown-2 Inv-loop μ-loop
+cast-shown-2 c = search needs
+
+add-shown : tie.Need-add-shown Inv-loop μ-loop
+add-shown c = search needs
 
 add-smaller : tie.Need-add-smaller Inv-loop μ-loop
 add-smaller c = search needs
@@ -29,8 +35,20 @@ add-smaller c = search needs
 smaller-requires : tie.Need-smaller-requires Inv-loop μ-loop
 smaller-requires c κs = search needs
 
-add-put-joint-implication-2 : tie.Need-add-put-joint-implication-2 Inv-loop μ-loop
-add-put-joint-implication-2 c = omega (arith, c .smaller .ensures)
+cast-raised : tie.Need-cast-raised Inv-loop μ-loop
+cast-raised c = search needs
+
+cast-raised-2 : tie.Need-cast-raised-2 Inv-loop μ-loop
+cast-raised-2 c = search needs
+
+add-raised : tie.Need-add-raised Inv-loop μ-loop
+add-raised c = search needs
+
+cast-put-joint-implication : tie.Need-cast-put-joint-implication Inv-loop μ-loop
+cast-put-joint-implication c = search needs
+
+cast-put-joint-implication-2 : tie.Need-cast-put-joint-implication-2 Inv-loop μ-loop
+cast-put-joint-implication-2 c = search needs
 
 put-joint-implication-requires : tie.Need-put-joint-implication-requires Inv-loop μ-loop
 put-joint-implication-requires c κs =
@@ -69,5 +87,6 @@ returns c =
 
 pub put-raised-spec : {M : Type 1} → statement M
 put-raised-spec =
-    tie.close (tie.spec Inv-loop μ-loop loop-holds add-put-joint-implication add-smaller smaller-requires add-put-joint-implication-2
-    put-joint-implication-requires add-v loop-less loop-again same-length returns)
+    tie.close (tie.spec Inv-loop μ-loop loop-holds cast-shown cast-shown-2 add-shown add-smaller smaller-requires
+    cast-raised cast-raised-2 add-raised cast-put-joint-implication cast-put-joint-implication-2 put-joint-implication-requires add-v loop-less loop-again
+    same-length returns)

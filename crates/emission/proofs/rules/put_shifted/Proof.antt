@@ -25,8 +25,17 @@ abbrev μ-loop : tie.MeasureT-loop
 loop-holds : tie.Need-loop-holds Inv-loop μ-loop
 loop-holds c = (omega arith, wrote-each-none _ _ _ (omega (arith, c .pre .4 .words .room)))
 
-add-put-shifted-value : tie.Need-add-put-shifted-value Inv-loop μ-loop
-add-put-shifted-value c = search needs
+cast-source : tie.Need-cast-source Inv-loop μ-loop
+cast-source c = search needs
+
+cast-source-2 : tie.Need-cast-source-2 Inv-loop μ-loop
+cast-source-2 c = search needs
+
+add-source : tie.Need-add-source Inv-loop μ-loop
+add-source c = search needs
+
+cast-put-shifted-value : tie.Need-cast-put-shifted-value Inv-loop μ-loop
+cast-put-shifted-value c = search needs
 
 put-shifted-value-requires : tie.Need-put-shifted-value-requires Inv-loop μ-loop
 put-shifted-value-requires c κs =
@@ -62,4 +71,5 @@ returns c =
 
 pub put-shifted-spec : {M : Type 1} → statement M
 put-shifted-spec =
-    tie.close (tie.spec Inv-loop μ-loop loop-holds add-put-shifted-value put-shifted-value-requires add-v loop-less loop-again same-length returns)
+    tie.close (tie.spec Inv-loop μ-loop loop-holds cast-source cast-source-2 add-source cast-put-shifted-value put-shifted-value-requires add-v loop-less
+    loop-again same-length returns)

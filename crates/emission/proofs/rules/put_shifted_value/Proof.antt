@@ -35,11 +35,17 @@ put-exclusion-requires c κs =
 enum-known-new : tie.Need-enum-known-new
 enum-known-new c = search needs
 
+cast-shifted : tie.Need-cast-shifted
+cast-shifted c = search needs
+
+cast-shifted-2 : tie.Need-cast-shifted-2
+cast-shifted-2 c = search needs
+
+add-shifted : tie.Need-add-shifted
+add-shifted c = search needs
+
 cast-put-joint-implication : tie.Need-cast-put-joint-implication
 cast-put-joint-implication c = search needs
-
-add-put-joint-implication : tie.Need-add-put-joint-implication
-add-put-joint-implication c = search needs
 
 put-joint-implication-requires : tie.Need-put-joint-implication-requires
 put-joint-implication-requires c κs =
@@ -85,5 +91,5 @@ returns-2 c =
 
 pub put-shifted-value-spec : {M : Type 1} → statement M
 put-shifted-value-spec =
-    tie.close (tie.spec cast-shift shift-requires enum-told put-exclusion-requires enum-known-new cast-put-joint-implication add-put-joint-implication
-    put-joint-implication-requires same-length returns same-length-2 returns-2)
+    tie.close (tie.spec cast-shift shift-requires enum-told put-exclusion-requires enum-known-new cast-shifted cast-shifted-2 add-shifted
+    cast-put-joint-implication put-joint-implication-requires same-length returns same-length-2 returns-2)

@@ -10,7 +10,8 @@ use Rattle.model.proofs.FormLaws.{stateSize-le}
 use Rattle.parts.proofs.KnownLaws.{wf, known-bounded, at-most-nine, known-initial, initial-piece-of}
 use Rattle.emission.proofs.TableLaws.{initialBy, initial-lent, initial-is, first-at}
 use mathlib.Core.Path.{_≡_, sym, ap, _∙_}
-use Prim.Native.Nat.{_-_, _≤_, ℕ, _+_}
+use Prim.Native.Nat.{_-_, _≤_, _<_, ℕ, _+_}
+use Rattle.parts.specs.Numbering.{mostVariables}
 use Rattle.emission.specs.Written.{WroteClauses}
 use Rattle.emission.proofs.ClauseLaws.{wrote-each, wrote-each-none, room-each, wrote-as, room-as}
 use Rattle.emission.proofs.start.put_initial.Statement.{statement}
@@ -36,11 +37,10 @@ shared-slice-read-put-unit c =
     let start = c .before .before .before .before .before .before in
     omega (arith, start .pre .1 .first-long, at-most-nine (start .pre .0))
 
-cast-put-unit : tie.Need-cast-put-unit Inv-loop μ-loop
-cast-put-unit c = omega (arith, c .shared-slice-known3 .given (c .before .before .before .loop .g))
-
-add-put-unit : tie.Need-add-put-unit Inv-loop μ-loop
-add-put-unit c =
+-- the member lies below the most variables
+member-in : (c : tie.After-shared-slice-known3 Inv-loop μ-loop) → let turn = c .before .before .before in
+    getD (now (turn .before .before .before .args .first)) (turn .loop .g) 0 + c .before .initial-value .result < mostVariables
+member-in c =
     let at-loop-test = c .before .before in
     let turn = at-loop-test .before in
     let start = turn .before .before .before in
@@ -54,6 +54,15 @@ add-put-unit c =
       known-initial k g (at-loop-test .loop-test .taken),
       stateSize-le _ (wf k),
     )
+
+cast-put-unit : tie.Need-cast-put-unit Inv-loop μ-loop
+cast-put-unit c = omega (arith, member-in c)
+
+add-put-unit : tie.Need-add-put-unit Inv-loop μ-loop
+add-put-unit c = omega (arith, member-in c)
+
+cast-put-unit-2 : tie.Need-cast-put-unit-2 Inv-loop μ-loop
+cast-put-unit-2 c = omega (arith, member-in c)
 
 put-unit-requires : tie.Need-put-unit-requires Inv-loop μ-loop
 put-unit-requires c κs =
@@ -96,5 +105,5 @@ returns c =
 
 pub put-initial-spec : {M : Type 1} → statement M
 put-initial-spec =
-    tie.close (tie.spec Inv-loop μ-loop loop-holds initial-value-requires mul-put-unit shared-slice-read-put-unit cast-put-unit add-put-unit put-unit-requires
-    add-g loop-less loop-again same-length returns)
+    tie.close (tie.spec Inv-loop μ-loop loop-holds initial-value-requires mul-put-unit shared-slice-read-put-unit cast-put-unit add-put-unit cast-put-unit-2
+    put-unit-requires add-g loop-less loop-again same-length returns)

@@ -20,11 +20,6 @@ use Rattle.emission.proofs.state.put_atom.Tie as tie
 abbrev table : tie.Start → GroupTable
 table c = atomTable (c .args .vars) (now (c .args .first)) (now (c .args .size))
 
-compared-requires : tie.Need-compared-requires
-compared-requires c κs =
-    let start = c .before .before in
-    group-in (start .args .atom) (start .pre .2)
-
 -- the table has the group
 in-table : (c : tie.After-compared) → c .compared .result .group < 9
 in-table c =
@@ -42,6 +37,11 @@ part c =
     → atomPart (table start) (a .o) (a .atom) ≡ excludeBy (now (a .first)) (now (a .size)) (a .o) (x .group) (x .relation) (x .constant) in
     subst P (sym (at-compared .compared .ensures)) (compared-is (start .pre .0) (a .o) (a .atom)) (c .if1 .left)
 
+compared-requires : tie.Need-compared-requires
+compared-requires c κs =
+    let start = c .before .before in
+    group-in (start .args .atom) (start .pre .2)
+
 returns : tie.Need-returns
 returns c =
     let at-compared = c .before in
@@ -49,6 +49,11 @@ returns c =
     let a = start .args in
     let none = subst (λ (x : Comparison). x .group ≡ 0) (at-compared .compared .ensures) (c .if1 .taken) in
     wrote-as (blank-is (table start) (a .x) (a .o) (a .atom) none) (wrote-none _ _ (omega (arith, start .pre .3 .words .room)))
+
+cast-before : tie.Need-cast-before
+cast-before c =
+    let start = c .before .before .before .before in
+    omega (arith, fits-as (part c) (start .pre .2 .fits) .before-in)
 
 mul-before : tie.Need-mul-before
 mul-before c = omega (arith, in-table (c .before))
@@ -59,11 +64,13 @@ shared-slice-read-before c =
     let start = at-compared .before .before .before in
     omega (arith, start .pre .0 .first-long, in-table at-compared)
 
-cast-before : tie.Need-cast-before
-cast-before c = omega (arith, c .shared-slice-known3 .given (c .before .before .compared .result .group))
-
 add-before : tie.Need-add-before
 add-before c =
+    let start = c .before .before .before .before .before in
+    omega (arith, fits-as (part (c .before)) (start .pre .2 .fits) .before-in)
+
+cast-before-2 : tie.Need-cast-before-2
+cast-before-2 c =
     let start = c .before .before .before .before .before in
     omega (arith, fits-as (part (c .before)) (start .pre .2 .fits) .before-in)
 
@@ -98,5 +105,5 @@ returns-2 c =
 
 pub put-atom-spec : {M : Type 1} → statement M
 put-atom-spec =
-    tie.close (tie.spec compared-requires returns mul-before shared-slice-read-before cast-before add-before mul-put-excluded shared-slice-read-put-excluded
-    cast-put-excluded put-excluded-requires same-length returns-2)
+    tie.close (tie.spec compared-requires returns cast-before mul-before shared-slice-read-before add-before cast-before-2 mul-put-excluded
+    shared-slice-read-put-excluded cast-put-excluded put-excluded-requires same-length returns-2)

@@ -19,28 +19,36 @@ abbrev μ-loop : tie.MeasureT-loop
 loop-holds : tie.Need-loop-holds Inv-loop μ-loop
 loop-holds c = (omega arith, wrote-each-none _ _ _ (omega (arith, c .before .before .pre .2 .words .room)))
 
+cast-start : tie.Need-cast-start Inv-loop μ-loop
+cast-start c =
+    let start = c .before .before .before .before in
+    omega (arith, start .pre .1 .group-in (c .before .loop .g) (c .loop-test .taken))
+
+mul-start : tie.Need-mul-start Inv-loop μ-loop
+mul-start c = search needs
+
+shared-slice-read-start : tie.Need-shared-slice-read-start Inv-loop μ-loop
+shared-slice-read-start c =
+    let start = c .before .before .before .before .before in
+    omega (arith, start .pre .0 .first-long, start .pre .1 .groups-le)
+
+add-start : tie.Need-add-start Inv-loop μ-loop
+add-start c =
+    let turn = c .before .before in
+    let start = turn .before .before .before in
+    omega (arith, first-at (start .pre .0) (turn .loop .g), start .pre .1 .group-in (turn .loop .g) (c .before .loop-test .taken))
+
+cast-put-group : tie.Need-cast-put-group Inv-loop μ-loop
+cast-put-group c =
+    let turn = c .before .before in
+    let start = turn .before .before .before in
+    omega (arith, first-at (start .pre .0) (turn .loop .g), start .pre .1 .group-in (turn .loop .g) (c .before .loop-test .taken))
+
 mul-put-group : tie.Need-mul-put-group Inv-loop μ-loop
 mul-put-group c = search needs
 
 shared-slice-read-put-group : tie.Need-shared-slice-read-put-group Inv-loop μ-loop
 shared-slice-read-put-group c =
-    let start = c .before .before .before .before .before in
-    omega (arith, start .pre .0 .first-long, start .pre .1 .groups-le)
-
-cast-put-group : tie.Need-cast-put-group Inv-loop μ-loop
-cast-put-group c = omega (arith, c .shared-slice-known3 .given (c .before .before .loop .g))
-
-add-put-group : tie.Need-add-put-group Inv-loop μ-loop
-add-put-group c =
-    let turn = c .before .before in
-    let start = turn .before .before .before in
-    omega (arith, first-at (start .pre .0) (turn .loop .g), start .pre .1 .group-in (turn .loop .g) (c .before .loop-test .taken))
-
-mul-put-group-2 : tie.Need-mul-put-group-2 Inv-loop μ-loop
-mul-put-group-2 c = search needs
-
-shared-slice-read-put-group-2 : tie.Need-shared-slice-read-put-group-2 Inv-loop μ-loop
-shared-slice-read-put-group-2 c =
     let start = c .before .before .before .before .before .before in
     omega (arith, start .pre .0 .size-long, start .pre .1 .groups-le)
 
@@ -78,5 +86,5 @@ returns c =
 
 pub put-groups-spec : {M : Type 1} → statement M
 put-groups-spec =
-    tie.close (tie.spec Inv-loop μ-loop loop-holds mul-put-group shared-slice-read-put-group cast-put-group add-put-group mul-put-group-2
-    shared-slice-read-put-group-2 cast-put-group-2 put-group-requires add-g loop-less loop-again same-length returns)
+    tie.close (tie.spec Inv-loop μ-loop loop-holds cast-start mul-start shared-slice-read-start add-start cast-put-group mul-put-group
+    shared-slice-read-put-group cast-put-group-2 put-group-requires add-g loop-less loop-again same-length returns)

@@ -39,8 +39,23 @@ array-copy-out-v c =
     let start = c .before .before .before .before .before in
     omega (arith, size-at (start .pre .0) 0, start .pre .1 .locations-le)
 
-add-put-atoms : tie.Need-add-put-atoms Inv-loop μ-loop
-add-put-atoms c =
+cast-x : tie.Need-cast-x Inv-loop μ-loop
+cast-x c =
+    let start = c .before .before .before .before .before .before .before in
+    omega (arith, size-at (start .pre .0) 0, start .pre .1 .locations-in)
+
+cast-x-2 : tie.Need-cast-x-2 Inv-loop μ-loop
+cast-x-2 c =
+    let start = c .before .before .before .before .before .before .before in
+    omega (arith, size-at (start .pre .0) 0, start .pre .1 .locations-in)
+
+add-x : tie.Need-add-x Inv-loop μ-loop
+add-x c =
+    let start = c .before .before .before .before .before .before .before in
+    omega (arith, size-at (start .pre .0) 0, start .pre .1 .locations-in)
+
+cast-put-atoms : tie.Need-cast-put-atoms Inv-loop μ-loop
+cast-put-atoms c =
     let start = c .before .before .before .before .before .before .before in
     omega (arith, size-at (start .pre .0) 0, start .pre .1 .locations-in)
 
@@ -86,5 +101,5 @@ returns c =
 
 pub put-invariants-spec : {M : Type 1} → statement M
 put-invariants-spec =
-    tie.close (tie.spec Inv-loop μ-loop shared-slice-read-l-end cast-l-end loop-holds mul-v array-copy-out-v add-put-atoms put-atoms-requires add-l loop-less
-    loop-again same-length returns)
+    tie.close (tie.spec Inv-loop μ-loop shared-slice-read-l-end cast-l-end loop-holds mul-v array-copy-out-v cast-x cast-x-2 add-x cast-put-atoms
+    put-atoms-requires add-l loop-less loop-again same-length returns)

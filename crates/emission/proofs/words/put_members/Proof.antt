@@ -26,8 +26,17 @@ room c = omega (arith, c .pre .1 .words .room, size-members (c .args .b) (c .arg
 loop-holds : tie.Need-loop-holds Inv-loop μ-loop
 loop-holds c = (search needs, search needs, rw (members-none (c .args .b)) (wrote-none _ _ (omega (arith, room c))))
 
+cast-positive : tie.Need-cast-positive Inv-loop μ-loop
+cast-positive c = search needs
+
+cast-positive-2 : tie.Need-cast-positive-2 Inv-loop μ-loop
+cast-positive-2 c = search needs
+
 add-positive : tie.Need-add-positive Inv-loop μ-loop
 add-positive c = search needs
+
+cast-positive-3 : tie.Need-cast-positive-3 Inv-loop μ-loop
+cast-positive-3 c = search needs
 
 positive-requires : tie.Need-positive-requires Inv-loop μ-loop
 positive-requires c κs = search needs
@@ -76,5 +85,5 @@ returns c =
 
 pub put-members-spec : {M : Type 1} → statement M
 put-members-spec =
-    tie.close (tie.spec Inv-loop μ-loop loop-holds add-positive positive-requires mul-w slice-set-from-w add-end add-v loop-less loop-again mul-out
-    slice-set-of-out add-result same-length returns)
+    tie.close (tie.spec Inv-loop μ-loop loop-holds cast-positive cast-positive-2 add-positive cast-positive-3 positive-requires mul-w slice-set-from-w
+    add-end add-v loop-less loop-again mul-out slice-set-of-out add-result same-length returns)

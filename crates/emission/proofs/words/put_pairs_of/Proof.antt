@@ -25,17 +25,29 @@ sub-j-end c = search needs
 loop-holds : tie.Need-loop-holds Inv-loop μ-loop
 loop-holds c = (omega arith, wrote-each-none _ _ _ (omega (arith, c .pre .2 .words .room)))
 
-add-put-exclusion : tie.Need-add-put-exclusion Inv-loop μ-loop
-add-put-exclusion c = search needs
+cast-x : tie.Need-cast-x Inv-loop μ-loop
+cast-x c = search needs
 
-add-put-exclusion-2 : tie.Need-add-put-exclusion-2 Inv-loop μ-loop
-add-put-exclusion-2 c = search needs
+cast-x-2 : tie.Need-cast-x-2 Inv-loop μ-loop
+cast-x-2 c = search needs
 
-add-put-exclusion-3 : tie.Need-add-put-exclusion-3 Inv-loop μ-loop
-add-put-exclusion-3 c = search needs
+add-x : tie.Need-add-x Inv-loop μ-loop
+add-x c = search needs
 
-add-put-exclusion-4 : tie.Need-add-put-exclusion-4 Inv-loop μ-loop
-add-put-exclusion-4 c = search needs
+add-y : tie.Need-add-y Inv-loop μ-loop
+add-y c = search needs
+
+cast-y : tie.Need-cast-y Inv-loop μ-loop
+cast-y c = search needs
+
+add-y-2 : tie.Need-add-y-2 Inv-loop μ-loop
+add-y-2 c = search needs
+
+cast-put-exclusion : tie.Need-cast-put-exclusion Inv-loop μ-loop
+cast-put-exclusion c = search needs
+
+cast-put-exclusion-2 : tie.Need-cast-put-exclusion-2 Inv-loop μ-loop
+cast-put-exclusion-2 c = search needs
 
 put-exclusion-requires : tie.Need-put-exclusion-requires Inv-loop μ-loop
 put-exclusion-requires c κs =
@@ -62,5 +74,5 @@ returns c =
 
 pub put-pairs-of-spec : {M : Type 1} → statement M
 put-pairs-of-spec =
-    tie.close (tie.spec Inv-loop μ-loop add-j-end sub-j-end loop-holds add-put-exclusion add-put-exclusion-2 add-put-exclusion-3 add-put-exclusion-4
+    tie.close (tie.spec Inv-loop μ-loop add-j-end sub-j-end loop-holds cast-x cast-x-2 add-x add-y cast-y add-y-2 cast-put-exclusion cast-put-exclusion-2
     put-exclusion-requires add-j loop-less loop-again same-length returns)

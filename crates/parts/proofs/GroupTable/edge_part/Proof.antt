@@ -16,11 +16,23 @@ returns : tie.Need-returns
 unfolding edgePart
 returns c = rw (eq-eqb (c .before .before .args .j) 0 (c .if1 .taken))
 
-add-t26 : tie.Need-add-t26
-add-t26 c = search needs
+cast-t25 : tie.Need-cast-t25
+cast-t25 c = search needs
+
+cast-t27 : tie.Need-cast-t27
+cast-t27 c = search needs
 
 add-t28 : tie.Need-add-t28
 add-t28 c = search needs
+
+cast-t30 : tie.Need-cast-t30
+cast-t30 c = search needs
+
+add-t31 : tie.Need-add-t31
+add-t31 c = search needs
+
+cast-t32 : tie.Need-cast-t32
+cast-t32 c = search needs
 
 returns-2 : tie.Need-returns-2
 unfolding edgePart
@@ -93,5 +105,6 @@ returns-5 c =
 
 pub edge-part-spec : {M : Type 1} → statement M
 edge-part-spec =
-    tie.close (tie.spec element-copy-out-locations cast-locations returns add-t26 add-t28 returns-2 sub-s mul-s element-copy-out-s atom-part-requires returns-3
-    mul-s-2 element-copy-out-s-2 update-part-requires returns-4 sub-x element-copy-out-s-3 reset-part-requires returns-5)
+    tie.close (tie.spec element-copy-out-locations cast-locations returns cast-t25 cast-t27 add-t28 cast-t30 add-t31 cast-t32 returns-2 sub-s mul-s
+    element-copy-out-s atom-part-requires returns-3 mul-s-2 element-copy-out-s-2 update-part-requires returns-4 sub-x element-copy-out-s-3
+    reset-part-requires returns-5)

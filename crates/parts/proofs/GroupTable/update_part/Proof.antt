@@ -49,14 +49,26 @@ set-part-requires c κs = search needs
 enum-known-update-2 : tie.Need-enum-known-update-2
 enum-known-update-2 c = search needs
 
+cast-next : tie.Need-cast-next
+cast-next c = search needs
+
+cast-next-2 : tie.Need-cast-next-2
+cast-next-2 c = search needs
+
+add-next : tie.Need-add-next
+add-next c = search needs
+
+cast-next-3 : tie.Need-cast-next-3
+cast-next-3 c = search needs
+
+add-next-2 : tie.Need-add-next-2
+add-next-2 c = search needs
+
 cast-read-at : tie.Need-cast-read-at
 cast-read-at c = search needs
 
-add-read-at : tie.Need-add-read-at
-add-read-at c = search needs
-
-add-read-at-2 : tie.Need-add-read-at-2
-add-read-at-2 c = search needs
+cast-read-at-2 : tie.Need-cast-read-at-2
+cast-read-at-2 c = search needs
 
 read-at-requires : tie.Need-read-at-requires
 read-at-requires c κs = search needs
@@ -105,6 +117,6 @@ returns-3 c =
 
 pub update-part-spec : {M : Type 1} → statement M
 update-part-spec =
-    tie.close (tie.spec enum-told add-leads-part add-leads-part-2 leads-part-requires enum-known-update add-set-part constant-rule-requires set-part-requires
-    enum-known-update-2 cast-read-at add-read-at add-read-at-2 read-at-requires cast-w add-w shift-rule-requires add-leads-part-3 leads-part-requires-2
-    returns returns-2 returns-3)
+    tie.close (tie.spec enum-told add-leads-part add-leads-part-2 leads-part-requires enum-known-update add-set-part constant-rule-requires
+    set-part-requires enum-known-update-2 cast-next cast-next-2 add-next cast-next-3 add-next-2 cast-read-at cast-read-at-2 read-at-requires cast-w add-w
+    shift-rule-requires add-leads-part-3 leads-part-requires-2 returns returns-2 returns-3)
