@@ -19,7 +19,7 @@ use Rattle.list.proofs.ListLaws.{each-cong, list-cong}
 use Rattle.list.proofs.Layouts.{offset-le}
 use Rattle.list.proofs.OneHot.{OneHot, state-width-is}
 use Rattle.parts.specs.StateBlock.{componentAt}
-use Rattle.parts.specs.Numbering.{variableNumber, stateNumber, choiceNumber, stateNumbers, choiceNumbers, numbersInOrder, SixteenBits}
+use Rattle.parts.specs.Numbering.{variableNumber, mostVariables, stateNumber, choiceNumber, stateNumbers, choiceNumbers, numbersInOrder, SixteenBits}
 use Rattle.parts.proofs.GroupLaws.{over-groups, begins-is, block-is}
 use Rattle.parts.proofs.NumberingLaws.{state-number, choice-number, in-sixteen-bits}
 
@@ -55,11 +55,7 @@ module _ (m : Model) where
   abbrev H : ℕ
   H = choices m
 
-  -- a place further on has a number as much greater
-  number-add : (t p i : ℕ) → variableNumber m t (p + i) ≡ variableNumber m t p + i
-  unfolding variableNumber
-  number-add t p i = omega arith
-
+  -- a place has a number as much greater than that of the block's first place
   number-from : (t p : ℕ) → variableNumber m t p ≡ variableNumber m t 0 + p
   unfolding variableNumber
   number-from t p = omega arith
@@ -100,7 +96,7 @@ module _ (m : Model) where
 
   choice-in-order : (t : ℕ) → choiceNumbers m t ≡ upFrom (variableNumber m t S) H
   unfolding choiceNumbers
-  choice-in-order t = list-cong (choiceNumber m t) (λ i. variableNumber m t S + i) H (λ i p. number-add t S i)
+  choice-in-order t = list-cong (choiceNumber m t) (λ i. variableNumber m t S + i) H (λ i p. number-from t (S + i) ∙ omega (arith, number-from t S))
 
   -- ---- all members
   step-in-order : (t : ℕ) → choiceNumbers m t ++ stateNumbers m (t + 1) ≡ upFrom (1 + S + sumBelow (λ _. H + S) t) (H + S)
@@ -124,11 +120,11 @@ module _ (m : Model) where
 
   module _ (ok : T (wellFormed m)) where
     -- a place in the block of state t, and one in the choice block of step t + 1
-    most-state : (t p : ℕ) → t ≤ 64 → p < S → variableNumber m t p ≤ 21776
+    most-state : (t p : ℕ) → t ≤ 64 → p < S → variableNumber m t p ≤ mostVariables
     unfolding variableNumber
     most-state t p h l = omega (arith, variables-is m t, variables-le m (formed m ok) t h)
 
-    most-choice : (t c : ℕ) → t < 64 → c < H → variableNumber m t (S + c) ≤ 21776
+    most-choice : (t c : ℕ) → t < 64 → c < H → variableNumber m t (S + c) ≤ mostVariables
     unfolding variableNumber
     most-choice t c h l = omega (arith, variables-is m (t + 1), variables-le m (formed m ok) (t + 1) (omega arith), suc-mul t (S + H))
 
