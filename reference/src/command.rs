@@ -11,6 +11,7 @@ use reference::gen::cases::{case, KINDS};
 use reference::gen::script::{script, Script};
 use reference::list::{digest, emit, totals, visit_clauses, Flow};
 use reference::model::{variables, well_formed, Model};
+use reference::output::{output_to_assignment, SATISFIABLE};
 use reference::refusal::Refusal;
 use reference::search::{count_runs, shortest, visit_runs, Shortest};
 use reference::size::sizes;
@@ -38,6 +39,7 @@ reference walk BYTES..       the walker's answer for a run (no bytes: the empty 
 reference encode BYTES..     the walker's answer for a run, and its assignment
 reference decode BOUND VALUES..
                              answer for an assignment, and its run
+reference output VARIABLES   a solver's output in, the answer of its reading for so many variables, and the assignment
 reference runs BOUND         every run of BOUND steps, one a line
 reference count BOUND        the number of runs of BOUND steps
 reference shortest           the length of a shortest run up to 64, or none
@@ -47,7 +49,7 @@ reference script SEED COUNT  input for a program that answers questions about re
 reference answers SEED COUNT what that program must write
 reference help               this page
 
-All but size, cnf, gen, script, answers and help read a model text on standard input; a text that is refused gives
+All but size, cnf, output, gen, script, answers and help read a model text on standard input; a text that is refused gives
 its number and line. BYTES and VALUES are decimal numbers 0 to 255. `count` and `shortest`
 say unknown where a search would keep more than two million states, or the number needs more
 than 128 bits.
@@ -94,6 +96,7 @@ pub fn perform(arguments: &[String], out: &mut dyn Write) -> Done {
         ["walk", run @ ..] => show_walk(&bytes(run)?, out),
         ["encode", run @ ..] => show_encoding(&bytes(run)?, out),
         ["decode", bound, values @ ..] => show_decoding(number(bound)?, &bytes(values)?, out),
+        ["output", variables] => show_output(number(variables)?, out),
         ["runs", bound] => show_runs(number(bound)?, out),
         ["count", bound] => show_count(number(bound)?, out),
         ["shortest"] => show_shortest(out),
@@ -257,6 +260,16 @@ fn show_decoding(bound: usize, assignment: &[u8], out: &mut dyn Write) -> Done {
         }
         Ok(())
     })
+}
+
+fn show_output(variables: usize, out: &mut dyn Write) -> Done {
+    let mut assignment = vec![0; variables];
+    let reading = output_to_assignment(&input()?, &mut assignment);
+    writeln!(out, "refusal={}\nline={}\noutcome={}", reading.refusal, reading.line, reading.outcome)?;
+    if reading.outcome == SATISFIABLE {
+        writeln!(out, "assignment={}", spaced(&assignment))?;
+    }
+    Ok(())
 }
 
 fn show_runs(bound: usize, out: &mut dyn Write) -> Done {

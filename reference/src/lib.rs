@@ -13,6 +13,7 @@
 //! | [`list`] | the clause list, its totals, its emission |
 //! | [`dimacs`] | the list's DIMACS file, written to a lent buffer |
 //! | [`assign`] | assignment to run and run to assignment |
+//! | [`output`] | what a solver prints, read to an assignment |
 //! | [`search`] | shortest run, number of runs, all runs, by walking states |
 //! | [`solve`] | all satisfying assignments of a small list, by backtracking |
 //! | [`size`] | the size program |
@@ -30,6 +31,7 @@ pub mod gen;
 pub mod list;
 pub mod model;
 pub mod numbering;
+pub mod output;
 pub mod refusal;
 pub mod search;
 pub mod size;

@@ -46,6 +46,12 @@ pub const NOT_TARGET: u32 = 30;
 pub const ASSIGNMENT_SHORT: u32 = 31;
 /// Byte buffer shorter than the file.
 pub const BYTES_SHORT: u32 = 32;
+/// A line of a solver's output of no form, or out of place.
+pub const WRONG_OUTPUT_LINE: u32 = 33;
+/// A literal's variable above the buffer's length, or named before.
+pub const WRONG_VARIABLE: u32 = 34;
+/// The closing 0 with a variable unnamed, or an end without it or without `s`.
+pub const NOT_ALL_NAMED: u32 = 35;
 
 /// A refusal: its number in the table, and its place (a line, a step or an
 /// index), which is 0 where the table names none.

@@ -8,9 +8,10 @@ use reference::flat;
 use reference::gen::cases::{case, KINDS};
 use reference::gen::models::{self, Size};
 use reference::gen::rng::Rng;
-use reference::gen::{records, runs, texts};
+use reference::gen::{outputs, records, runs, texts};
 use reference::list::{emit, totals};
 use reference::model::{variables, well_formed, MAX_BOUND};
+use reference::output::{output_to_assignment, read_output};
 use reference::size::sizes;
 use reference::step::{step_call, walk};
 use reference::text::{read, write};
@@ -139,4 +140,29 @@ fn assignments_meet_every_refusal() {
         }
     }
     assert_eq!(met, [0, 21, 23, 24, 25, 26].into());
+}
+
+#[test]
+fn outputs_meet_every_refusal_and_both_outcomes() {
+    let mut met = BTreeSet::new();
+    for seed in 0..5_000 {
+        let (output, variables) = outputs::output(&mut Rng::new(seed));
+        let mut assignment = vec![7; variables];
+        let reading = output_to_assignment(&output, &mut assignment);
+        met.insert((reading.refusal, reading.outcome));
+        assert_eq!(reading.line > 0, reading.refusal > 0);
+        let expected = if reading.outcome == 10 { 0..=1 } else { 7..=7 };
+        assert!(assignment.iter().all(|byte| expected.contains(byte)));
+    }
+    assert_eq!(met, [(0, 10), (0, 20), (33, 0), (34, 0), (35, 0)].into());
+}
+
+#[test]
+fn undamaged_outputs_are_accepted() {
+    for seed in 0..1_000 {
+        let mut rng = Rng::new(seed);
+        let variables = rng.below(200);
+        let output = outputs::right(&mut rng, variables);
+        assert!(read_output(&output, variables).is_ok(), "seed {seed}");
+    }
 }

@@ -87,6 +87,15 @@ fn assignments() {
 }
 
 #[test]
+fn outputs() {
+    let satisfiable = "s SATISFIABLE\nv 1 -2 0\n";
+    assert_eq!(output("output 2", satisfiable), "refusal=0\nline=0\noutcome=10\nassignment=1 0\n");
+    assert_eq!(output("output 3", satisfiable), "refusal=35\nline=2\noutcome=0\n");
+    assert_eq!(output("output 3", "s UNSATISFIABLE\n"), "refusal=0\nline=0\noutcome=20\n");
+    assert!(output("gen 7 1 output", "").starts_with("seed=7 output="));
+}
+
+#[test]
 fn generated_models_are_read_back() {
     let text = output("gen 7 1 model", "");
     assert!(output("totals 3", &text).starts_with("variables="));

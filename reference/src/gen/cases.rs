@@ -4,18 +4,19 @@
 //! single case can be made again. Bytes and records are in hexadecimal; for
 //! records see [`crate::flat`].
 
-use super::{models, records, rng::Rng, runs, texts};
+use super::{models, outputs, records, rng::Rng, runs, texts};
 use crate::assign::{assignment_of, run_of};
 use crate::flat::{bytes, hex};
 use crate::list::{digest, totals};
 use crate::model::{well_formed, MAX_BOUND};
+use crate::output::{output_to_assignment, SATISFIABLE};
 use crate::refusal::number_and_place;
 use crate::size::sizes;
 use crate::step::{step_call, walk};
 use crate::text::{read, write};
 
 /// The kinds of cases, with what a line holds.
-pub const KINDS: [(&str, &str); 8] = [
+pub const KINDS: [(&str, &str); 9] = [
     ("model", "well-formed model texts, plain, parted by an empty line"),
     ("text", "text; refusal, line and record of its reading"),
     ("size", "input of the size program; its five numbers"),
@@ -24,6 +25,7 @@ pub const KINDS: [(&str, &str); 8] = [
     ("step", "record, state, byte; refusal and state of the step call"),
     ("run", "record, run; the walker's refusal and place, and the assignment"),
     ("assignment", "record, bound, assignment; refusal, place and run"),
+    ("output", "a solver's output, variables; refusal, line, outcome and assignment"),
 ];
 
 /// The case of a kind and a seed; none if there is no such kind.
@@ -38,6 +40,7 @@ pub fn case(kind: &str, seed: u64) -> Option<String> {
         "step" => step_case(&mut rng),
         "run" => run_case(&mut rng),
         "assignment" => assignment_case(&mut rng),
+        "output" => output_case(&mut rng),
         _ => return None,
     };
     Some(format!("seed={seed} {fields}\n"))
@@ -107,5 +110,20 @@ fn assignment_case(rng: &mut Rng) -> String {
         hex(&bytes(&model)),
         hex(&assignment),
         hex(&outcome.unwrap_or_default())
+    )
+}
+
+fn output_case(rng: &mut Rng) -> String {
+    let (output, variables) = outputs::output(rng);
+    let mut assignment = vec![0; variables];
+    let reading = output_to_assignment(&output, &mut assignment);
+    let written = if reading.outcome == SATISFIABLE { &assignment[..] } else { &[] };
+    format!(
+        "output={} variables={variables} refusal={} line={} outcome={} assignment={}",
+        hex(&output),
+        reading.refusal,
+        reading.line,
+        reading.outcome,
+        hex(written)
     )
 }

@@ -3,6 +3,7 @@
 
 pub mod cases;
 pub mod models;
+pub mod outputs;
 pub mod records;
 pub mod rng;
 pub mod runs;
