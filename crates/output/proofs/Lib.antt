@@ -1,0 +1,15 @@
+pub mod Parts
+pub mod ByteLaws
+pub mod WordLaws
+pub mod LineLaws
+pub mod TokenLaws
+pub mod NamedLaws
+pub mod CapLaws
+pub mod CountLaws
+pub mod LiteralLaws
+pub mod WindowLaws
+pub mod FinishLaws
+pub mod CallLaws
+pub mod Claims
+pub mod Worked
+pub mod ReadBack

@@ -1,0 +1,9 @@
+pub mod Literals
+pub mod Lines
+pub mod Tokens
+pub mod OutputCall
+pub mod Named
+pub mod Counting
+pub mod Placing
+pub mod Cases
+pub mod Written
