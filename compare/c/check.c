@@ -46,6 +46,13 @@ void check_file(const char *name, struct wirdoku_file found, uint8_t number, siz
         printf("    expected %d %zu %zu, found %d %zu %zu\n", number, line, bytes, found.number, found.line, found.bytes);
 }
 
+void check_output(const char *name, struct wirdoku_output found, uint8_t number, size_t line, uint8_t outcome) {
+    int holds = found.number == number && found.line == line && found.outcome == outcome;
+    check(name, holds);
+    if (!holds)
+        printf("    expected %d %zu %d, found %d %zu %d\n", number, line, outcome, found.number, found.line, found.outcome);
+}
+
 static void print_shape(const char *word, struct wirdoku_shape s) {
     printf("    %s %d %zu %d %d %d %d %d %d %zu %zu %zu\n", word, s.number, s.line, s.locations, s.initial, s.target, s.clocks, s.counters,
            s.edges, s.ceiling, s.state, s.choices);
@@ -139,11 +146,17 @@ struct text two_counters(const char *set) {
     return with_line(with_line(file_text("models/a.txt"), 5, "vars=2\nvar=1,0\nvar=1,0"), 14, set);
 }
 
-struct text line_feeds(size_t count) {
-    uint8_t *bytes = block(count);
-    memset(bytes, '\n', count);
-    struct text made = {bytes, count};
+struct text repeated(const char *string, size_t count) {
+    size_t length = strlen(string);
+    uint8_t *bytes = block(count * length);
+    for (size_t i = 0; i < count; i++)
+        memcpy(bytes + i * length, string, length);
+    struct text made = {bytes, count * length};
     return made;
+}
+
+struct text line_feeds(size_t count) {
+    return repeated("\n", count);
 }
 
 struct text declaring(unsigned locations, unsigned clocks, unsigned counters, unsigned greatest, unsigned edges, const char *atoms) {

@@ -8,6 +8,7 @@ void check(const char *name, int holds);
 void check_answer(const char *name, struct wirdoku_answer found, uint8_t number, size_t place);
 void check_sizes(const char *name, struct wirdoku_sizes found, uint8_t number, size_t line, size_t variables, size_t clauses, size_t words);
 void check_file(const char *name, struct wirdoku_file found, uint8_t number, size_t line, size_t bytes);
+void check_output(const char *name, struct wirdoku_output found, uint8_t number, size_t line, uint8_t outcome);
 void check_shape(const char *name, struct wirdoku_shape found, struct wirdoku_shape expected);
 void check_state(const char *name, struct wirdoku_state_answer found, uint8_t number, size_t line, struct wirdoku_state state);
 
@@ -30,6 +31,8 @@ struct text joined(struct text first, struct text second);
 struct text with_line(struct text base, size_t line, const char *string);
 /* Model A with two counters of greatest value 1, and a `set` line for its edge, which is line 14. */
 struct text two_counters(const char *set);
+/* A string so many times. */
+struct text repeated(const char *string, size_t count);
 /* A text of so many bytes LF. */
 struct text line_feeds(size_t count);
 /* A model that declares so much; counters reach `greatest`, every inv and when line has the value `atoms`, edges lead from 0 to 0. */
@@ -52,4 +55,5 @@ void text_tests(void);
 void list_tests(void);
 void file_tests(void);
 void run_tests(void);
+void output_tests(void);
 #endif

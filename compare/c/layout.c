@@ -1,5 +1,5 @@
 /* Sizes of the header's structs, and size and place of each field, held to layout.txt; so are the Rust declarations (tool/tests/library.rs).
- * That the library's machine code has them there is seen by answers with other numbers in every field (texts.c, lists.c, files.c, runs.c). */
+ * That the library's machine code has them there is seen by answers with other numbers in every field (texts.c, lists.c, files.c, runs.c, outputs.c). */
 #include "check.h"
 #include <stdio.h>
 #include <string.h>
@@ -21,6 +21,7 @@ static const struct {
     STRUCT(wirdoku_state), FIELD(wirdoku_state, location), FIELD(wirdoku_state, counters), FIELD(wirdoku_state, clocks),
     STRUCT(wirdoku_state_answer), FIELD(wirdoku_state_answer, number), FIELD(wirdoku_state_answer, line),
     FIELD(wirdoku_state_answer, state),
+    STRUCT(wirdoku_output), FIELD(wirdoku_output, number), FIELD(wirdoku_output, line), FIELD(wirdoku_output, outcome),
 };
 
 void layout_tests(void) {

@@ -1,6 +1,6 @@
 /* Tests of the library's calls from C, through the header: sizes and offsets of the structs, the document's worked cases, every refusal
- * that a call on a text can meet, limits, lent buffers compared whole. Run at the top of the repository; scripts/c-calls builds it and
- * runs it under valgrind. The last line is 'N passed, M failed'. */
+ * that a call on a text or on a solver's output can meet, limits, lent buffers compared whole. Run at the top of the repository;
+ * scripts/c-calls builds it and runs it under valgrind. The last line is 'N passed, M failed'. */
 #include "check.h"
 
 int main(void) {
@@ -11,6 +11,7 @@ int main(void) {
         list_tests();
         file_tests();
         run_tests();
+        output_tests();
     }
     return finish();
 }

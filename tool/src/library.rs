@@ -1,7 +1,7 @@
 //! The calls of the proved library (crates/wirdoku/include/wirdoku.h), one safe function each.
 //!
-//! `number` is 0 or the number of a refusal; `line` is the line of the text, from 1, for refusals 2 to 8. After a refusal a lent
-//! buffer holds what it held. What the header asks of a caller is seen to here: a slice's length is handed over with its pointer,
+//! `number` is 0 or the number of a refusal; `line` is the line of the text, from 1, for refusals 2 to 8, and of a solver's output
+//! for 33 to 35. After a refusal a lent buffer holds what it held. What the header asks of a caller is seen to here: a slice's length is handed over with its pointer,
 //! and Rust's rules of borrowing keep lent buffers apart. So these functions have no precondition.
 
 /// `place`: the line for 2 to 8, the byte's index for 24, the clause's index for 26, the step for 27 and 28, else 0.
@@ -66,9 +66,23 @@ pub struct StateAnswer {
     pub state: State,
 }
 
+/// What a solver's output says, by the exit statuses of solvers.
+pub const SATISFIABLE: u8 = 10;
+pub const UNSATISFIABLE: u8 = 20;
+
+/// `line`: for 35 the line of the closing 0, or the line that is missing. `outcome`: `SATISFIABLE`, `UNSATISFIABLE`, or 0 after a
+/// refusal.
+#[repr(C)]
+#[derive(Clone, Copy, Debug, Default, PartialEq, Eq)]
+pub struct OutputAnswer {
+    pub number: u8,
+    pub line: usize,
+    pub outcome: u8,
+}
+
 /// The functions as C declares them. The header says what a caller must see to.
 pub mod foreign {
-    use super::{Answer, FileAnswer, Shape, Sizes, State, StateAnswer};
+    use super::{Answer, FileAnswer, OutputAnswer, Shape, Sizes, State, StateAnswer};
 
     extern "C" {
         pub fn wirdoku_read(text: *const u8, text_len: usize) -> Answer;
@@ -97,6 +111,12 @@ pub mod foreign {
             assignment: *mut u8,
             assignment_len: usize,
         ) -> Answer;
+        pub fn wirdoku_output_to_assignment(
+            output: *const u8,
+            output_len: usize,
+            assignment: *mut u8,
+            assignment_len: usize,
+        ) -> OutputAnswer;
     }
 }
 
@@ -175,4 +195,10 @@ pub fn run_to_assignment(text: &[u8], run: &[u8], assignment: &mut [u8]) -> Answ
             assignment.len(),
         )
     }
+}
+
+/// Reads what a solver prints, in the form of the competitions, for a buffer with a byte for each variable: 33, 34, 35. The buffer
+/// is written whole if the outcome is `SATISFIABLE`, else not at all.
+pub fn output_to_assignment(output: &[u8], assignment: &mut [u8]) -> OutputAnswer {
+    unsafe { foreign::wirdoku_output_to_assignment(output.as_ptr(), output.len(), assignment.as_mut_ptr(), assignment.len()) }
 }

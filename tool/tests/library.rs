@@ -3,7 +3,7 @@
 mod common;
 
 use common::model_text;
-use wirdoku::library::{self, Answer, FileAnswer, Shape, Sizes, State, StateAnswer};
+use wirdoku::library::{self, Answer, FileAnswer, OutputAnswer, Shape, Sizes, State, StateAnswer, SATISFIABLE, UNSATISFIABLE};
 
 const UNTOUCHED: u8 = 77;
 
@@ -70,7 +70,8 @@ fn structs_have_the_headers_layout() {
         + &layout!("wirdoku_file", FileAnswer::default(), number line bytes)
         + &shape
         + &layout!("wirdoku_state", State::default(), location counters clocks)
-        + &layout!("wirdoku_state_answer", StateAnswer::default(), number line state);
+        + &layout!("wirdoku_state_answer", StateAnswer::default(), number line state)
+        + &layout!("wirdoku_output", OutputAnswer::default(), number line outcome);
     assert_eq!(found, include_str!("../../compare/c/layout.txt"));
 }
 
@@ -270,4 +271,28 @@ fn a_run_comes_back_from_its_assignment() {
     assert_eq!(library::run_to_assignment(&b(), &[5, 3, 7], &mut assignment), answer(0, 0));
     assert_eq!(library::assignment_to_run(&b(), 3, &assignment, &mut run), answer(0, 0));
     assert_eq!(run, [5, 3, 7]);
+}
+
+fn output_answer(number: u8, line: usize, outcome: u8) -> OutputAnswer {
+    OutputAnswer { number, line, outcome }
+}
+
+#[test]
+fn outputs_become_assignments() {
+    assert_eq!((SATISFIABLE, UNSATISFIABLE), (10, 20));
+    let mut assignment = [UNTOUCHED; 7];
+    assert_eq!(library::output_to_assignment(b"", &mut assignment), output_answer(35, 1, 0));
+    assert_eq!(library::output_to_assignment(b"s SATISFIABLE\nv 7 1", &mut assignment), output_answer(33, 2, 0));
+    assert_eq!(library::output_to_assignment(b"s SATISFIABLE\nc \nv 7 8\n", &mut assignment), output_answer(34, 3, 0));
+    assert_eq!(library::output_to_assignment(b"s SATISFIABLE\nv 7 0\nx\n", &mut assignment), output_answer(35, 2, 0));
+    assert_eq!(library::output_to_assignment(b"s UNSATISFIABLE\n", &mut assignment), output_answer(0, 0, 20));
+    assert_eq!(assignment, [UNTOUCHED; 7]);
+    let whole = b"s SATISFIABLE\nv 1 -2 -3 -4 5 -6 7 0\n";
+    let split = b"c x\ns SATISFIABLE\nc \nv 7 -6\nv 5 -4 -3\nc y\nv -2 1\nv 0\nc z\n";
+    for output in [&whole[..], split] {
+        let mut assignment = [UNTOUCHED; 7];
+        assert_eq!(library::output_to_assignment(output, &mut assignment), output_answer(0, 0, 10));
+        assert_eq!(assignment, [1, 0, 0, 0, 1, 0, 1]);
+    }
+    assert_eq!(library::output_to_assignment(b"s SATISFIABLE\nv 0\n", &mut []), output_answer(0, 0, 10));
 }

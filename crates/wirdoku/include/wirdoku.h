@@ -5,15 +5,16 @@
  * - each pointer is aligned for its elements and leads to as many as the number says, which may be read, or written where it is lent;
  * - a buffer that a call writes to (a pointer without `const`) overlaps nothing else that the call is given;
  * - nothing else writes to any of them while the call lasts.
- * Every call takes the bytes of a model text and reads it. Whatever bytes and numbers it is given, it returns. It keeps nothing from one
- * call to the next, so that several threads may call, and takes no memory but its stack.
+ * Every call but the last takes the bytes of a model text and reads it; the last reads what a solver prints. Whatever bytes and numbers a
+ * call is given, it returns. It keeps nothing from one call to the next, so that several threads may call, and takes no memory but its stack.
  *
  * What each call answers, and what every lent buffer holds afterwards, is proved: crates/wirdoku/src/lib.rt states it, in the words of
  * docs/NOTATION.md. Not proved but tested: that this header declares what the archive has (scripts/c-calls), that a stack of 1 MiB
  * suffices for every call, with half of it to spare (scripts/compare-calls), and that no file has more than WIRDOKU_MAX_FILE bytes
  * (reference/tests/largest.rs). docs/TRUST.md says what else is assumed.
  *
- * `number` is 0, or the number of a refusal; `line` is the line of the text, from 1, for refusals 2 to 8, else 0.
+ * `number` is 0, or the number of a refusal; `line` is the line of the text, from 1, for refusals 2 to 8, and of a solver's output for 33
+ * to 35, else 0.
  * After a refusal every other number is 0 unless said otherwise, and a lent buffer holds what it held.
  */
 #ifndef WIRDOKU_H
@@ -25,7 +26,7 @@ extern "C" {
 #endif
 
 /* Rises by 1 with every change of what stands in this file or of what a call answers; CHANGELOG.md says what changed. */
-#define WIRDOKU_VERSION 3
+#define WIRDOKU_VERSION 4
 
 /* Refusals, as docs/REFUSALS.md has them. No call of this header answers 20: a text that is read gives a well-formed record. */
 enum wirdoku_refusal {
@@ -52,8 +53,15 @@ enum wirdoku_refusal {
     WIRDOKU_NO_START = 29,               /* the initial state does not meet its invariant */
     WIRDOKU_NOT_IN_TARGET = 30,          /* the run does not end in the target */
     WIRDOKU_ASSIGNMENT_TOO_SHORT = 31,   /* the assignment buffer is shorter than N */
-    WIRDOKU_FILE_TOO_SHORT = 32          /* the byte buffer is shorter than the file; the number of bytes needed is returned too */
+    WIRDOKU_FILE_TOO_SHORT = 32,         /* the byte buffer is shorter than the file; the number of bytes needed is returned too */
+    WIRDOKU_OUT_OF_FORM_OR_PLACE = 33,   /* a line is of none of the forms or out of place; also a bare `c`, a CR outside a comment, or no LF */
+    WIRDOKU_ABOVE_OR_NAMED_BEFORE = 34,  /* a literal's variable lies above the buffer's length or was named before */
+    WIRDOKU_OUTPUT_INCOMPLETE = 35       /* the closing 0 comes with a variable unnamed, or the text ends without it or without an `s` line */
 };
+
+/* What a solver's output says, by the exit statuses of solvers. */
+#define WIRDOKU_SATISFIABLE 10
+#define WIRDOKU_UNSATISFIABLE 20
 
 /* Limits of a model text, of a model, and of what is asked about it. */
 #define WIRDOKU_MAX_TEXT 8192           /* bytes of a text */
@@ -119,6 +127,14 @@ struct wirdoku_state_answer {
     struct wirdoku_state state;
 };
 
+/* `line`: for 33 and 34 the line that is refused; for 35 the line of the closing 0 or, where the output ends too early, the line that is
+ * missing, one more than the lines that LF ends. `outcome`: WIRDOKU_SATISFIABLE, WIRDOKU_UNSATISFIABLE, or 0 after a refusal. */
+struct wirdoku_output {
+    uint8_t number;
+    size_t line;
+    uint8_t outcome;
+};
+
 /* Reads the text: 1 to 8. */
 struct wirdoku_answer wirdoku_read(const uint8_t *text, size_t text_len);
 
@@ -154,6 +170,12 @@ struct wirdoku_answer wirdoku_assignment_to_run(const uint8_t *text, size_t text
 /* Writes the assignment of a run from the start of `assignment`: 1 to 8, 21, 29, 27, 28, 30, 31. */
 struct wirdoku_answer wirdoku_run_to_assignment(const uint8_t *text, size_t text_len, const uint8_t *run, size_t run_len,
                                                 uint8_t *assignment, size_t assignment_len);
+
+/* Reads what a solver prints, in the form of the competitions: 33, 34, 35. It is one line `s SATISFIABLE` or `s UNSATISFIABLE`; after the
+ * first, lines of `v` and literals, one space apart, the last literal of all 0; lines that begin with `c` and a space are skipped anywhere.
+ * Every line ends with LF. The buffer has a byte for each variable, so that its length, which may be any, is the greatest variable. If the
+ * outcome is WIRDOKU_SATISFIABLE, every byte is written: 1 for a bare literal, 0 for one with a minus; else the buffer holds what it held. */
+struct wirdoku_output wirdoku_output_to_assignment(const uint8_t *output, size_t output_len, uint8_t *assignment, size_t assignment_len);
 
 #ifdef __cplusplus
 }

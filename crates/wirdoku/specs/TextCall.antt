@@ -10,8 +10,10 @@ use Rattle.walk.specs.StepCall.{StepReport}
 use Rattle.counts.specs.CountsCall.{ListReport}
 use Rattle.sizing.specs.SizeCall.{SizeReport}
 use Rattle.dimacs.specs.DimacsCall.{FileReport}
+use Rattle.output.specs.OutputCall.{OutputReport}
 use Rattle.wirdoku.specs.declared.Answer.{Answer}
 use Rattle.wirdoku.specs.declared.FileReply.{FileReply}
+use Rattle.wirdoku.specs.declared.OutputReply.{OutputReply}
 use Rattle.wirdoku.specs.declared.Shape.{Shape}
 use Rattle.wirdoku.specs.declared.StateAnswer.{StateAnswer}
 
@@ -53,3 +55,7 @@ zeroState = record { location = 0; counters = 0 ∷ 0 ∷ 0 ∷ 0 ∷ []; clocks
 -- the step call's number and the state that it hands back
 abbrev pub stepAnswer : StepReport → StateAnswer
 stepAnswer r = stateAnswer (r .number) 0 (r .state)
+
+-- the three numbers of the answer on a solver's output
+abbrev pub outputIn : OutputReply → OutputReport
+outputIn r = record { number = r .number; line = r .line; outcome = r .outcome }

@@ -6,6 +6,7 @@ use dimacs::write_file;
 use encode::run_to_assignment;
 use model::Model;
 use model::State;
+use output::output_to_assignment;
 use sizing::SizeAnswer;
 use sizing::sizes_of;
 use sizing::text_sizes;
@@ -23,8 +24,9 @@ ghost use Rattle.encode.specs.EncodeCall.{encodeReport, encodeLeft};
 ghost use Rattle.decode.specs.DecodeCall.{decodeReport, decodeLeft};
 ghost use Rattle.counts.specs.CountsCall.{listReport, listTold};
 ghost use Rattle.dimacs.specs.DimacsCall.{fileReport, fileLeft};
+ghost use Rattle.output.specs.OutputCall.{outputReport, outputLeft};
 ghost use Rattle.sizing.specs.SizeCall.{refusedSizes, textSizes, textLeft, sizeReport, sizeLeft, sizeTold};
-ghost use Rattle.wirdoku.specs.TextCall.{answerTold, textReport, countedSizes, shapeOf, refusedShape, fileReply, refusedFile, stateAnswer, zeroState, stepAnswer};
+ghost use Rattle.wirdoku.specs.TextCall.{answerTold, textReport, countedSizes, shapeOf, refusedShape, fileReply, refusedFile, stateAnswer, zeroState, stepAnswer, outputIn};
 
 // The number of the refusal, or 0, and its place.
 #[repr(C)]
@@ -55,6 +57,14 @@ pub struct FileReply {
     pub number: u8,
     pub line: usize,
     pub bytes: usize,
+}
+
+// The number of the refusal, or 0, the line of the solver's output, or 0, and the outcome: 10, 20, or 0 of a refused text.
+#[repr(C)]
+pub struct OutputReply {
+    pub number: u8,
+    pub line: usize,
+    pub outcome: u8,
 }
 
 // The number of the refusal, or 0, the line of the text, or 0, and a state.
@@ -336,4 +346,24 @@ pub extern "C" fn wirdoku_run_to_assignment(
     let model = read.model;
     let encoded = run_to_assignment(model, run, assignment);
     told(encoded.number(), encoded.place() as usize)
+}
+
+fn output_reply(number: u8, line: usize, outcome: u8) -> OutputReply
+    ensures { λ r. ⌜ r ≡ record { number = number; line = line; outcome = outcome } ⌝ }
+{
+    OutputReply {
+        number,
+        line,
+        outcome,
+    }
+}
+
+// Reads a solver's output and writes the assignment that it names: 33, 34, 35.
+#[no_mangle]
+pub extern "C" fn wirdoku_output_to_assignment(output: &[u8], assignment: &mut [u8]) -> OutputReply
+    ensures { λ r. ⌜ outputIn r ≡ outputReport (now (output .entry)) (length (now (assignment .entry))) ⌝ }
+    ensures { λ r. ⌜ now (assignment .exit) ≡ outputLeft (now (output .entry)) (now (assignment .entry)) ⌝ }
+{
+    let told = output_to_assignment(output, assignment);
+    output_reply(told.number(), told.line(), told.outcome())
 }
