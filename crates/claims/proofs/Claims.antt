@@ -1,15 +1,17 @@
 -- What is claimed of the calls, the page to read first: demands 2 and 3 and the corollary on the shortest run, of the words that emission leaves in the
 -- lent buffer, of any solver's assignment to them, and of what the conversions and the walker answer and leave; that the DIMACS file has those words; the
--- same of the calls for C on a text; that updates happen in their written order; that 16 bits are enough for a number; and the rows. specs/Words.antt,
--- Calls.antt, Files.antt, Texts.antt and Cases.antt say what the statements mean; each proof is cited.
+-- same of the calls for C on a text; what a solver's output says of the list; that updates happen in their written order; that 16 bits are enough for a
+-- number; and the rows. specs/Words.antt, Calls.antt, Files.antt, Texts.antt, Outputs.antt and Cases.antt say what the statements mean; each proof is
+-- cited.
 use mathlib.Core.Path.{_≡_}
 use mathlib.Core.Logic.{_↔_}
-use mathlib.Core.List.{List, _++_}
+use mathlib.Core.List.{List, [], _∷_, _++_}
+use mathlib.Core.Bool.{true}
 use mathlib.Core.Option.{some}
-use Prim.Native.Nat.{ℕ, _≤_}
+use Prim.Native.Nat.{ℕ, _-_, _≤_}
 use lib.Dec.{T}
 use lib.IntN.{ℤ}
-use lib.ListN.{length, take}
+use lib.ListN.{length, take, getD}
 use Rattle.model.specs.declared.Counter.{Counter}
 use Rattle.model.specs.declared.Edge.{Edge}
 use Rattle.model.specs.declared.Model.{Model}
@@ -37,18 +39,28 @@ use Rattle.text.specs.declared.updates.SetRead.{SetRead}
 use Rattle.text.specs.updates.Sets.{setFaults, updateSlots, orderSlots}
 use Rattle.text.specs.updates.Written.{afterItems}
 use Rattle.text.proofs.Laws.Written
+use Rattle.output.specs.declared.lines.LineForm.the-variants.{Unsatisfiable}
+use Rattle.output.specs.Literals.{literalOf}
+use Rattle.output.specs.Tokens.{tokensOf, literalsIn}
+use Rattle.output.specs.OutputCall.{outputReport, outputAccepted, outputLeft, isBare}
+use Rattle.output.specs.Named.{formsIn, isNegated, NamesOnce}
+use Rattle.output.specs.Written.{areBits, outputText}
+use Rattle.output.proofs.Claims as OutputClaims
+use Rattle.output.proofs.ReadBack as OutputReadBack
 use Rattle.samples.specs.Models.{modelB}
 use Rattle.claims.specs.Words.{clausesIn, readBack, wordsTrue}
 use Rattle.claims.specs.Calls.{Calls, callsWith, recordCalls, Emitted, variablesTold, clausesTold, wordsLeft, ListSolvable, NamesVariable}
 use Rattle.claims.specs.Calls.{EmittedWords, EmittedDemand2, EmittedDemand3, EmittedShortest}
 use Rattle.claims.specs.Files.{Filed, bytesLeft, FiledBytes}
 use Rattle.claims.specs.Texts.{textModel, textCalls, IsRead, Never20, RowTexts}
+use Rattle.claims.specs.Outputs.{SaysSatisfiable, EmittedOutput}
 use Rattle.claims.specs.Cases.{allRowsHold}
 use Rattle.claims.proofs.Within
 use Rattle.claims.proofs.Accepted
 use Rattle.claims.proofs.CallProofs
 use Rattle.claims.proofs.Files
 use Rattle.claims.proofs.Texts
+use Rattle.claims.proofs.Outputs
 use Rattle.claims.proofs.Rows
 use Rattle.claims.proofs.Sample
 
@@ -151,6 +163,41 @@ text-demand-3 = Texts.text-3
 pub text-shortest : (t : List ℕ) (e : (k : ℕ) → k ≤ 64 → Emitted (textCalls t) k) → EmittedShortest (textCalls t) e
 text-shortest = Texts.text-shortest
 
+-- ---- what a solver says
+-- A text is accepted as satisfiable of n variables exactly if, but for comments, it is the line `s SATISFIABLE` and lines of literals of which the last is
+-- 0 and the others name each variable from 1 to n once; as unsatisfiable exactly if it is the one line `s UNSATISFIABLE`.
+pub output-satisfiable : (n : ℕ) (t : List ℕ) → SaysSatisfiable t n ↔ NamesOnce n t
+output-satisfiable = OutputClaims.satisfiable-iff
+
+pub output-unsatisfiable : (n : ℕ) (t : List ℕ) → (outputReport t n ≡ outputAccepted 20) ↔ (formsIn (tokensOf literalOf t) ≡ Unsatisfiable ∷ [])
+output-unsatisfiable = OutputClaims.unsatisfiable-iff
+
+-- Accepted, a variable's byte is 1 exactly if its literal is bare, and 0 exactly if it has a minus; else the buffer is what it was.
+pub output-byte-one : (t old : List ℕ) → SaysSatisfiable t (length old) → (v : ℕ) → 1 ≤ v → v ≤ length old
+    → (getD (outputLeft t old) (v - 1) 0 ≡ 1) ↔ (isBare v (literalsIn (tokensOf literalOf t)) ≡ true)
+output-byte-one = OutputClaims.byte-one
+
+pub output-byte-zero : (t old : List ℕ) → SaysSatisfiable t (length old) → (v : ℕ) → 1 ≤ v → v ≤ length old
+    → (getD (outputLeft t old) (v - 1) 0 ≡ 0) ↔ (isNegated v (literalsIn (tokensOf literalOf t)) ≡ true)
+output-byte-zero = OutputClaims.byte-zero
+
+pub output-untouched : (t old : List ℕ) → (outputReport t (length old) .outcome ≡ 10 → ⊥) → outputLeft t old ≡ old
+output-untouched = OutputClaims.left-same
+
+-- The text that writes an assignment is read back to it.
+pub output-back : (a old : List ℕ) → areBits a ≡ true → length old ≡ length a
+    → SaysSatisfiable (outputText a) (length old) × (outputLeft (outputText a) old ≡ a)
+output-back = OutputReadBack.reads-back
+
+-- A solver's output that is accepted as satisfiable of the variables of an emitted list, and whose assignment the call from assignment to run accepts,
+-- gives a run of the automaton into the target; that call accepts it exactly if it satisfies the list; and every such run is the run of such a text.
+pub solver-output : (room : ℕ → ℕ) (m : Model) (k : ℕ) (e : Emitted (callsWith room m) k) → EmittedOutput (callsWith room m) k e
+solver-output room m k e = Outputs.emitted-output (callsWith room m) k e (emitted-demand-2 room m k e)
+
+pub text-output : (t : List ℕ) (k : ℕ) (e : Emitted (textCalls t) k) → EmittedOutput (textCalls t) k e
+text-output t k e = Outputs.emitted-output (textCalls t) k e (text-demand-2 t k e)
+
+-- ---- the number 20
 -- No call for C answers 20.
 pub never-20 : Never20
 never-20 = Texts.never-20

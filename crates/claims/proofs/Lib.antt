@@ -4,6 +4,7 @@ pub mod Accepted
 pub mod CallProofs
 pub mod Files
 pub mod Texts
+pub mod Outputs
 pub mod Rows
 pub mod Sample
 pub mod Claims

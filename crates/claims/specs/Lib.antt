@@ -4,4 +4,5 @@ pub mod Files
 pub mod RowModels
 pub mod RowWords
 pub mod Texts
+pub mod Outputs
 pub mod Cases
