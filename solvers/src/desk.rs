@@ -65,7 +65,7 @@ fn solutions(text: &str, variables: usize) -> Result<Vec<Vec<u8>>, String> {
     let mut solutions = Vec::new();
     for answer in answers.split("s SATISFIABLE\n").skip(1) {
         let answer = format!("s SATISFIABLE\n{answer}");
-        match competition(&answer, variables)? {
+        match competition(answer.as_bytes(), variables)? {
             Verdict::Satisfiable(assignment) => solutions.push(assignment),
             Verdict::Unsatisfiable => return Err("an answer without values".to_string()),
         }

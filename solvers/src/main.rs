@@ -1,6 +1,7 @@
 //! The proved library's clause lists given to SAT solvers. What the solvers say
 //! is compared with the reference program, and every assignment that they give
-//! goes through the proved conversion and both walkers.
+//! goes through the proved conversion and both walkers. What they print is read by
+//! the proved call and by the reference program, as it stands and damaged.
 //!
 //! The last line says how many tests passed and failed; the exit status is 0
 //! only if none failed. The only argument is the folder with the shipped models.
@@ -11,6 +12,7 @@ mod judge;
 mod list;
 mod longer;
 mod made;
+mod outputs;
 mod pairs;
 mod smallest;
 mod tally;
@@ -49,6 +51,7 @@ fn run(tally: &mut Tally) -> Result<(), String> {
     smallest::test(&mut desk, tally, &shipped)?;
     every::test(&mut desk, tally, &shipped)?;
     longer::test(&mut desk, tally, &pairs);
+    outputs::test(&mut desk, tally, &pairs);
     let seconds = began.elapsed().as_secs();
     println!("{} solver processes, {seconds} seconds", desk.calls);
     Ok(())

@@ -35,16 +35,17 @@ exit status:
   20  check: the solver found no run; walk: it is no run into the target
   1   wrong usage
   2   the model text or the bound is refused; number, line and reason are on standard error
-  3   the solver is missing or gave no answer
+  3   the solver is missing or gave no answer, or its output is refused; number, line and reason as for 2
   4   the solver's assignment is refused by the proved conversion
   5   a file cannot be read, or the output cannot be written
 
-What is proved: the calls that read the model text, count the clause list and write it as a DIMACS file, turn
-a solver's assignment into a run, take a step and walk a run. What is not proved: the solver, and this
-command, which hands bytes from one to the other. A solver's assignment is believed only after the proved
-conversion has tested every clause and the proved walker has walked the run. `unsatisfiable` is taken
-at its word: a wrong solver cannot be found out here, so ask a second one where it matters. A run of fewer
-steps can always be drawn out by delays of 0, so no run of exactly K steps means none of fewer either.
+What is proved: the calls that read the model text, count the clause list and write it as a DIMACS file, read
+what a solver prints, turn its assignment into a run, take a step and walk a run. What is not proved: the
+solver, the reading of MiniSat's result file, and this command, which hands bytes from one to the other. A
+solver's assignment is believed only after the proved conversion has tested every clause and the proved walker
+has walked the run. `unsatisfiable` is taken at its word: a wrong solver cannot be found out here, so ask a
+second one where it matters. A run of fewer steps can always be drawn out by delays of 0, so no run of exactly
+K steps means none of fewer either.
 ";
 
 /// The bounds that are tried.

@@ -1,4 +1,4 @@
-//! What the numbers of refusals mean, in plain sentences, and the line of a text that is refused.
+//! What the numbers of refusals mean, in plain sentences, and the line of a text or of a solver's output that is refused.
 
 /// The longest part of a line that is shown, in characters.
 const SHOWN: usize = 160;
@@ -36,6 +36,15 @@ pub fn sentence(number: u8) -> Option<&'static str> {
         30 => "the run does not end in the target location",
         31 => "the assignment buffer is shorter than the number of variables",
         32 => "the byte buffer is shorter than the DIMACS file",
+        33 => {
+            "the line of the solver's output is none of `s SATISFIABLE`, `s UNSATISFIABLE`, `v` with literals and `c ` with a \
+             comment, or is out of place, or is not ended by LF"
+        }
+        34 => "a literal of the solver's output names a variable above the greatest, or one that was named before",
+        35 => {
+            "the closing 0 of the solver's output comes with a variable unnamed, or the output ends without it or without \
+             an `s` line"
+        }
         _ => return None,
     })
 }
@@ -43,7 +52,7 @@ pub fn sentence(number: u8) -> Option<&'static str> {
 /// What the place of a refusal counts; none for a refusal without a place.
 fn place_name(number: u8) -> Option<&'static str> {
     match number {
-        2..=8 => Some("line"),
+        2..=8 | 33..=35 => Some("line"),
         24 => Some("byte"),
         26 => Some("clause"),
         27 | 28 => Some("step"),
@@ -60,7 +69,8 @@ pub fn refusal(number: u8, place: usize) -> String {
     }
 }
 
-/// A refusal of a text: the line above, and below it the text's line and what was due there. Line 0 is no line.
+/// A refusal of a text or of a solver's output: the line above, and below it the text's line and what is wrong there. Line 0 is no
+/// line.
 pub fn text_refusal(text: &[u8], number: u8, line: usize) -> String {
     let mut report = refusal(number, line);
     if line > 0 {
@@ -113,8 +123,11 @@ fn hints(text: &[u8], number: u8, line: usize) -> Vec<String> {
     if let (2, Some(key)) = (number, due_key(text, line)) {
         hints.push(format!("due here: {}=", key));
     }
-    if let (2, Some((_, false))) = (number, found) {
+    if let (2 | 33, Some((_, false))) = (number, found) {
         hints.push("the line has no LF at its end".to_string());
+    }
+    if let (33, Some((b"c", _))) = (number, found) {
+        hints.push("a comment begins with `c` and a space".to_string());
     }
     if found.map_or(false, |(bytes, _)| bytes.ends_with(b"\r")) {
         hints.push("the line ends with CR LF; lines end with LF alone".to_string());
@@ -153,7 +166,7 @@ mod tests {
     #[test]
     fn each_number_of_the_table_has_a_sentence_and_no_other() {
         let numbers: Vec<u8> = (0..=255).filter(|number| sentence(*number).is_some()).collect();
-        let table: Vec<u8> = (1..=10).chain(20..=32).collect();
+        let table: Vec<u8> = (1..=10).chain(20..=35).collect();
         assert_eq!(numbers, table);
         for number in table {
             let text = sentence(number).unwrap();
@@ -169,6 +182,9 @@ mod tests {
         assert!(refusal(24, 0).starts_with("refusal 24, byte 0: "));
         assert!(refusal(21, 0).starts_with("refusal 21: "));
         assert!(refusal(1, 0).starts_with("refusal 1: "));
+        for number in 33..=35 {
+            assert!(refusal(number, 9).starts_with(&format!("refusal {}, line 9: ", number)));
+        }
     }
 
     #[test]
@@ -191,6 +207,12 @@ mod tests {
         let report = text_refusal(b"locations=2\r\n", 3, 1);
         assert!(report.ends_with("\n    locations=2\\r\n    the line ends with CR LF; lines end with LF alone"), "{}", report);
         assert!(!text_refusal(&[b'x'; 9000], 1, 0).contains('\n'));
+        let report = text_refusal(b"s SATISFIABLE\nc\n", 33, 2);
+        assert!(report.ends_with("\n    c\n    a comment begins with `c` and a space"), "{}", report);
+        let report = text_refusal(b"s SATISFIABLE\nc x", 33, 2);
+        assert!(report.ends_with("\n    c x\n    the line has no LF at its end"), "{}", report);
+        let report = text_refusal(b"s SATISFIABLE\nv 1 1 0\n", 34, 2);
+        assert!(report.ends_with("\n    v 1 1 0"), "{}", report);
     }
 
     #[test]

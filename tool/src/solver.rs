@@ -1,5 +1,6 @@
-//! Runs a SAT solver on a clause list. Neither the solver nor this module is proved: a satisfying assignment is to be tested by
-//! the proved conversion; that a list cannot be satisfied is the solver's own word.
+//! Runs a SAT solver on a clause list. Neither the solver nor this module is proved; what a solver prints in the competitions' form
+//! is read by a proved call. A satisfying assignment is to be tested by the proved conversion; that a list cannot be satisfied is
+//! the solver's own word.
 
 use std::env;
 use std::ffi::OsStr;
@@ -30,8 +31,8 @@ pub enum Failure {
     Missing(Solver),
     /// The program could not be run, or its answer could not be fetched.
     Run(Solver, io::Error),
-    /// The program's answer is none.
-    Answer(Solver, String),
+    /// The program's answer is none: how the program ended, and why.
+    Answer(Solver, String, String),
 }
 
 impl fmt::Display for Failure {
@@ -39,7 +40,9 @@ impl fmt::Display for Failure {
         match self {
             Failure::Missing(solver) => write!(out, "the solver {0} is not on the path (Debian's package {0})", solver.name()),
             Failure::Run(solver, error) => write!(out, "the solver {} could not be run: {}", solver.name(), error),
-            Failure::Answer(solver, reason) => write!(out, "the solver {} gave no answer: {}", solver.name(), reason),
+            Failure::Answer(solver, end, reason) => {
+                write!(out, "the solver {} gave no answer ({}): {}", solver.name(), end, reason)
+            }
         }
     }
 }
@@ -86,23 +89,26 @@ fn is_program(file: &Path) -> bool {
 
 /// Runs a solver on the bytes of a DIMACS file with variables 1 to `variables`.
 pub fn solve(solver: Solver, variables: usize, file: &[u8]) -> Result<Verdict, Failure> {
-    let program = solver.program().ok_or(Failure::Missing(solver))?;
-    match solver {
-        Solver::Minisat => solve_by_file(&program, variables, file),
-        Solver::Cadical => solve_by_pipe(solver, Command::new(program).arg("-q"), variables, file),
-        Solver::Picosat => solve_by_pipe(solver, &mut Command::new(program), variables, file),
+    if solver == Solver::Minisat {
+        return solve_by_file(variables, file);
     }
+    let output = printed(solver, file)?;
+    judge(solver, &output, answer::competition(&output.stdout, variables))
 }
 
-/// The file goes in at standard input and the answer, in the competition's format, comes out at standard output.
-fn solve_by_pipe(solver: Solver, command: &mut Command, variables: usize, file: &[u8]) -> Result<Verdict, Failure> {
-    let output = run(command, file).map_err(|error| Failure::Run(solver, error))?;
-    let text = String::from_utf8_lossy(&output.stdout);
-    judge(solver, &output, answer::competition(&text, variables))
+/// What a solver but MiniSat prints for a file that it reads at standard input: the competitions' form. CaDiCaL is told to be quiet;
+/// PicoSAT is, unless it is told otherwise, and then it would print comments without a space, which are refused.
+pub fn printed(solver: Solver, file: &[u8]) -> Result<Output, Failure> {
+    let mut command = Command::new(solver.program().ok_or(Failure::Missing(solver))?);
+    if solver == Solver::Cadical {
+        command.arg("-q");
+    }
+    run(&mut command, file).map_err(|error| Failure::Run(solver, error))
 }
 
 /// MiniSat writes its answer to a file that it is named.
-fn solve_by_file(program: &Path, variables: usize, file: &[u8]) -> Result<Verdict, Failure> {
+fn solve_by_file(variables: usize, file: &[u8]) -> Result<Verdict, Failure> {
+    let program = Solver::Minisat.program().ok_or(Failure::Missing(Solver::Minisat))?;
     let failed = |error| Failure::Run(Solver::Minisat, error);
     let scratch = Scratch::under(&env::temp_dir()).map_err(failed)?;
     let result = scratch.file("result");
@@ -139,7 +145,7 @@ fn judge(solver: Solver, output: &Output, answer: Result<Verdict, String>) -> Re
     };
     let said = String::from_utf8_lossy(&output.stderr);
     let last = said.lines().last().map_or(String::new(), |line| format!(", `{}`", line.escape_debug()));
-    Err(Failure::Answer(solver, format!("{} ({}{})", reason, output.status, last)))
+    Err(Failure::Answer(solver, format!("{}{}", output.status, last), reason))
 }
 
 #[cfg(test)]
@@ -191,9 +197,9 @@ mod tests {
         assert!(judge(Solver::Cadical, &ended(20), Ok(Verdict::Unsatisfiable)).is_ok());
         for (code, answer) in [(0, satisfiable()), (20, satisfiable()), (10, Ok(Verdict::Unsatisfiable))] {
             let failure = judge(Solver::Cadical, &ended(code), answer).unwrap_err();
-            assert!(matches!(failure, Failure::Answer(Solver::Cadical, _)));
+            assert!(matches!(failure, Failure::Answer(Solver::Cadical, _, _)));
         }
         let failure = judge(Solver::Picosat, &ended(1), Err("no".to_string())).unwrap_err();
-        assert_eq!(failure.to_string(), "the solver picosat gave no answer: no (exit status: 1, `two`)");
+        assert_eq!(failure.to_string(), "the solver picosat gave no answer (exit status: 1, `two`): no");
     }
 }

@@ -6,6 +6,7 @@ use std::fs;
 use std::os::unix::fs::symlink;
 
 use common::{command, installed, model, model_text, outcome, wirdoku, Folder, Outcome, SOLVERS};
+use wirdoku::explain::sentence;
 use wirdoku::library;
 
 /// Reads the list to its end without any other program, as a solver does.
@@ -49,7 +50,7 @@ fn solvers_read_the_librarys_bytes() {
         let copy = folder.path().join("copy");
         folder.script(solver, &format!("/bin/cat >'{}'\nexit 1", copy.display()));
         let outcome = with_path(&folder, &["check", &path, "--bound", "64", "--quiet"]);
-        outcome.assert_stopped(3, &format!("the solver {} gave no answer: ", solver));
+        outcome.assert_stopped(3, &format!("the solver {} gave no answer (exit status: 1): ", solver));
         assert_eq!(fs::read(&copy).unwrap(), file, "{}", solver);
     }
 }
@@ -92,8 +93,6 @@ fn a_wrong_assignment_is_refused_with_its_clause() {
         ("v 1 -2 3 -4 -5 6 -7 0", 15, "7"),
         ("v -1 -2 -3 -4 -5 -6 -7 0", 0, "1 2"),
         ("v 1 2 3 4 5 6 7 0", 1, "-1 -2"),
-        // not even the variables are named: they count as false
-        ("v 1 0", 3, "3 4 5"),
     ];
     for (line, clause, literals) in cases {
         let outcome = with_cadical(&format!("echo 's SATISFIABLE'\necho '{}'\nexit 10", line));
@@ -121,26 +120,70 @@ fn a_solver_that_denies_a_run_is_not_found_out() {
 }
 
 #[test]
-fn answers_that_are_none() {
+fn answers_that_do_not_agree_with_the_exit_status() {
     let satisfied = "echo 's SATISFIABLE'; echo 'v 1 -2 -3 -4 5 -6 7 0'";
-    let cases = [
-        ("exit 0".to_string(), "there is no verdict (exit status: 0)"),
-        ("exit 10".to_string(), "there is no verdict (exit status: 10)"),
-        ("echo 's UNKNOWN'".to_string(), "the verdict is `UNKNOWN` (exit status: 0)"),
-        (format!("{}\nexit 0", satisfied), "its answer and its exit status differ (exit status: 0)"),
-        (format!("{}\nexit 20", satisfied), "its answer and its exit status differ (exit status: 20)"),
-        ("echo 's UNSATISFIABLE'\nexit 10".to_string(), "its answer and its exit status differ (exit status: 10)"),
-        ("echo 's SATISFIABLE'\necho 'v 1 -2'\nexit 10".to_string(), "the closing 0 is missing (exit status: 10)"),
-        ("echo 's SATISFIABLE'\necho 'v 8 0'\nexit 10".to_string(), "variable 8 is above the greatest, 7 (exit status: 10)"),
-        ("echo Segmentation\nexit 139".to_string(), "the line `Segmentation` is out of place (exit status: 139)"),
-        ("echo 'no memory' >&2\nexit 1".to_string(), "there is no verdict (exit status: 1, `no memory`)"),
-        ("printf '\\377\\001\\n'".to_string(), "the line `\u{fffd}\\u{1}` is out of place (exit status: 0)"),
-        ("kill -9 $$".to_string(), "there is no verdict (signal: 9 (SIGKILL))"),
-    ];
-    for (lines, reason) in cases {
-        let outcome = with_cadical(&lines);
-        outcome.assert_stopped(3, &format!("the solver cadical gave no answer: {}\n", reason));
+    for (lines, status) in [(satisfied, 0), (satisfied, 20), ("echo 's UNSATISFIABLE'", 10)] {
+        let outcome = with_cadical(&format!("{}\nexit {}", lines, status));
+        let message = "its answer and its exit status differ";
+        outcome.assert_stopped(3, &format!("the solver cadical gave no answer (exit status: {}): {}\n", status, message));
     }
+}
+
+/// A script in place of a solver, how it ends, and number, line and text of its output's refusal.
+type Refused = (&'static str, &'static str, u8, usize, &'static str);
+
+const ENDED: &str = "(the text ends before this line)";
+
+const REFUSED: [Refused; 15] = [
+    ("exit 0", "exit status: 0", 35, 1, ENDED),
+    ("exit 10", "exit status: 10", 35, 1, ENDED),
+    ("echo 'no memory' >&2\nexit 1", "exit status: 1, `no memory`", 35, 1, ENDED),
+    ("kill -9 $$", "signal: 9 (SIGKILL)", 35, 1, ENDED),
+    ("echo 's SATISFIABLE'\necho 'v 1 -2'\nexit 10", "exit status: 10", 35, 3, ENDED),
+    ("echo 's SATISFIABLE'\necho 'v 1 0'\nexit 10", "exit status: 10", 35, 2, "v 1 0"),
+    ("echo 's SATISFIABLE'\necho 'v 8 0'\nexit 10", "exit status: 10", 34, 2, "v 8 0"),
+    ("echo 's SATISFIABLE'\necho 'v 1 -1 0'\nexit 10", "exit status: 10", 34, 2, "v 1 -1 0"),
+    ("echo 's UNKNOWN'", "exit status: 0", 33, 1, "s UNKNOWN"),
+    ("echo Segmentation\nexit 139", "exit status: 139", 33, 1, "Segmentation"),
+    ("printf '\\377\\001\\n'", "exit status: 0", 33, 1, "\\xff\\x01"),
+    ("echo 's UNSATISFIABLE'\necho 'v 0'\nexit 20", "exit status: 20", 33, 2, "v 0"),
+    ("printf 's UNSATISFIABLE'\nexit 20", "exit status: 20", 33, 1, "s UNSATISFIABLE\n    the line has no LF at its end"),
+    ("echo c\necho 's UNSATISFIABLE'\nexit 20", "exit status: 20", 33, 1, "c\n    a comment begins with `c` and a space"),
+    (
+        "printf 's UNSATISFIABLE\\r\\n'\nexit 20",
+        "exit status: 20",
+        33,
+        1,
+        "s UNSATISFIABLE\\r\n    the line ends with CR LF; lines end with LF alone",
+    ),
+];
+
+#[test]
+fn refused_outputs_are_told_with_number_sentence_and_line() {
+    for solver in ["cadical", "picosat"] {
+        for (lines, end, number, line, shown) in REFUSED {
+            let folder = Folder::new();
+            folder.script(solver, &format!("{}\n{}", READ_ALL, lines));
+            let outcome = with_path(&folder, &["check", &model("a.txt"), "--bound", "1", "--quiet"]);
+            let sentence = sentence(number).unwrap();
+            let reason = format!("refusal {}, line {}: {}\n    {}\n", number, line, sentence, shown);
+            outcome.assert_stopped(3, &format!("the solver {} gave no answer ({}): {}", solver, end, reason));
+        }
+    }
+}
+
+/// cadical's own comments, which `-q` keeps away, have a space; some of those of `picosat -v` have none.
+#[test]
+fn solvers_that_print_comments() {
+    let arguments = ["check", &model("a.txt"), "--bound", "1", "--quiet"];
+    let folder = Folder::new();
+    folder.script("cadical", &format!("exec '{}'", installed("cadical").display()));
+    assert_eq!(with_path(&folder, &arguments).status, 10);
+    let folder = Folder::new();
+    folder.script("picosat", &format!("exec '{}' -v", installed("picosat").display()));
+    let outcome = with_path(&folder, &arguments);
+    outcome.assert_stopped(3, "the solver picosat gave no answer (exit status: 10): refusal 33, line ");
+    assert!(outcome.err.ends_with("\n    c\n    a comment begins with `c` and a space\n"), "{:?}", outcome);
 }
 
 #[test]
@@ -172,16 +215,16 @@ fn nothing_is_left_in_the_temporary_folder() {
         assert_eq!(temporary.names(), Vec::<String>::new());
     }
     let scripts = [
-        ("exit 1", "there is no verdict (exit status: 1)"),
-        ("echo SAT >\"$3\"; echo 1 >>\"$3\"; exit 10", "the closing 0 is missing (exit status: 10)"),
-        ("echo INDET >\"$3\"; exit 0", "the verdict is `INDET` (exit status: 0)"),
+        ("exit 1", "(exit status: 1): there is no verdict"),
+        ("echo SAT >\"$3\"; echo 1 >>\"$3\"; exit 10", "(exit status: 10): the closing 0 is missing"),
+        ("echo INDET >\"$3\"; exit 0", "(exit status: 0): the verdict is `INDET`"),
     ];
     for (lines, reason) in scripts {
         let folder = Folder::new();
         folder.script("minisat", &format!("{}\n{}", READ_ALL, lines));
         let mut command = command(&["check", &path]);
         command.env("PATH", folder.path()).env("TMPDIR", temporary.path());
-        outcome(&mut command).assert_stopped(3, &format!("the solver minisat gave no answer: {}\n", reason));
+        outcome(&mut command).assert_stopped(3, &format!("the solver minisat gave no answer {}\n", reason));
         assert_eq!(temporary.names(), Vec::<String>::new());
     }
 }
@@ -192,6 +235,16 @@ fn a_temporary_folder_that_is_missing() {
     let folder = Folder::new();
     command.env("TMPDIR", folder.path().join("missing"));
     outcome(&mut command).assert_stopped(3, "the solver minisat could not be run: ");
+}
+
+/// A variable that MiniSat does not name counts as false; the competitions' form must name all.
+#[test]
+fn minisats_own_file_may_leave_variables_out() {
+    let folder = Folder::new();
+    folder.script("minisat", &format!("{}\nprintf 'SAT\\n1 0\\n' >\"$3\"\nexit 10", READ_ALL));
+    let outcome = with_path(&folder, &["check", &model("a.txt"), "--bound", "1", "--quiet"]);
+    outcome.assert_stopped(4, "the assignment of minisat at bound 1 is wrong: refusal 26, clause 3: ");
+    assert!(outcome.err.ends_with("\n    3 4 5\n"), "{:?}", outcome);
 }
 
 #[test]
