@@ -11,6 +11,7 @@ mod input;
 mod layout;
 mod measure;
 mod memory;
+mod outputs;
 mod plain;
 mod table;
 
@@ -57,9 +58,14 @@ fn run() -> Result<(), String> {
     for bound in input::GROWTH {
         calls::filing(&greatest, bound)?.print();
     }
+    outputs::agree_in_generated()?;
+    table::head("Solvers' outputs", &table::OUTPUT_COLUMNS);
+    for variables in outputs::VARIABLES {
+        outputs::reading(variables)?.print();
+    }
     for input in [&greatest, &full].into_iter().chain(&shipped) {
         memory::on_a_small_stack(input)?;
     }
-    println!("\nEvery call on every model above also ran on a thread with a stack of {} bytes.", memory::STACK);
+    println!("\nEvery call on a model, on every one above, also ran on a thread with a stack of {} bytes.", memory::STACK);
     Ok(())
 }

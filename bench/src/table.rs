@@ -95,6 +95,46 @@ impl FileRow {
     }
 }
 
+pub const OUTPUT_COLUMNS: [&str; 9] = [
+    "variables",
+    "bytes",
+    "library",
+    "bytes a second",
+    "plain Rust, for speed",
+    "bytes a second",
+    "reference",
+    "speed / library",
+    "reference / library",
+];
+
+/// A row of the solvers' outputs. Its sides: the library, plain Rust for speed, the
+/// reference program.
+pub struct OutputRow {
+    pub variables: usize,
+    pub bytes: usize,
+    pub rounds: Rounds,
+}
+
+impl OutputRow {
+    pub fn print(&self) {
+        let [library, fast, reference] = [0, 1, 2];
+        let median = |side: usize| self.rounds.median(|t| t[side]);
+        let beside = |side: usize| ratio(self.rounds.median(|t| t[side] / t[library]));
+        let fields = [
+            grouped(self.variables),
+            grouped(self.bytes),
+            time(median(library)),
+            speed(self.bytes, median(library)),
+            time(median(fast)),
+            speed(self.bytes, median(fast)),
+            time(median(reference)),
+            beside(fast),
+            beside(reference),
+        ];
+        println!("| {} |", fields.join(" | "));
+    }
+}
+
 pub fn head(title: &str, columns: &[&str]) {
     println!("\n### {title}\n");
     println!("| {} |", columns.join(" | "));

@@ -1,6 +1,6 @@
 //! One call each: asked of the library with lent buffers, and compared with the reference.
 
-use wirdoku::library::{self, State};
+use wirdoku::library::{self, State, UNSATISFIABLE};
 
 use crate::expected::{self, List};
 use crate::lent::Lent;
@@ -83,4 +83,14 @@ pub fn encode(tally: &mut Tally, seed: u64, text: &[u8], run: &[u8], room: usize
     let (expected, written) = expected::run_to_assignment(text, run, room);
     tally.answer("run_to_assignment", expected, got);
     tally.buffer("run_to_assignment", &lent, &written);
+}
+
+/// A solver's output with an assignment buffer of some length. The outcome unsatisfiable is counted by itself.
+pub fn output(tally: &mut Tally, seed: u64, output: &[u8], room: usize) {
+    let mut lent = Lent::new(seed, room);
+    let got = library::output_to_assignment(output, lent.slice());
+    let (expected, written) = expected::output(output, room);
+    let call = if expected.outcome == UNSATISFIABLE { "output, unsatisfiable" } else { "output_to_assignment" };
+    tally.answer(call, expected, got);
+    tally.buffer("output_to_assignment", &lent, &written);
 }

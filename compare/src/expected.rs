@@ -5,11 +5,12 @@ use reference::assign::{decode, encode};
 use reference::dimacs::file;
 use reference::list::{totals, words, Totals};
 use reference::model::{ceiling, choice_length, state_length, Model};
+use reference::output::{output_to_assignment, SATISFIABLE};
 use reference::refusal::{number_and_place, Refusal, BYTES_SHORT, WORDS_SHORT};
 use reference::state::State as ReferenceState;
 use reference::step::{self, step_call};
 use reference::text::{read_bound_line, read_whole};
-use wirdoku::library::{Answer, FileAnswer, Shape, Sizes, State, StateAnswer};
+use wirdoku::library::{Answer, FileAnswer, OutputAnswer, Shape, Sizes, State, StateAnswer};
 
 fn answer((number, place): (u32, u32)) -> Answer {
     Answer { number: number as u8, place: place as usize }
@@ -185,4 +186,12 @@ pub fn run_to_assignment(text: &[u8], run: &[u8], room: usize) -> (Answer, Vec<u
     };
     assignment.truncate(if told.number == 0 { length } else { 0 });
     (told, assignment)
+}
+
+/// The answer for an assignment buffer of `room` bytes, and what was written: all of it, or nothing.
+pub fn output(output: &[u8], room: usize) -> (OutputAnswer, Vec<u8>) {
+    let mut assignment = vec![0; room];
+    let told = output_to_assignment(output, &mut assignment);
+    assignment.truncate(if told.outcome == SATISFIABLE { room } else { 0 });
+    (OutputAnswer { number: told.refusal as u8, line: told.line as usize, outcome: told.outcome as u8 }, assignment)
 }

@@ -9,7 +9,7 @@ use crate::lent::Lent;
 use crate::part::Seeds;
 use crate::tally::Tally;
 use crate::texts::written;
-use crate::{calls, nulls};
+use crate::{calls, nulls, outputs};
 
 const ACCEPTED: Answer = Answer { number: 0, place: 0 };
 
@@ -25,6 +25,7 @@ pub fn fixed(tally: &mut Tally, _: Seeds) {
     sets(tally);
     greatest_bound(tally);
     limits_of_the_text(tally);
+    outputs::worked(tally);
     nulls::nulls(tally);
 }
 

@@ -9,6 +9,7 @@ mod largest;
 mod lent;
 mod lists;
 mod nulls;
+mod outputs;
 mod part;
 mod runs;
 mod shipped;
@@ -17,6 +18,7 @@ mod stack;
 mod tally;
 mod texts;
 mod values;
+mod windows;
 
 use std::process::ExitCode;
 

@@ -13,6 +13,7 @@ use crate::texts::written;
 pub fn nulls(tally: &mut Tally) {
     null_text(tally);
     null_buffers(tally);
+    null_output(tally);
 }
 
 /// No text at all is the empty text: 2 in line 1.
@@ -66,4 +67,21 @@ fn null_buffers(tally: &mut Tally) {
         tally.answer("assignment_to_run", accepted, run);
     }
     tally.case(|| "null buffers".to_string());
+}
+
+/// No output, no buffer, neither.
+fn null_output(tally: &mut Tally) {
+    let (none, held) = (b"s SATISFIABLE\nv 0\n", [7; 2]);
+    let mut buffer = held;
+    // SAFETY: each slice is a null pointer and 0, or a slice that lives.
+    unsafe {
+        let got = wirdoku_output_to_assignment(null(), 0, null_mut(), 0);
+        tally.answer("output_to_assignment", expected::output(b"", 0).0, got);
+        let got = wirdoku_output_to_assignment(none.as_ptr(), none.len(), null_mut(), 0);
+        tally.answer("output_to_assignment", expected::output(none, 0).0, got);
+        let got = wirdoku_output_to_assignment(null(), 0, buffer.as_mut_ptr(), buffer.len());
+        tally.answer("output_to_assignment", expected::output(b"", 2).0, got);
+    }
+    tally.same("buffer", held, buffer);
+    tally.case(|| "null output".to_string());
 }

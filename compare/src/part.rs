@@ -3,7 +3,7 @@
 use std::time::Instant;
 
 use crate::tally::{Due, Tally};
-use crate::{assignments, fixed, largest, lists, runs, shipped, stack, texts};
+use crate::{assignments, fixed, largest, lists, outputs, runs, shipped, stack, texts, windows};
 
 /// Seeds from the first on.
 #[derive(Clone, Copy)]
@@ -78,7 +78,17 @@ pub fn parts() -> Vec<Part> {
         part("lists", "lists word for word, files byte for byte", (4_000_000, 2_400), lists::DUE, lists::lists),
         part("runs", "runs and steps", (5_000_000, 6_000), runs::DUE, runs::runs),
         part("assignments", "assignments", (6_000_000, 6_000), assignments::DUE, assignments::assignments),
+        part("outputs", "solvers' outputs, right and damaged", (8_000_000, 30_000), outputs::DUE, outputs::outputs),
+        part(
+            "near_outputs",
+            "outputs that differ from a worked one in a byte",
+            (0, outputs::PLACES),
+            outputs::DUE,
+            outputs::near,
+        ),
+        part("many", "outputs of many variables", (9_000_000, 320), windows::DUE, windows::many),
         part("fixed", "worked cases", (0, 0), &[], fixed::fixed),
+        part("windows", "outputs of many variables and long ones, worked", (0, 0), &[], windows::windows),
         part("shipped", "models in the repository", (0, 0), &[], shipped::shipped),
         part("largest", "models at every limit", (0, 0), &[], largest::largest),
         part("stack", "stack use", (0, 0), &[], stack::stack),

@@ -2,6 +2,8 @@
 
 /// Most numbers of a list that are shown.
 const MOST_NUMBERS: usize = 300;
+/// Most bytes of a long text that are shown.
+const MOST_BYTES: usize = 500;
 
 /// A text in quotes, escaped; more than eight equal bytes in a row are told by their count.
 pub fn text(text: &[u8]) -> String {
@@ -15,6 +17,14 @@ pub fn text(text: &[u8]) -> String {
         rest = &rest[equal..];
     }
     format!("\"{shown}\"")
+}
+
+/// A text as above, or the beginning of a long one and its length.
+pub fn beginning(whole: &[u8]) -> String {
+    match whole.get(..MOST_BYTES) {
+        None => text(whole),
+        Some(beginning) => format!("{} .. ({} bytes)", text(beginning), whole.len()),
+    }
 }
 
 /// The bytes of a run.
@@ -47,6 +57,12 @@ mod tests {
     fn texts_are_escaped_and_long_rows_counted() {
         assert_eq!(super::text(b"a=\"\n\n\xff"), "\"a=\\\"\\n\\n\\xff\"");
         assert_eq!(super::text(&[b'\n'; 9]), "\"\\n<9 times>\"");
+    }
+
+    #[test]
+    fn long_texts_are_cut() {
+        assert_eq!(super::beginning(b"ab"), "\"ab\"");
+        assert_eq!(super::beginning(&[b'a'; 600]), "\"a<500 times>\" .. (600 bytes)");
     }
 
     #[test]

@@ -12,11 +12,14 @@ use crate::largest::model_and_run;
 use crate::part::Seeds;
 use crate::tally::Tally;
 use crate::texts::written;
+use crate::windows;
 
 /// The name under which the program calls itself.
 pub const ON_STACK: &str = "on-stack";
 /// The stack in KiB that must suffice: half of the promised one.
 const SUFFICIENT: usize = 512;
+/// Variables of the solver's output.
+const VARIABLES: usize = 100_000;
 /// The least stack that a thread can be given.
 const LEAST: usize = 16;
 
@@ -69,6 +72,8 @@ fn question() -> impl FnOnce() -> bool + Send {
     let text = written(&model);
     let input = [b"bound=64\n", &text[..]].concat();
     let mut assignment = vec![0; library::counts(&text, MAX_BOUND).variables];
+    let output = windows::written(&windows::rising(VARIABLES));
+    let mut values = vec![0; VARIABLES + 1];
     move || {
         let start = library::initial(&text);
         let mut back = [0; MAX_BOUND];
@@ -84,6 +89,7 @@ fn question() -> impl FnOnce() -> bool + Send {
             library::walk(&text, &run).number,
             library::run_to_assignment(&text, &run, &mut assignment).number,
             library::assignment_to_run(&text, MAX_BOUND, &assignment, &mut back).number,
+            library::output_to_assignment(&output, &mut values[1..]).number,
         ];
         let last = assignment.len() - 1;
         assignment[last] ^= 1;
@@ -94,7 +100,10 @@ fn question() -> impl FnOnce() -> bool + Send {
             library::walk(&text, &[run[0], 255]).number,
             library::assignment_to_run(&text, MAX_BOUND, &assignment, &mut back).number,
             library::run_to_assignment(&text, &run, &mut assignment[1..]).number,
+            library::output_to_assignment(&output[..output.len() - 1], &mut values[1..]).number,
+            library::output_to_assignment(&output, &mut values[2..]).number,
+            library::output_to_assignment(&output, &mut values).number,
         ];
-        accepted == [0; 11] && refused == [2, 22, 32, 27, 26, 31] && back[..] == run[..]
+        accepted == [0; 12] && refused == [2, 22, 32, 27, 26, 31, 33, 34, 35] && back[..] == run[..]
     }
 }

@@ -3,7 +3,7 @@
 use std::collections::BTreeMap;
 use std::fmt::Debug;
 
-use wirdoku::library::{Answer, FileAnswer, Shape, Sizes, StateAnswer};
+use wirdoku::library::{Answer, FileAnswer, OutputAnswer, Shape, Sizes, StateAnswer};
 
 use crate::lent::{Cell, Lent};
 
@@ -30,6 +30,12 @@ impl Numbered for Sizes {
 }
 
 impl Numbered for FileAnswer {
+    fn number(&self) -> u8 {
+        self.number
+    }
+}
+
+impl Numbered for OutputAnswer {
     fn number(&self) -> u8 {
         self.number
     }
@@ -119,7 +125,7 @@ impl Tally {
     pub fn print_answers(&self) {
         for (call, met) in &self.answers {
             let counts: Vec<String> = met.iter().map(|(number, count)| format!("{number}:{count}")).collect();
-            println!("    {call:<18} {}", counts.join(" "));
+            println!("    {call:<20} {}", counts.join(" "));
         }
     }
 

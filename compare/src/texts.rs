@@ -152,7 +152,8 @@ pub fn near(tally: &mut Tally, places: Seeds) {
     }
 }
 
-fn neighbours(right: &[u8], place: usize) -> Vec<Box<[u8]>> {
+/// The texts that differ from a right one at a place: cut off there, one byte inserted, replaced or removed.
+pub fn neighbours(right: &[u8], place: usize) -> Vec<Box<[u8]>> {
     let (before, after) = right.split_at(place);
     let rest = after.get(1..);
     let mut texts = vec![before.to_vec()];
