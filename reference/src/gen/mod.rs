@@ -2,6 +2,7 @@
 //! the same seed gives the same case on every machine.
 
 pub mod cases;
+mod lines;
 pub mod models;
 pub mod outputs;
 pub mod records;

@@ -1,6 +1,7 @@
 //! Outputs of a solver, right and damaged, and the number of variables that they
 //! are read for.
 
+use super::lines::{moved_line, with_lines, Lines};
 use super::rng::Rng;
 
 /// Bytes that stand in outputs, and some that never do.
@@ -35,9 +36,6 @@ const LINES: [&str; 20] = [
 
 /// Texts of comments.
 const COMMENTS: [&str; 6] = ["", " ", "x", "s SATISFIABLE", "v 1 2 0", "\r\0\u{e9}"];
-
-/// The lines of an output, each with its LF.
-type Lines = Vec<Vec<u8>>;
 
 /// An output and the variables asked for: untouched once in four, else damaged
 /// one to three times; once in four the number of variables is off by one.
@@ -131,26 +129,6 @@ pub fn damaged(rng: &mut Rng, mut output: Vec<u8>) -> Vec<u8> {
         _ => output = with_lines(rng, &output, |rng, lines| inserted(rng, lines, comment)),
     }
     output
-}
-
-/// Applies a change to the lines of an output that has at least one.
-fn with_lines(rng: &mut Rng, output: &[u8], change: fn(&mut Rng, Lines) -> Lines) -> Vec<u8> {
-    let lines: Lines = output.split_inclusive(|byte| *byte == b'\n').map(<[u8]>::to_vec).collect();
-    if lines.is_empty() {
-        return Vec::new();
-    }
-    change(rng, lines).concat()
-}
-
-/// Drops, doubles or swaps lines.
-fn moved_line(rng: &mut Rng, mut lines: Lines) -> Lines {
-    let (one, other) = (rng.below(lines.len()), rng.below(lines.len()));
-    match rng.below(3) {
-        0 => drop(lines.remove(one)),
-        1 => lines.insert(one, lines[other].clone()),
-        _ => lines.swap(one, other),
-    }
-    lines
 }
 
 fn inserted(rng: &mut Rng, mut lines: Lines, line: fn(&mut Rng) -> Vec<u8>) -> Lines {

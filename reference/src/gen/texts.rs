@@ -1,5 +1,6 @@
 //! Damaged model texts and inputs of the size program, which are the cnf program's too.
 
+use super::lines::{moved_line, with_lines, Lines};
 use super::models::any_model;
 use super::rng::Rng;
 use crate::text::{write, MAX_TEXT};
@@ -119,18 +120,6 @@ fn with_number(rng: &mut Rng, text: &[u8]) -> Vec<u8> {
     [&text[..start], number.as_bytes(), &text[start + length..]].concat()
 }
 
-/// The lines of a text, each with its LF.
-type Lines = Vec<Vec<u8>>;
-
-/// Applies a change to the lines of a text that has at least one.
-fn with_lines(rng: &mut Rng, text: &[u8], change: fn(&mut Rng, Lines) -> Lines) -> Vec<u8> {
-    let lines: Lines = text.split_inclusive(|byte| *byte == b'\n').map(<[u8]>::to_vec).collect();
-    if lines.is_empty() {
-        return Vec::new();
-    }
-    change(rng, lines).concat()
-}
-
 /// The keys of the lines that hold items, with an item of that line.
 const ITEM_LINES: [(&str, &str); 4] = [("inv=", "x0<=2"), ("when=", "x0>=1"), ("set=", "v0:=v0+1"), ("reset=", "x0")];
 
@@ -204,16 +193,5 @@ fn other_value(rng: &mut Rng, mut lines: Lines) -> Lines {
     line.extend(value.bytes());
     line.push(b'\n');
     lines[place] = line;
-    lines
-}
-
-/// Drops, doubles or swaps lines.
-fn moved_line(rng: &mut Rng, mut lines: Lines) -> Lines {
-    let (one, other) = (rng.below(lines.len()), rng.below(lines.len()));
-    match rng.below(3) {
-        0 => drop(lines.remove(one)),
-        1 => lines.insert(one, lines[other].clone()),
-        _ => lines.swap(one, other),
-    }
     lines
 }
