@@ -26,6 +26,7 @@ literalUpTo most w = record { variable = capped most (numberAfter 0 (unsigned w)
 abbrev pub countedFrom : Progress → Reading
 countedFrom p = record { fault = p .fault; line = p .line; stage = p .stage; named = length (p .named) }
 
+-- nothing is read yet
 abbrev pub noReading : Reading
 noReading = record { fault = NoFault; line = 0; stage = BeforeStatus; named = 0 }
 
@@ -51,6 +52,7 @@ countLiteral n limit l r =
     (record { fault = NoFault; line = r .line; stage = r .stage; named = r .named + 1 })))
     r
 
+-- a line or a literal
 abbrev pub count : ℕ → ℕ → Reading → Token → Reading
 count n limit r (formed f) = countLine f r
 count n limit r (literal l) = countLiteral n limit l r

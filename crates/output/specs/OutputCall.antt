@@ -34,9 +34,11 @@ pub record Progress : Type 0 where
   pub stage : Stage
   pub named : List Literal
 
+-- nothing is read yet: an s line is due
 abbrev pub start : Progress
 start = record { fault = NoFault; line = 0; stage = BeforeStatus; named = [] }
 
+-- the fault f; the next line; a stage; one literal more
 abbrev pub faulty : Fault → Progress → Progress
 faulty f p = record { fault = f; line = p .line; stage = p .stage; named = p .named }
 
@@ -59,10 +61,12 @@ judgeLiteral n l p =
     cond (eqb (l .variable) 0) (cond (allNamed n (p .named)) (atStage Closed p) (faulty Incomplete p))
     (cond (ltb n (l .variable) || isNamed (l .variable) (p .named)) (faulty AboveOrNamedBefore p) (withNamed l p))
 
+-- a line or a literal
 abbrev pub judgeToken : ℕ → Token → Progress → Progress
 judgeToken n (formed f) p = judgeLine f p
 judgeToken n (literal l) p = judgeLiteral n l p
 
+-- nothing was refused so far
 abbrev pub isNoFault : Fault → Bool
 isNoFault NoFault = true
 isNoFault OutOfFormOrPlace = false
@@ -85,6 +89,7 @@ pub record OutputReport : Type 0 where
   pub line : ℕ
   pub outcome : ℕ
 
+-- refused with a number and a line; accepted with an outcome
 abbrev pub outputRefused : ℕ → ℕ → OutputReport
 outputRefused number line = record { number = number; line = line; outcome = 0 }
 
@@ -98,12 +103,14 @@ endReport line InValues = outputRefused 35 (line + 1)
 endReport line Closed = outputAccepted 10
 endReport line Refuted = outputAccepted 20
 
+-- the fault, if there is one, else how the text ended
 abbrev pub reportOf : Fault → ℕ → Stage → OutputReport
 reportOf NoFault line stage = endReport line stage
 reportOf OutOfFormOrPlace line stage = outputRefused 33 line
 reportOf AboveOrNamedBefore line stage = outputRefused 34 line
 reportOf Incomplete line stage = outputRefused 35 line
 
+-- what the call answers on a text, of n variables
 unfoldable pub outputReport : List ℕ → ℕ → OutputReport
 outputReport t n = let p = judged n t in reportOf (p .fault) (p .line) (p .stage)
 

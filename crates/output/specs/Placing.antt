@@ -22,6 +22,7 @@ partLiterals read [] = []
 partLiterals read (l ∷ []) = []
 partLiterals read (l ∷ m ∷ ps) = lineLiterals read l ++ partLiterals read (m ∷ ps)
 
+-- the whole text
 unfoldable pub literalsOf : (List ℕ → Literal) → List ℕ → List Literal
 literalsOf read t = partLiterals read (splitOn 10 t)
 
@@ -36,6 +37,7 @@ pub record Marking : Type 0 where
   pub bound : ℕ
   pub marks : List ℕ
 
+-- the same of the code's numbers and the lent window
 abbrev pub marking : Placing → List ℕ → Marking
 marking p marks = record { seen = p .seen; bound = p .bound; marks = marks }
 

@@ -35,6 +35,7 @@ partTokens read [] = []
 partTokens read (l ∷ []) = lastTokens l
 partTokens read (l ∷ m ∷ ps) = lineTokens read l ++ partTokens read (m ∷ ps)
 
+-- the whole text
 unfoldable pub tokensOf : (List ℕ → Literal) → List ℕ → List Token
 tokensOf read t = partTokens read (splitOn 10 t)
 
