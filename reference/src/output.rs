@@ -77,10 +77,10 @@ pub fn read_output(output: &[u8], variables: usize) -> Result<Verdict, Refusal> 
                         due = Due::Comments;
                         continue;
                     }
-                    let variable = variable(literal).filter(|variable| *variable <= variables);
-                    let variable = variable.ok_or(Refusal::at(WRONG_VARIABLE, lines))?;
+                    let wrong_variable = Refusal::at(WRONG_VARIABLE, lines);
+                    let variable = variable(literal).filter(|variable| *variable <= variables).ok_or(wrong_variable)?;
                     if !named.insert(variable) {
-                        return Err(Refusal::at(WRONG_VARIABLE, lines));
+                        return Err(wrong_variable);
                     }
                     bytes[variable - 1] = u8::from(!literal.starts_with('-'));
                 }

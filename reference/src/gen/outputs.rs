@@ -119,9 +119,11 @@ pub fn damaged(rng: &mut Rng, mut output: Vec<u8>) -> Vec<u8> {
     match rng.below(16) {
         0 if !output.is_empty() => output[place] = rng.pick(BYTES),
         1 => output.insert(place, rng.pick(BYTES)),
-        2 if !output.is_empty() => drop(output.remove(place)),
+        2 if !output.is_empty() => {
+            output.remove(place);
+        }
         3 => output.truncate(place),
-        4 => drop(output.pop()),
+        4 => output.truncate(output.len().saturating_sub(1)),
         5 | 6 => output = with_lines(rng, &output, moved_line),
         7 => output = with_lines(rng, &output, other_line),
         8..=13 => output = with_lines(rng, &output, other_literal),
@@ -194,7 +196,9 @@ fn other_space(rng: &mut Rng, mut lines: Lines) -> Lines {
     let spaces: Vec<usize> = (0..line.len()).filter(|place| line[*place] == b' ').collect();
     match rng.below(3) {
         0 if !spaces.is_empty() => line.insert(rng.pick(&spaces), b' '),
-        1 if !spaces.is_empty() => drop(line.remove(rng.pick(&spaces))),
+        1 if !spaces.is_empty() => {
+            line.remove(rng.pick(&spaces));
+        }
         _ => line.insert(line.len().saturating_sub(1), b' '),
     }
     lines
