@@ -10,7 +10,7 @@ use Rattle.model.specs.declared.Atom.the-variants.{Blank, OnClock, OnCounter}
 use Rattle.model.specs.declared.Update.{Update}
 use Rattle.model.specs.declared.Update.the-variants.{Constant, Sum, Keep as KeepIt}
 use Rattle.model.specs.declared.ClockUpdate.{ClockUpdate}
-use Rattle.model.specs.declared.ClockUpdate.the-variants.{Unchanged, Reset}
+use Rattle.model.specs.declared.ClockUpdate.the-variants.{Unchanged, Reset, Copy}
 use Rattle.model.specs.declared.Edge.{Edge}
 use Rattle.model.specs.declared.AtomSlot.{AtomSlot}
 use Rattle.model.specs.Indexed.{each}
@@ -46,6 +46,7 @@ update-kind b o order i (Sum w z) = refl
 reset-kind : (b : GroupTable) (o i : ℕ) (u : ClockUpdate) → kind (resetPart b o i u) ≡ kind (resetPart b 0 i u)
 reset-kind b o i Unchanged = refl
 reset-kind b o i Reset = refl
+reset-kind b o i (Copy w) = refl
 
 -- a part of an edge, by four tests of its number
 abbrev picked : GroupTable → Edge → ℕ → Bool → Bool → Bool → Bool → ℕ → Part
@@ -90,6 +91,7 @@ module _ (b : GroupTable) (h : Bounded b) (o : ℕ) where
   reset-small : (i : ℕ) (u : ClockUpdate) → resetPart b o i u .size ≤ 32
   reset-small i Unchanged = h .size-le (1 + b .vars + i)
   reset-small i Reset = omega arith
+  reset-small i (Copy w) = h .size-le (1 + b .vars + w)
 
   pub edge-small : (e : Edge) (j : ℕ) → edgePart b e o j .size ≤ 32
   unfolding edgePart

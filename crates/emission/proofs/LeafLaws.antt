@@ -14,7 +14,7 @@ use Rattle.model.specs.declared.Atom.the-variants.{Blank, OnClock, OnCounter}
 use Rattle.model.specs.declared.Update.{Update}
 use Rattle.model.specs.declared.Update.the-variants.{Constant, Sum, Keep as KeepIt}
 use Rattle.model.specs.declared.ClockUpdate.{ClockUpdate}
-use Rattle.model.specs.declared.ClockUpdate.the-variants.{Unchanged, Reset}
+use Rattle.model.specs.declared.ClockUpdate.the-variants.{Unchanged, Reset, Copy}
 use Rattle.model.specs.declared.Edge.{Edge}
 use Rattle.model.specs.Indexed.{each}
 use Rattle.model.specs.Record.{atomAt, updateAt, resetAt}
@@ -28,11 +28,11 @@ use Rattle.parts.specs.declared.GroupTable.{GroupTable}
 use Rattle.parts.specs.Rules.{partClauses, Fits}
 use Rattle.parts.specs.StateBlock.{firstAt, Bounded}
 use Rattle.parts.specs.Pieces.{atomPiece}
-use Rattle.parts.specs.PartsOf.{AtomIn, UpdateIn, nextAt, atomPart, leadsPart, greatestAt, readAt, updatePart, resetPart, delayPart}
+use Rattle.parts.specs.PartsOf.{AtomIn, UpdateIn, ResetIn, nextAt, atomPart, leadsPart, greatestAt, readAt, updatePart, resetPart, delayPart}
 use Rattle.parts.proofs.PartPieces.{part-is, set-is}
 use Rattle.parts.proofs.EdgeParts.{source-part, target-part, guard-part, counter-part, clock-part}
 use Rattle.emission.specs.Compared.{comparison}
-use Rattle.emission.specs.Writable.{Lent, atomTable, AtomFits, UpdateFits, EdgeFits}
+use Rattle.emission.specs.Writable.{Lent, atomTable, AtomFits, UpdateFits, ResetFits, EdgeFits}
 use Rattle.emission.proofs.TableLaws.{excludeBy, leadsBy, setBy, exclude-lent, leads-lent, set-lent}
 
 -- a part that fits, under another name
@@ -114,6 +114,12 @@ module _ {b : GroupTable} {first size : List ℕ} (l : Lent b first size) (o : �
         let z : nextAt b o + getD first (1 + b .vars + i) 0 + 0 ≡ nextAt b o + getD first (1 + b .vars + i) 0 = omega arith in
         ap (partClauses x) (reset-is e) ∙ set-is x _ _ (Set 0) ∙ ap (λ (n : ℕ). one (negated x ∷ bare n ∷ [])) z
 
+    pub copy-is : (w : ℕ) → u ≡ Copy w → resetPart b o i u ≡ leadsBy first size o (nextAt b o) (1 + b .vars + w) (1 + b .vars + i) Keep
+    copy-is w e = ap (resetPart b o i) e ∙ leads-lent l o o (1 + b .vars + w) (1 + b .vars + i) Keep
+
+    pub copy-in : (w : ℕ) → u ≡ Copy w → ResetFits b o i u → 1 + b .vars + w < 9
+    copy-in w e f = subst (ResetIn b) e (f .named)
+
   -- ---- delays
   pub delay-kept : (d g : ℕ) → g < 1 + b .vars → delayPart b o d g ≡ leadsBy first size o (nextAt b o) g g Keep
   delay-kept d g h =
@@ -133,6 +139,7 @@ module _ (b : GroupTable) (o i : ℕ) where
   pub reset-after : (u : ClockUpdate) → Fits (resetPart b o i u) mostVariables → nextAt b o + firstAt b (1 + b .vars + i) ≤ mostVariables
   reset-after Unchanged f = omega (arith, f .after-in)
   reset-after Reset f = omega (arith, f .after-in)
+  reset-after (Copy w) f = omega (arith, f .after-in)
 
 -- ---- an edge, kind by kind
 module _ {b : GroupTable} (h : Bounded b) {o : ℕ} {e : Edge} (f : EdgeFits b o e) where
@@ -148,5 +155,5 @@ module _ {b : GroupTable} (h : Bounded b) {o : ℕ} {e : Edge} (f : EdgeFits b o
   pub updates-fit : (i : ℕ) → i < b .vars → UpdateFits b o (e .order) i (updateAt e i)
   updates-fit i l = record { named = f .sources i l; fits = fits-as (counter-part b e o i l) (f .parts (6 + i) (omega (arith, h .vars-in))) }
 
-  pub resets-fit : (i : ℕ) → i < b .groups - (1 + b .vars) → Fits (resetPart b o i (resetAt e i)) mostVariables
-  resets-fit i l = fits-as (clock-part b e o i) (f .parts (6 + b .vars + i) (omega (arith, h .vars-in)))
+  pub resets-fit : (i : ℕ) → i < b .groups - (1 + b .vars) → ResetFits b o i (resetAt e i)
+  resets-fit i l = record { named = f .copies i l; fits = fits-as (clock-part b e o i) (f .parts (6 + b .vars + i) (omega (arith, h .vars-in))) }

@@ -9,7 +9,7 @@ use lib.ListN.{length}
 use Rattle.model.specs.declared.Model.{Model}
 use Rattle.model.specs.declared.Totals.{Totals}
 use Rattle.model.specs.Indexed.{each}
-use Rattle.model.specs.Record.{atomAt, invariantAt, updateAt, edgeAt}
+use Rattle.model.specs.Record.{atomAt, invariantAt, updateAt, resetAt, edgeAt}
 use Rattle.model.specs.Automaton.{groupSize, stateSize, choices}
 use Rattle.model.specs.Bounds.{KnownTotals}
 use Rattle.model.specs.Form.{wellFormed}
@@ -26,8 +26,8 @@ use Rattle.parts.specs.Numbering.{variableNumber, mostVariables}
 use Rattle.parts.specs.Pieces.{Known, groupPiece, locationPiece, frontPiece, edgeClauses, stepClauses}
 use Rattle.parts.proofs.NumberingLaws.{variable-number, block-most}
 use Rattle.parts.proofs.PartFits.{locations-in}
-use Rattle.parts.proofs.KnownLaws.{wf, known-vars, known-state, known-top, known-locations, location-size}
-use Rattle.parts.proofs.KnownLaws.{atom-in, update-in, invariant-fits, edge-fits-of, edge-piece-of, state-piece-of, step-piece-of}
+use Rattle.parts.proofs.KnownLaws.{wf, known-vars, known-groups, known-state, known-top, known-locations, location-size}
+use Rattle.parts.proofs.KnownLaws.{atom-in, update-in, reset-in, invariant-fits, edge-fits-of, edge-piece-of, state-piece-of, step-piece-of}
 use Rattle.emission.specs.Writable.{Lent, InvariantsFit, EdgeFits, EdgesFit, edgeIn}
 
 -- the target's number is one more than its variable
@@ -81,6 +81,7 @@ module _ {m : Model} {b : GroupTable} (k : Known m b) where
       let w = wf k .edge-ok e l in record {
         guards = λ j p. atom-in k (atomAt (edgeAt m e .guard) j) (w .guard-ok j p);
         sources = λ i p. update-in k (updateAt (edgeAt m e) i) (w .sets-ok i (omega (arith, known-vars k)));
+        copies = λ i p. reset-in k (resetAt (edgeAt m e) i) (w .resets-ok i (omega (arith, known-vars k, known-groups k)));
         parts = edge-fits-of k o mostVariables h e l;
       }
 

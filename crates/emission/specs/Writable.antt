@@ -1,21 +1,22 @@
 -- What the writers ask of the table and of what is written by it. Variables are counted from 0.
 use mathlib.Core.Path.{_≡_}
 use mathlib.Core.List.{List, []}
-use Prim.Native.Nat.{ℕ, _+_, _<_, _≤_}
+use Prim.Native.Nat.{ℕ, _+_, _-_, _<_, _≤_}
 use lib.ListN.{length, getD}
 use Rattle.model.specs.declared.Atom.{Atom}
 use Rattle.model.specs.declared.AtomSlot.{AtomSlot}
 use Rattle.model.specs.declared.Update.{Update}
+use Rattle.model.specs.declared.ClockUpdate.{ClockUpdate}
 use Rattle.model.specs.declared.Invariant.{Invariant}
 use Rattle.model.specs.declared.Edge.{Edge}
 use Rattle.model.specs.Indexed.{each}
-use Rattle.model.specs.Record.{atomAt, updateAt, pastInvariant, pastEdge}
+use Rattle.model.specs.Record.{atomAt, updateAt, resetAt, pastInvariant, pastEdge}
 use Rattle.list.specs.Clauses.{Clause}
 use Rattle.parts.specs.Numbering.{mostVariables}
 use Rattle.parts.specs.Rules.{Fits}
 use Rattle.parts.specs.declared.GroupTable.{GroupTable}
 use Rattle.parts.specs.StateBlock.{sizeAt}
-use Rattle.parts.specs.PartsOf.{AtomIn, UpdateIn, atomPart, updatePart, edgePart}
+use Rattle.parts.specs.PartsOf.{AtomIn, UpdateIn, ResetIn, atomPart, updatePart, resetPart, edgePart}
 use Rattle.parts.specs.Pieces.{atomPiece, edgePiece}
 
 -- The lent slices are the table's: where each group begins, and how many members it has.
@@ -39,10 +40,16 @@ pub record UpdateFits (b : GroupTable) (o : ℕ) (order : List ℕ) (i : ℕ) (u
   pub named : UpdateIn u
   pub fits : Fits (updatePart b o order i u) mostVariables
 
+-- The same of an update of clock i.
+pub record ResetFits (b : GroupTable) (o i : ℕ) (u : ClockUpdate) : Type 0 where
+  pub named : ResetIn b u
+  pub fits : Fits (resetPart b o i u) mostVariables
+
 -- The same of all that an edge asks.
 pub record EdgeFits (b : GroupTable) (o : ℕ) (e : Edge) : Type 0 where
   pub guards : (k : ℕ) → k < 4 → AtomIn b (atomAt (e .guard) k)
   pub sources : (i : ℕ) → i < b .vars → UpdateIn (updateAt e i)
+  pub copies : (i : ℕ) → i < b .groups - (1 + b .vars) → ResetIn b (resetAt e i)
   pub parts : (j : ℕ) → j < b .groups + 5 → Fits (edgePart b e o j) mostVariables
 
 -- Edge e, which is choice M + 1 + e.

@@ -15,12 +15,12 @@ ghost use Prim.Native.Nat.{ℕ, _+_, _-_, _<_, _≤_};
 ghost use Rattle.model.specs.Indexed.{each};
 ghost use Rattle.model.specs.Record.{updateAt, resetAt};
 ghost use Rattle.parts.specs.Numbering.{mostVariables};
-ghost use Rattle.parts.specs.Rules.{partClauses, Fits};
+ghost use Rattle.parts.specs.Rules.{partClauses};
 ghost use Rattle.parts.specs.StateBlock.{Bounded};
 ghost use Rattle.parts.specs.PartsOf.{greatestAt, updatePart, resetPart};
 ghost use Rattle.parts.specs.Pieces.{edgePiece};
 ghost use Rattle.emission.specs.Written.{RoomFor, WroteClauses};
-ghost use Rattle.emission.specs.Writable.{Lent, UpdateFits, EdgeFits, EdgesFit, edgeIn};
+ghost use Rattle.emission.specs.Writable.{Lent, UpdateFits, ResetFits, EdgeFits, EdgesFit, edgeIn};
 
 // Counter `i`, by its update.
 fn put_update(
@@ -96,7 +96,7 @@ fn put_updates(
     end
 }
 
-// Clock `i`: reset gives not edge, 0 after; else each value is kept.
+// Clock `i`, by its update.
 fn put_reset(
     b: GroupTable,
     first: &[u16],
@@ -108,7 +108,7 @@ fn put_reset(
     out: &mut [i32],
     at: usize,
 ) -> usize
-    requires { ⌜ Lent b (now first) (now size) × (x < mostVariables) × (1 + b .vars + i < 9) × Fits (resetPart b o i update) mostVariables × RoomFor (partClauses x (resetPart b o i update)) (now out) at ⌝ }
+    requires { ⌜ Lent b (now first) (now size) × (x < mostVariables) × (1 + b .vars + i < 9) × ResetFits b o i update × RoomFor (partClauses x (resetPart b o i update)) (now out) at ⌝ }
     ensures { λ r. ⌜ WroteClauses (partClauses x (resetPart b o i update)) (now (out .entry)) (now (out .exit)) at r ⌝ }
 {
     let g = 1 + b.vars + i;
@@ -121,6 +121,11 @@ fn put_reset(
             put_kept(x, unchanged as usize, after, size[g] as usize, out, at)
         }
         ClockUpdate::Reset => put_implication(x, after, out, at),
+        ClockUpdate::Copy { source } => {
+            let w = 1 + b.vars + source as usize;
+            let copied = block + first[w];
+            put_kept(x, copied as usize, after, size[w] as usize, out, at)
+        }
     }
 }
 
@@ -135,7 +140,7 @@ fn put_resets(
     out: &mut [i32],
     at: usize,
 ) -> usize
-    requires { ⌜ Lent b (now first) (now size) × (x < mostVariables) × Bounded b × ((i : ℕ) → i < b .groups - (1 + b .vars) → Fits (resetPart b o i (resetAt e i)) mostVariables) × RoomFor (each (b .groups - (1 + b .vars)) (λ i. partClauses x (resetPart b o i (resetAt e i)))) (now out) at ⌝ }
+    requires { ⌜ Lent b (now first) (now size) × (x < mostVariables) × Bounded b × ((i : ℕ) → i < b .groups - (1 + b .vars) → ResetFits b o i (resetAt e i)) × RoomFor (each (b .groups - (1 + b .vars)) (λ i. partClauses x (resetPart b o i (resetAt e i)))) (now out) at ⌝ }
     ensures { λ r. ⌜ WroteClauses (each (b .groups - (1 + b .vars)) (λ i. partClauses x (resetPart b o i (resetAt e i)))) (now (out .entry)) (now (out .exit)) at r ⌝ }
 {
     let resets = e.resets;

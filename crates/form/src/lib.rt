@@ -16,7 +16,7 @@ ghost use mathlib.Core.Bool.{cond};
 ghost use Prim.Native.Nat.{_<_};
 ghost use lib.Dec.{ltb};
 ghost use Rattle.model.specs.Automaton.{listed};
-ghost use Rattle.model.specs.Form.{isNotEqual, atomFormed, isBlank, noGap, eachFormed, filledFromFirst, atomsFormed, counterFormed, isBlankCounter, counterSlotFormed, countersFormed, invariantsFormed, updateFormed, isUnchanged, updateSlotFormed, updatesFormed, orderSlotFormed, orderFormed, resetSlotFormed, resetsFormed, edgeFormed, edgesFormed, headFormed, wellFormed, slotInGroup, countersInGroup, clocksInGroup, stateFormed};
+ghost use Rattle.model.specs.Form.{isNotEqual, atomFormed, isBlank, noGap, eachFormed, filledFromFirst, atomsFormed, counterFormed, isBlankCounter, counterSlotFormed, countersFormed, invariantsFormed, updateFormed, clockUpdateFormed, isUnchanged, updateSlotFormed, updatesFormed, orderSlotFormed, orderFormed, resetSlotFormed, resetsFormed, edgeFormed, edgesFormed, headFormed, wellFormed, slotInGroup, countersInGroup, clocksInGroup, stateFormed};
 
 fn is_not_equal(r: Relation) -> bool
     ensures { λ b. ⌜ b ≡ isNotEqual r ⌝ }
@@ -248,12 +248,23 @@ fn order_formed(e: Edge) -> bool
     true
 }
 
+fn clock_update_formed(u: ClockUpdate, clocks: u8) -> bool
+    ensures { λ r. ⌜ r ≡ clockUpdateFormed clocks u ⌝ }
+{
+    match u {
+        ClockUpdate::Unchanged => true,
+        ClockUpdate::Reset => true,
+        ClockUpdate::Copy { source } => source < clocks,
+    }
+}
+
 fn is_unchanged(u: ClockUpdate) -> bool
     ensures { λ r. ⌜ r ≡ isUnchanged u ⌝ }
 {
     match u {
         ClockUpdate::Unchanged => true,
         ClockUpdate::Reset => false,
+        ClockUpdate::Copy { source: _ } => false,
     }
 }
 
@@ -261,7 +272,7 @@ fn reset_slot_formed(u: ClockUpdate, i: usize, clocks: u8) -> bool
     ensures { λ r. ⌜ r ≡ resetSlotFormed clocks u i ⌝ }
 {
     if i < clocks as usize {
-        true
+        clock_update_formed(u, clocks)
     } else {
         is_unchanged(u)
     }

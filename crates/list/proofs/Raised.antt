@@ -14,7 +14,7 @@ use Rattle.model.specs.declared.AtomSlot.{AtomSlot}
 use Rattle.model.specs.declared.Update.{Update}
 use Rattle.model.specs.declared.Update.the-variants.{Keep, Constant, Sum}
 use Rattle.model.specs.declared.ClockUpdate.{ClockUpdate}
-use Rattle.model.specs.declared.ClockUpdate.the-variants.{Unchanged, Reset}
+use Rattle.model.specs.declared.ClockUpdate.the-variants.{Unchanged, Reset, Copy}
 use Rattle.model.specs.declared.Edge.{Edge}
 use Rattle.model.specs.declared.Model.{Model}
 use Rattle.model.specs.Indexed.{each}
@@ -256,6 +256,7 @@ module _ (width : ℕ → ℕ) (m : Model) (d : ℕ) where
   reset-up : (o c i : ℕ) (u : ClockUpdate) → resetItems width m (d + o) c i u ≡ up (resetItems width m o c i u)
   reset-up o c i Unchanged = leads-up o o c (clock i) (clock i) some
   reset-up o c i Reset = sets-up o c (clock i) (some 0)
+  reset-up o c i (Copy w) = leads-up o o c (clock w) (clock i) some
 
   -- An edge.
   edge-up : (o c : ℕ) (e : Edge) → edgeItems width m (d + o) c e ≡ up (edgeItems width m o c e)

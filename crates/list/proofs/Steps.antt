@@ -11,7 +11,7 @@ use lib.Dec.{T}
 use Rattle.model.specs.declared.Update.{Update}
 use Rattle.model.specs.declared.Update.the-variants.{Keep, Constant, Sum}
 use Rattle.model.specs.declared.ClockUpdate.{ClockUpdate}
-use Rattle.model.specs.declared.ClockUpdate.the-variants.{Unchanged, Reset}
+use Rattle.model.specs.declared.ClockUpdate.the-variants.{Unchanged, Reset, Copy}
 use Rattle.model.specs.declared.Edge.{Edge}
 use Rattle.model.specs.declared.Model.{Model}
 use Rattle.model.specs.declared.State.{State}
@@ -19,7 +19,7 @@ use Rattle.model.specs.Record.{updateAt, resetAt, counterAt}
 use Rattle.model.specs.Automaton.{ceiling, choices, Component, loc, counter, clock, value, Declared, invariantHolds, delayedValue, inRange, shifted, newCounter}
 use Rattle.model.specs.Automaton.{groupSize, newClock, setEarlier, readBy}
 use Rattle.model.proofs.IndexedLaws.{some-inj}
-use Rattle.model.proofs.FormLaws.{DeclaredUpdate, WellFormedEdge, choices-is}
+use Rattle.model.proofs.FormLaws.{DeclaredUpdate, DeclaredReset, WellFormedEdge, choices-is}
 use Rattle.model.proofs.StepLaws.{EdgeTo, delayed-lt, in-range-lt, shifted-lt}
 use Rattle.list.specs.Lists.{All}
 use Rattle.list.specs.Items.{Member, Item, rule, stateMember, choiceMember, nextBlock, offset, stateWidth, excludeAllFailing, leads, delayItems}
@@ -79,15 +79,18 @@ module _ (width : ℕ → ℕ) (m : Model) (truth : Member → Bool) {o : ℕ} {
     update-of e i p (Sum w z) a h =
         leads-of truth c pk (read-shown (setEarlier (e .order) w i) w a) (q′ .shown (counter i) p) (shifted z (counterAt m i .greatest)) hc h
 
-    reset-to : (i : ℕ) → i < m .clocks → (u : ClockUpdate) → All (Holds truth) (resetItems width m o c i u) → c ≡ k
+    reset-to : (i : ℕ) → i < m .clocks → (u : ClockUpdate) → DeclaredReset m u → All (Holds truth) (resetItems width m o c i u) → c ≡ k
         → newClock (λ x. value s (clock x)) (value s (clock i)) u ≡ value t (clock i)
-    reset-to i p Unchanged h e = some-inj (leads-to truth c pk (q .shown (clock i) p) (q′ .shown (clock i) p) some hc (λ v u a b. rw (← some-inj b) a) h e)
-    reset-to i p Reset h e = some-inj (sets-to truth c pk (q′ .shown (clock i) p) (some 0) hc (λ u a. rw (← some-inj a) (omega arith)) (h .0) e)
+    reset-to i p Unchanged d h e = some-inj (leads-to truth c pk (q .shown (clock i) p) (q′ .shown (clock i) p) some hc (λ v u a b. rw (← some-inj b) a) h e)
+    reset-to i p Reset d h e = some-inj (sets-to truth c pk (q′ .shown (clock i) p) (some 0) hc (λ u a. rw (← some-inj a) (omega arith)) (h .0) e)
+    reset-to i p (Copy w) d h e = some-inj (leads-to truth c pk (q .shown (clock w) d) (q′ .shown (clock i) p) some hc (λ v u a b. rw (← some-inj b) a) h e)
 
-    reset-of : (i : ℕ) → i < m .clocks → (u : ClockUpdate) → (c ≡ k → newClock (λ x. value s (clock x)) (value s (clock i)) u ≡ value t (clock i))
+    reset-of : (i : ℕ) → i < m .clocks → (u : ClockUpdate) → DeclaredReset m u
+        → (c ≡ k → newClock (λ x. value s (clock x)) (value s (clock i)) u ≡ value t (clock i))
         → All (Holds truth) (resetItems width m o c i u)
-    reset-of i p Unchanged h = leads-of truth c pk (q .shown (clock i) p) (q′ .shown (clock i) p) some hc (λ e. ap some (h e))
-    reset-of i p Reset h = (sets-of truth c pk (q′ .shown (clock i) p) (some 0) hc (λ e. ap some (h e)), tt)
+    reset-of i p Unchanged d h = leads-of truth c pk (q .shown (clock i) p) (q′ .shown (clock i) p) some hc (λ e. ap some (h e))
+    reset-of i p Reset d h = (sets-of truth c pk (q′ .shown (clock i) p) (some 0) hc (λ e. ap some (h e)), tt)
+    reset-of i p (Copy w) d h = leads-of truth c pk (q .shown (clock w) d) (q′ .shown (clock i) p) some hc (λ e. ap some (h e))
 
     -- what the items of an edge ask, part by part
     record EdgeAsks (e : Edge) : Type 0 where
@@ -116,7 +119,7 @@ module _ (width : ℕ → ℕ) (m : Model) (truth : Member → Bool) {o : ℕ} {
           leaves = sym (q .shown loc tt .only (e .source) (ok .source-ok) (g .source (shows-true truth pk p, tt)));
           guard = atoms-to width m truth q (choiceMember width m o c ∷ []) (e .guard) (ok .guard-ok) (g .guard) (shows-true truth pk p, tt);
           sets = λ i l. update-to e i l (updateAt e i) (ok .sets-ok i l) (g .updates i l) p;
-          resets = λ i l. reset-to i l (resetAt e i) (g .resets i l) p;
+          resets = λ i l. reset-to i l (resetAt e i) (ok .resets-ok i l) (g .resets i l) p;
           lands = sym (q′ .shown loc tt .only (e .target) (ok .target-ok) (g .target (shows-true truth pk p, tt)));
           allowed = i;
         }
@@ -127,5 +130,5 @@ module _ (width : ℕ → ℕ) (m : Model) (truth : Member → Bool) {o : ℕ} {
       target = λ x. shows-true truth (q′ .shown loc tt) (sym (h (pk .only c hc (x .0)) .lands));
       guard = atoms-of width m truth q (choiceMember width m o c ∷ []) (e .guard) (ok .guard-ok) (λ x. h (pk .only c hc (x .0)) .guard);
       updates = λ i l. update-of e i l (updateAt e i) (ok .sets-ok i l) (λ p. h p .sets i l);
-      resets = λ i l. reset-of i l (resetAt e i) (λ p. h p .resets i l);
+      resets = λ i l. reset-of i l (resetAt e i) (ok .resets-ok i l) (λ p. h p .resets i l);
     })

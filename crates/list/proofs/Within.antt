@@ -14,7 +14,7 @@ use Rattle.model.specs.declared.AtomSlot.{AtomSlot}
 use Rattle.model.specs.declared.Update.{Update}
 use Rattle.model.specs.declared.Update.the-variants.{Keep, Constant, Sum}
 use Rattle.model.specs.declared.ClockUpdate.{ClockUpdate}
-use Rattle.model.specs.declared.ClockUpdate.the-variants.{Unchanged, Reset}
+use Rattle.model.specs.declared.ClockUpdate.the-variants.{Unchanged, Reset, Copy}
 use Rattle.model.specs.declared.Edge.{Edge}
 use Rattle.model.specs.declared.Model.{Model}
 use Rattle.model.specs.Indexed.{each}
@@ -23,7 +23,7 @@ use Rattle.model.specs.Automaton.{ceiling, choices, variables, Component, loc, 
 use Rattle.model.specs.Automaton.{meets, delayedValue, inRange, shifted, setEarlier}
 use Rattle.model.specs.Form.{wellFormed}
 use Rattle.model.proofs.IndexedLaws.{some-inj, sum-mono}
-use Rattle.model.proofs.FormLaws.{DeclaredAtom, DeclaredUpdate, WellFormed, WellFormedEdge, formed}
+use Rattle.model.proofs.FormLaws.{DeclaredAtom, DeclaredUpdate, DeclaredReset, WellFormed, WellFormedEdge, formed}
 use Rattle.model.proofs.StepLaws.{initial-lt, delayed-lt, in-range-lt, shifted-lt}
 use Rattle.list.specs.Lists.{All, toList}
 use Rattle.list.specs.Items.{Member, Item, group, rule, overComponents, offset, stateWidth, blockAt, nextBlock, stateMember, choiceMember}
@@ -179,9 +179,10 @@ module _ (m : Model) where
             let b = readBlock oneHotWidth m o order w i in
             leads-inside b (read-inside (setEarlier order w i)) (counter w) (counter i) q p (shifted z greatest) (λ v u a b. shifted-lt z greatest v u b)
 
-        reset-inside : (i : ℕ) → i < m .clocks → (u : ClockUpdate) → All (ItemInside N) (resetItems oneHotWidth m o c i u)
-        reset-inside i p Unchanged = leads-inside o here (clock i) (clock i) p p some (λ v u a b. rw (← some-inj b) a)
-        reset-inside i p Reset = sets-inside (clock i) p (some 0) (λ u e. rw (← some-inj e) (omega arith))
+        reset-inside : (i : ℕ) → i < m .clocks → (u : ClockUpdate) → DeclaredReset m u → All (ItemInside N) (resetItems oneHotWidth m o c i u)
+        reset-inside i p Unchanged d = leads-inside o here (clock i) (clock i) p p some (λ v u a b. rw (← some-inj b) a)
+        reset-inside i p Reset d = sets-inside (clock i) p (some 0) (λ u e. rw (← some-inj e) (omega arith))
+        reset-inside i p (Copy w) d = leads-inside o here (clock w) (clock i) d p some (λ v u a b. rw (← some-inj b) a)
 
         edge-inside : (e : Edge) → WellFormedEdge m e → All (ItemInside N) (edgeItems oneHotWidth m o c e)
         unfolding edgeItems sourceItems targetItems guardItems updatesItems resetsItems
@@ -198,7 +199,7 @@ module _ (m : Model) where
               all-each (ItemInside N) (m .vars) (λ i. updateItems oneHotWidth m o c (e .order) i (updateAt e i)) .1
                   (λ i p. update-inside (e .order) i p (updateAt e i) (w .sets-ok i p)),
               all-each (ItemInside N) (m .clocks) (λ i. resetItems oneHotWidth m o c i (resetAt e i)) .1
-                  (λ i p. reset-inside i p (resetAt e i)),
+                  (λ i p. reset-inside i p (resetAt e i) (w .resets-ok i p)),
             )
 
       delay-inside : (d : ℕ) → d < ceiling m + 1 → All (ItemInside N) (delayItems oneHotWidth m o d)

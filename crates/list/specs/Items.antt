@@ -10,7 +10,7 @@ use Rattle.model.specs.declared.Atom.the-variants.{Blank, OnClock, OnCounter}
 use Rattle.model.specs.declared.Update.{Update}
 use Rattle.model.specs.declared.Update.the-variants.{Keep, Constant, Sum}
 use Rattle.model.specs.declared.ClockUpdate.{ClockUpdate}
-use Rattle.model.specs.declared.ClockUpdate.the-variants.{Unchanged, Reset}
+use Rattle.model.specs.declared.ClockUpdate.the-variants.{Unchanged, Reset, Copy}
 use Rattle.model.specs.declared.AtomSlot.{AtomSlot}
 use Rattle.model.specs.declared.Edge.{Edge}
 use Rattle.model.specs.declared.Model.{Model}
@@ -165,10 +165,12 @@ module _ (width : ℕ → ℕ) (m : Model) where
   unfoldable pub updatesItems : ℕ → ℕ → Edge → List Item
   updatesItems o c e = each (m .vars) (λ i. updateItems o c (e .order) i (updateAt e i))
 
-  -- An edge, per clock: reset gives not edge, 0 after; else each value is kept like a counter's.
+  -- An edge, per clock: unchanged, each value is kept like a counter's; reset gives not edge, 0 after; a copy of w gives, for each value: not edge,
+  -- not w's value before, the same value after.
   abbrev pub resetItems : ℕ → ℕ → ℕ → ClockUpdate → List Item
   resetItems o c i Unchanged = leads o o c (clock i) (clock i) some
   resetItems o c i Reset = setsTo o c (clock i) (some 0)
+  resetItems o c i (Copy w) = leads o o c (clock w) (clock i) some
 
   -- An edge: each clock.
   unfoldable pub resetsItems : ℕ → ℕ → Edge → List Item

@@ -16,8 +16,8 @@ use Rattle.model.specs.declared.Edge.{Edge}
 use Rattle.model.specs.declared.Model.{Model}
 use Rattle.model.specs.Record.{blankCounter, atomAt, updateAt, counterIn, resetAt, counterAt, invariantAt, edgeAt}
 use Rattle.model.specs.Automaton.{isKeep, listed, placeIn}
-use Rattle.model.specs.Form.{isNotEqual, atomFormed, noGap, eachFormed, filledFromFirst, atomsFormed, isUnchanged, updateFormed, updateSlotFormed}
-use Rattle.model.specs.Form.{updatesFormed, orderSlotFormed, orderFormed, resetSlotFormed, resetsFormed, edgeFormed, counterFormed}
+use Rattle.model.specs.Form.{isNotEqual, atomFormed, noGap, eachFormed, filledFromFirst, atomsFormed, isUnchanged, updateFormed, clockUpdateFormed}
+use Rattle.model.specs.Form.{updateSlotFormed, updatesFormed, orderSlotFormed, orderFormed, resetSlotFormed, resetsFormed, edgeFormed, counterFormed}
 use Rattle.model.specs.Form.{isBlankCounter, counterSlotFormed, countersFormed}
 use Rattle.model.specs.Form.{invariantSlotFormed, invariantsFormed, edgeSlotFormed, edgesFormed, headFormed, wellFormed}
 use Rattle.model.proofs.IndexedLaws.{and-T, eq-T, cond-F, not-lt, all-below, sum-same, sum-const}
@@ -27,7 +27,7 @@ use Rattle.model.proofs.FormLaws.{atoms-at, edge-parts, keep-is, hold-i
 abbrev pub NoAtom : List AtomSlot → Type 0
 NoAtom atoms = (k : ℕ) → k < 4 → atomAt atoms k ≡ Blank
 
--- an edge slot is blank: location 0 twice, no atom, keep, a blank order, no reset
+-- an edge slot is blank: location 0 twice, no atom, keep, a blank order, clocks unchanged
 pub record BlankEdge (e : Edge) : Type 0 where
   pub source-0 : e .source ≡ 0
   pub target-0 : e .target ≡ 0
@@ -93,7 +93,7 @@ blank-edge e = (to, of)
           no-order =
               λ k l. eq-T (counterIn (e .order) k) 0 .0
               (no k (listed e) (named k) (eqb (counterIn (e .order) k) 0) (g .4 k l) (omega (arith, keeps-listed e keeps)));
-          no-reset = λ i l. hold-is (resetAt e i) (no i 0 true (isUnchanged (resetAt e i)) (g .5 i l) (omega arith));
+          no-reset = λ i l. hold-is (resetAt e i) (no i 0 (clockUpdateFormed 0 (resetAt e i)) (isUnchanged (resetAt e i)) (g .5 i l) (omega arith));
         }
 
     of : BlankEdge e → T (edgeFormed 1 0 0 e)

@@ -12,7 +12,7 @@ use Rattle.model.specs.declared.Atom.the-variants.{Blank, OnClock, OnCou
 use Rattle.model.specs.declared.Update.{Update}
 use Rattle.model.specs.declared.Update.the-variants.{Keep, Constant, Sum}
 use Rattle.model.specs.declared.ClockUpdate.{ClockUpdate}
-use Rattle.model.specs.declared.ClockUpdate.the-variants.{Unchanged, Reset}
+use Rattle.model.specs.declared.ClockUpdate.the-variants.{Unchanged, Reset, Copy}
 use Rattle.model.specs.declared.AtomSlot.{AtomSlot}
 use Rattle.model.specs.declared.Edge.{Edge}
 use Rattle.model.specs.declared.Model.{Model}
@@ -22,9 +22,8 @@ use Rattle.model.specs.Record.{atomAt, updateAt, counterIn, resetAt, cou
 use Rattle.model.specs.Automaton.{clockConstant, greatestConstant, ceiling, counter, groupSize, isKeep, listed, placeIn, stateSize, choices}
 use Rattle.model.specs.Automaton.{variables, totals}
 use Rattle.model.specs.Bounds.{KnownTotals}
-use Rattle.model.specs.Form.{isNotEqual, atomFormed, eachFormed, filledFromFirst, atomsFormed, updateFormed, isUnchanged, updateSlotFormed}
-use Rattle.model.specs.Form.{}
-use Rattle.model.specs.Form.{updatesFormed, orderSlotFormed, orderFormed, resetSlotFormed, resetsFormed, edgeFormed, counterFormed}
+use Rattle.model.specs.Form.{isNotEqual, atomFormed, eachFormed, filledFromFirst, atomsFormed, updateFormed, clockUpdateFormed, isUnchanged}
+use Rattle.model.specs.Form.{updateSlotFormed, updatesFormed, orderSlotFormed, orderFormed, resetSlotFormed, resetsFormed, edgeFormed, counterFormed}
 use Rattle.model.specs.Form.{isBlankCounter, counterSlotFormed, countersFormed}
 use Rattle.model.specs.Form.{invariantSlotFormed, invariantsFormed, edgeSlotFormed, edgesFormed, headFormed, wellFormed}
 use Rattle.model.proofs.IndexedLaws.{and-T, eq-T, cond-T, cond-F, not-lt, all-below, max-below, max-at, sum-below}
@@ -41,6 +40,11 @@ DeclaredUpdate m Keep = Unit {0}
 DeclaredUpdate m (Constant n) = Unit {0}
 DeclaredUpdate m (Sum w z) = w < m .vars
 
+abbrev pub DeclaredReset : Model → ClockUpdate → Type 0
+DeclaredReset m Unchanged = Unit {0}
+DeclaredReset m Reset = Unit {0}
+DeclaredReset m (Copy w) = w < m .clocks
+
 pub record WellFormedEdge (m : Model) (e : Edge) : Type 0 where
   pub source-ok : e .source < m .locations
   pub target-ok : e .target < m .locations
@@ -48,6 +52,7 @@ pub record WellFormedEdge (m : Model) (e : Edge) : Type 0 where
   pub sets-ok : (i : ℕ) → i < m .vars → DeclaredUpdate m (updateAt e i)
   pub sets-rest : (i : ℕ) → m .vars ≤ i → i < 4 → updateAt e i ≡ Keep
   pub order-ok : Ordered e
+  pub resets-ok : (i : ℕ) → i < m .clocks → DeclaredReset m (resetAt e i)
   pub resets-rest : (i : ℕ) → m .clocks ≤ i → i < 4 → resetAt e i ≡ Unchanged
 
 pub record WellFormed (m : Model) : Type 0 where
@@ -95,6 +100,7 @@ keep-is (Sum w z) h = absurd h
 pub hold-is : (u : ClockUpdate) → T (isUnchanged u) → u ≡ Unchanged
 hold-is Unchanged h = refl
 hold-is Reset h = absurd h
+hold-is (Copy w) h = absurd h
 
 module _ (m : Model) where
   atom-declared : (clocks vars : ℕ) → clocks ≤ m .clocks → vars ≤ m .vars → (t : Atom) → T (atomFormed clocks vars t) → DeclaredAtom m t
@@ -106,6 +112,11 @@ module _ (m : Model) where
   update-declared Keep h = tt
   update-declared (Constant n) h = tt
   update-declared (Sum w z) h = ltb→lt w (m .vars) (and-T (ltb w (m .vars)) (leb (natAbs z) 31) .0 h .0)
+
+  reset-declared : (u : ClockUpdate) → T (clockUpdateFormed (m .clocks) u) → DeclaredReset m u
+  reset-declared Unchanged h = tt
+  reset-declared Reset h = tt
+  reset-declared (Copy w) h = ltb→lt w (m .clocks) h
 
 atom-constant : (clocks vars : ℕ) (t : Atom) → T (atomFormed clocks vars t) → clockConstant t ≤ 30
 atom-constant clocks vars Blank h = omega arith
@@ -155,8 +166,8 @@ order-slot e h = record {
         let c = eqb (placeIn (e .order) (slot k)) k in
         and₃ a b c (yes k (listed e) (a && b && c) (eqb (slot k) 0) (h k (omega (arith, listed-le e))) l)
 
-edge-formed : (m : Model) → m .vars ≤ 4 → (e : Edge) → T (edgeFormed (m .locations) (m .clocks) (m .vars) e) → WellFormedEdge m e
-edge-formed m le e h =
+edge-formed : (m : Model) → m .vars ≤ 4 → m .clocks ≤ 4 → (e : Edge) → T (edgeFormed (m .locations) (m .clocks) (m .vars) e) → WellFormedEdge m e
+edge-formed m le le′ e h =
     let g = edge-parts (m .locations) (m .clocks) (m .vars) e h in
     record {
       source-ok = g .0;
@@ -168,7 +179,11 @@ edge-formed m le e h =
           λ i l. update-declared m (updateAt e i) (yes i (m .vars) (updateFormed (m .vars) (updateAt e i)) (isKeep (updateAt e i)) (g .3 i (omega arith)) l);
       sets-rest = λ i p l. keep-is (updateAt e i) (no i (m .vars) (updateFormed (m .vars) (updateAt e i)) (isKeep (updateAt e i)) (g .3 i l) p);
       order-ok = order-slot e (g .4);
-      resets-rest = λ i p l. hold-is (resetAt e i) (no i (m .clocks) true (isUnchanged (resetAt e i)) (g .5 i l) p);
+      resets-ok =
+          λ i l. reset-declared m (resetAt e i)
+          (yes i (m .clocks) (clockUpdateFormed (m .clocks) (resetAt e i)) (isUnchanged (resetAt e i)) (g .5 i (omega arith)) l);
+      resets-rest =
+          λ i p l. hold-is (resetAt e i) (no i (m .clocks) (clockUpdateFormed (m .clocks) (resetAt e i)) (isUnchanged (resetAt e i)) (g .5 i l) p);
     }
 
 invariant-slot-constant : (b : Bool) (c : ℕ) (atoms : List AtomSlot) → T (cond b (atomsFormed c 0 atoms) (atomsFormed 0 0 atoms)) → greatestConstant atoms ≤ 30
@@ -216,7 +231,7 @@ formed m h =
           λ l p k q. atom-declared m (m .clocks) 0 (omega arith) (omega arith) (atomAt (invariantAt m l) k) (atoms-at (m .clocks) 0 (invariantAt m l)
           (yes l (m .locations) (atomsFormed (m .clocks) 0 (invariantAt m l)) (atomsFormed 0 0 (invariantAt m l)) (v l (omega arith)) p) k q);
       edge-ok =
-          λ i l. edge-formed m v4 (edgeAt m i)
+          λ i l. edge-formed m v4 c4 (edgeAt m i)
           (yes i (m .used) (edgeFormed (m .locations) (m .clocks) (m .vars) (edgeAt m i)) (edgeFormed 1 0 0 (edgeAt m i)) (e i (omega arith)) l);
       ceiling-le =
           ceiling-31 m (max-below _ 16 30 (λ i l. invariant-slot-constant (ltb i (m .locations)) (m .clocks) (invariantAt m i) (v i l)))

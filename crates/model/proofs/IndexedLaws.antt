@@ -98,6 +98,11 @@ unfolding maxBelow
 max-at f zero i p = absurd (not-suc-le-zero p)
 max-at f (suc n) i p = below-cases i n p (λ q. rw q (omega arith)) (λ l. omega (arith, max-at f n i l))
 
+pub max-same : (f g : ℕ → ℕ) (n : ℕ) → ((i : ℕ) → i < n → f i ≡ g i) → maxBelow f n ≡ maxBelow g n
+unfolding maxBelow
+max-same f g zero h = refl
+max-same f g (suc n) h = omega (arith, max-same f g n (λ i l. h i (omega arith)), h n (omega arith))
+
 pub sum-below : (f : ℕ → ℕ) (n b : ℕ) → ((i : ℕ) → i < n → f i ≤ b) → sumBelow f n ≤ n * b
 unfolding sumBelow
 sum-below f zero b h = omega arith

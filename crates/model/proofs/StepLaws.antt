@@ -15,7 +15,7 @@ use borrow.Author.Tests.{le-leb, lt-leb, lt-ltb, le-ltb}
 use Rattle.model.specs.declared.Update.{Update}
 use Rattle.model.specs.declared.Update.the-variants.{Keep, Constant, Sum}
 use Rattle.model.specs.declared.ClockUpdate.{ClockUpdate}
-use Rattle.model.specs.declared.ClockUpdate.the-variants.{Unchanged, Reset}
+use Rattle.model.specs.declared.ClockUpdate.the-variants.{Unchanged, Reset, Copy}
 use Rattle.model.specs.declared.AtomSlot.{AtomSlot}
 use Rattle.model.specs.declared.Edge.{Edge}
 use Rattle.model.specs.declared.Model.{Model}
@@ -30,7 +30,7 @@ use Rattle.model.specs.Form.{slotInGroup, countersInGroup, clocksInGroup
 use Rattle.model.proofs.IndexedLaws.{and-T, eq-T, split, some-inj, some-none, only-if, cond-some, then-iff, lt-or-le, cond-T, cond-F, all-below}
 use Rattle.model.proofs.IndexedLaws.{length-list, getD-list}
 use Rattle.model.proofs.OrderLaws.{Ordered, Updates, readAtPlace, place-at, listed-le, set-place, kept-place, updated-to, updated-of}
-use Rattle.model.proofs.FormLaws.{WellFormedEdge, WellFormed, yes, no}
+use Rattle.model.proofs.FormLaws.{DeclaredReset, WellFormedEdge, WellFormed, yes, no}
 
 -- ---- states
 -- four slots, those not declared 0
@@ -259,11 +259,19 @@ module _ (m : Model) (ok : WellFormed m) (e : Edge) (eo : WellFormedEdge m e) (s
           declared i l k = ⊎-elim (λ p. p) (λ p. absurd (rw (eo .sets-rest i p l) at k)) (lt-or-le i (m .vars))
 
 -- ---- the whole edge
-module _ (m : Model) (ok : WellFormed m) (e : Edge) (eo : WellFormedEdge m e) (s : State) (q : Shaped m s) where
-  clock-after : (vs : List ℕ) (i : ℕ) → i < 4 → value (afterEdge e s vs) (clock i) ≡ nextClock e s i
-  unfolding afterEdge
-  clock-after vs i l = getD-list 0 (nextClock e s) 4 i l
+clock-after : (e : Edge) (s : State) (vs : List ℕ) (i : ℕ) → i < 4 → value (afterEdge e s vs) (clock i) ≡ nextClock e s i
+unfolding afterEdge
+clock-after e s vs i l = getD-list 0 (nextClock e s) 4 i l
 
+-- a clock's new value comes from the values before the edge
+pub clock-stepped : (m : Model) (e : Edge) (s t : State) → edgeStep m e s ≡ some t → (i : ℕ) → i < 4 → value t (clock i) ≡ nextClock e s i
+unfolding edgeStep
+clock-stepped m e s t h i l =
+    let n = then-iff (updated (m .counters) e (s .counters) (listed e)) (λ vs. onlyIf (edgeAllowed m e s vs) (afterEdge e s vs)) t .0 h in
+    let g = only-if (edgeAllowed m e s (n .0)) (afterEdge e s (n .0)) t .0 (n .2) in
+    sym (ap (λ (x : State). value x (clock i)) (g .1)) ∙ clock-after e s (n .0) i l
+
+module _ (m : Model) (ok : WellFormed m) (e : Edge) (eo : WellFormedEdge m e) (s : State) (q : Shaped m s) where
   held : (i : ℕ) → m .clocks ≤ i → i < 4 → nextClock e s i ≡ 0
   held i p l = ap (λ (u : ClockUpdate). newClock (λ w. value s (clock w)) (value s (clock i)) u) (eo .resets-rest i p l) ∙ q .clocks-rest i p l
 
@@ -285,7 +293,7 @@ module _ (m : Model) (ok : WellFormed m) (e : Edge) (eo : WellFormedEdge m e) (s
     clocks-len = clocks-after vs;
     counters-rest = λ i p l. ap (λ (v : List ℕ). getD v i 0) (counters-after vs) ∙ h .kept i (kept-place e (eo .order-ok) i (rw (eo .sets-rest i p l) tt))
         ∙ q .counters-rest i p l;
-    clocks-rest = λ i p l. clock-after vs i l ∙ held i p l;
+    clocks-rest = λ i p l. clock-after e s vs i l ∙ held i p l;
   }
 
   pub edge-iff : (t : State) → (edgeStep m e s ≡ some t) ↔ EdgeTo m e s t
@@ -308,7 +316,7 @@ module _ (m : Model) (ok : WellFormed m) (e : Edge) (eo : WellFormedEdge m e) (s
             leaves = a .0;
             guard = a .1;
             sets = updates-to m ok e eo s t q (subst (Updates e (eo .order-ok) (m .counters) (listed e) (s .counters)) is u);
-            resets = λ i l. sym (clock-after vs i (omega (arith, ok .clocks-le))) ∙ ap (λ (x : State). value x (clock i)) (g .1);
+            resets = λ i l. sym (clock-after e s vs i (omega (arith, ok .clocks-le))) ∙ ap (λ (x : State). value x (clock i)) (g .1);
             lands = sym (ap (λ (x : State). x .location) (g .1)) ∙ location-after vs;
             allowed = subst (λ (x : State). T (invariantHolds m x)) (g .1) (a .2);
           }
@@ -320,7 +328,7 @@ module _ (m : Model) (ok : WellFormed m) (e : Edge) (eo : WellFormedEdge m e) (s
           let eq : afterEdge e s vs ≡ t = state-ext m (after-shape vs u) (h .shape) (elim [
             | loc ↦ λ p. location-after vs ∙ sym (h .lands)
             | counter i ↦ λ p. ap (λ (v : List ℕ). getD v i 0) (counters-after vs)
-            | clock i ↦ λ p. clock-after vs i (omega (arith, ok .clocks-le)) ∙ h .resets i p
+            | clock i ↦ λ p. clock-after e s vs i (omega (arith, ok .clocks-le)) ∙ h .resets i p
           ]) in
           then-iff (updated (m .counters) e (s .counters) (listed e)) after t .1 (
             vs,
@@ -425,9 +433,11 @@ new-counter-lt look g x Keep y p h = rw (← some-inj h) p
 new-counter-lt look g x (Constant n) y p h = fit-lt g n y h
 new-counter-lt look g x (Sum w z) y p h = shifted-lt z g (look w) y h
 
-clock-lt : (look : ℕ → ℕ) (x : ℕ) (u : ClockUpdate) (n : ℕ) → x < n + 1 → newClock look x u < n + 1
-clock-lt look x Unchanged n p = p
-clock-lt look x Reset n p = omega arith
+new-clock-lt : (m : Model) (look : ℕ → ℕ) (x : ℕ) (u : ClockUpdate) (n : ℕ) → x < n → 0 < n → ((w : ℕ) → w < m .clocks → look w < n) → DeclaredReset m u
+    → newClock look x u < n
+new-clock-lt m look x Unchanged n p z f d = p
+new-clock-lt m look x Reset n p z f d = z
+new-clock-lt m look x (Copy w) n p z f d = f w d
 
 module _ (m : Model) (ok : WellFormed m) (s t : State) (b : ℕ) (q : Shaped m s) (h : step m s b ≡ some t) where
   kind : DelayedTo m b s t ⊎ ((e : ℕ) × (e < m .used) × EdgeTo m (edgeAt m e) s t)
@@ -453,7 +463,9 @@ module _ (m : Model) (ok : WellFormed m) (s t : State) (b : ℕ) (q : Shaped m s
           new-counter-lt (readBy (edgeAt m e) s t i) (counterAt m i .greatest) (value s (counter i)) (updateAt (edgeAt m e) i) (value t (counter i))
           (g (counter i) j) (k .sets i j)
       go (inr (e, l, k)) (clock i) j =
-          rw (← k .resets i j) (clock-lt (λ w. value s (clock w)) (value s (clock i)) (resetAt (edgeAt m e) i) (ceiling m) (g (clock i) j))
+          rw (← k .resets i j)
+          (new-clock-lt m (λ w. value s (clock w)) (value s (clock i)) (resetAt (edgeAt m e) i) (ceiling m + 1) (g (clock i) j) (omega arith)
+          (λ w l. g (clock w) l) (ok .edge-ok e l .resets-ok i j))
 
 -- delay 0 changes nothing
 pub step-zero : (m : Model) (ok : WellFormed m) (s : State) → Shaped m s → InRange m s → T (invariantHolds m s) → step m s 0 ≡ some s

@@ -12,7 +12,7 @@ use Rattle.model.specs.declared.Atom.the-variants.{Blank, OnClock, OnCou
 use Rattle.model.specs.declared.Update.{Update}
 use Rattle.model.specs.declared.Update.the-variants.{Keep, Constant, Sum}
 use Rattle.model.specs.declared.ClockUpdate.{ClockUpdate}
-use Rattle.model.specs.declared.ClockUpdate.the-variants.{Unchanged, Reset}
+use Rattle.model.specs.declared.ClockUpdate.the-variants.{Unchanged, Reset, Copy}
 use Rattle.model.specs.declared.AtomSlot.{AtomSlot}
 use Rattle.model.specs.declared.Counter.{Counter}
 use Rattle.model.specs.declared.Edge.{Edge}
@@ -132,10 +132,12 @@ isKeep Keep = true
 isKeep (Constant c) = false
 isKeep (Sum w offset) = false
 
--- the new value of a clock; `before` gives the clocks' values from before the edge
+-- ---- clock updates: unchanged, reset, or a copy of a clock
+-- the new value of a clock; `before` gives the clocks' values from before the edge, which every copy reads
 abbrev pub newClock : (ℕ → ℕ) → ℕ → ClockUpdate → ℕ
 newClock before own Unchanged = own
 newClock before own Reset = 0
+newClock before own (Copy w) = before w
 
 -- ---- an edge
 -- how many updates are listed: those that are not keep; so many slots of the order are used
@@ -167,7 +169,7 @@ setEarlier order w i = ltb (placeIn order w) (placeIn order i)
 abbrev pub readBy : Edge → State → State → ℕ → ℕ → ℕ
 readBy e s t i w = cond (setEarlier (e .order) w i) (value t (counter w)) (value s (counter w))
 
--- the new value of clock i: 0 if it is reset
+-- the new value of clock i, by its update
 abbrev pub nextClock : Edge → State → ℕ → ℕ
 nextClock e s i = newClock (λ x. value s (clock x)) (value s (clock i)) (resetAt e i)
 

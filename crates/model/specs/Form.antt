@@ -1,4 +1,4 @@
--- Well-formed records and states: within all limits, naming only what is declared, atom slots filled from the first, unused slots blank (number 0, no atom, keep, no reset), the order names each counter that is set once.
+-- Well-formed records and states: within all limits, naming only what is declared, atom slots filled from the first, unused slots blank (number 0, no atom, keep, no reset and no copy), the order names each counter that is set once.
 use Prim.Native.Nat.{ℕ, _+_}
 use mathlib.Core.List.{List}
 use mathlib.Core.Bool.{Bool, true, false, not, _&&_, cond}
@@ -12,7 +12,7 @@ use Rattle.model.specs.declared.Atom.the-variants.{Blank, OnClock, OnCou
 use Rattle.model.specs.declared.Update.{Update}
 use Rattle.model.specs.declared.Update.the-variants.{Keep, Constant, Sum}
 use Rattle.model.specs.declared.ClockUpdate.{ClockUpdate}
-use Rattle.model.specs.declared.ClockUpdate.the-variants.{Unchanged, Reset}
+use Rattle.model.specs.declared.ClockUpdate.the-variants.{Unchanged, Reset, Copy}
 use Rattle.model.specs.declared.AtomSlot.{AtomSlot}
 use Rattle.model.specs.declared.UpdateSlot.{UpdateSlot}
 use Rattle.model.specs.declared.ClockSlot.{ClockSlot}
@@ -95,10 +95,17 @@ updateFormed vars Keep = true
 updateFormed vars (Constant c) = leb c 31
 updateFormed vars (Sum w offset) = ltb w vars && leb (natAbs offset) 31
 
--- the slot is blank: no reset
+-- unchanged, a reset, or a copy of a declared clock
+abbrev pub clockUpdateFormed : ℕ → ClockUpdate → Bool
+clockUpdateFormed clocks Unchanged = true
+clockUpdateFormed clocks Reset = true
+clockUpdateFormed clocks (Copy w) = ltb w clocks
+
+-- the slot is blank: neither reset nor copy
 abbrev pub isUnchanged : ClockUpdate → Bool
 isUnchanged Unchanged = true
 isUnchanged Reset = false
+isUnchanged (Copy w) = false
 
 -- only a declared counter is set
 abbrev pub updateSlotFormed : ℕ → Update → ℕ → Bool
@@ -119,9 +126,9 @@ orderSlotFormed e k =
 unfoldable pub orderFormed : Edge → Bool
 orderFormed e = allBelow (orderSlotFormed e) 4
 
--- only a declared clock is reset
+-- only a declared clock is reset or becomes a copy
 abbrev pub resetSlotFormed : ℕ → ClockUpdate → ℕ → Bool
-resetSlotFormed clocks u i = cond (ltb i clocks) true (isUnchanged u)
+resetSlotFormed clocks u i = cond (ltb i clocks) (clockUpdateFormed clocks u) (isUnchanged u)
 
 -- every clock slot of an edge
 unfoldable pub resetsFormed : ℕ → List ClockSlot → Bool
@@ -133,7 +140,7 @@ edgeFormed locations clocks vars e =
     ltb (e .source) locations && ltb (e .target) locations && atomsFormed clocks vars (e .guard) && updatesFormed vars (e .updates) && orderFormed e &&
     resetsFormed clocks (e .resets)
 
--- an unused slot is what is formed in the blank model: location 0, no atom, keep, a blank order, no reset
+-- an unused slot is what is formed in the blank model: location 0, no atom, keep, a blank order, clocks unchanged
 abbrev pub edgeSlotFormed : Model → ℕ → Bool
 edgeSlotFormed m e = cond (ltb e (m .used)) (edgeFormed (m .locations) (m .clocks) (m .vars) (edgeAt m e)) (edgeFormed 1 0 0 (edgeAt m e))
 

@@ -25,7 +25,7 @@ blankAtom = record { atom = Blank }
 abbrev pub blankUpdate : UpdateSlot
 blankUpdate = record { update = Keep }
 
--- no reset
+-- unchanged
 abbrev pub blankReset : ClockSlot
 blankReset = record { update = Unchanged }
 

@@ -47,10 +47,11 @@ pub struct UpdateSlot {
     pub update: Update,
 }
 
-// What an edge does to a clock.
+// What an edge does to a clock: leave it unchanged, reset it, or give it the value that clock `source` had before the edge.
 pub enum ClockUpdate {
     Unchanged,
     Reset,
+    Copy { source: u8 },
 }
 
 pub struct ClockSlot {

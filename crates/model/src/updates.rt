@@ -38,12 +38,13 @@ impl Update {
 }
 
 impl ClockUpdate {
-    pub(crate) fn next(self, own: u8, before: [u8; Model::COUNTERS]) -> u8
+    pub(crate) fn next(self, own: u8, before: [u8; Model::CLOCKS]) -> u8
         ensures { λ r. ⌜ r ≡ newClock (λ x. getD before x 0) own self ⌝ }
     {
         match self {
             ClockUpdate::Unchanged => own,
             ClockUpdate::Reset => 0,
+            ClockUpdate::Copy { source } => slot(before, source),
         }
     }
 }

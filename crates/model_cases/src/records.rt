@@ -157,13 +157,17 @@ fn update(sort: u8, n: u8, raised: u8) -> UpdateSlot {
     }
 }
 
-fn reset(sort: u8) -> ClockSlot {
+// sort source: unchanged, a reset, or a copy of a clock.
+fn reset(sort: u8, source: u8) -> ClockSlot {
     match sort {
         0 => ClockSlot {
             update: ClockUpdate::Unchanged,
         },
-        _ => ClockSlot {
+        1 => ClockSlot {
             update: ClockUpdate::Reset,
+        },
+        _ => ClockSlot {
+            update: ClockUpdate::Copy { source },
         },
     }
 }
@@ -250,7 +254,7 @@ pub(crate) fn changed(m: Model, v: [u8; 80]) -> Model {
         4 => with_ends(m, i, v[2], v[3]),
         5 => with_guard(m, i, k, atom(v[3], v[4], v[5], v[6])),
         6 => with_update(m, i, k, update(v[3], v[4], v[5])),
-        7 => with_reset(m, i, k, reset(v[3])),
+        7 => with_reset(m, i, k, reset(v[3], v[4])),
         _ => with_order(m, i, k, v[3]),
     }
 }

@@ -11,12 +11,14 @@ use Rattle.model.specs.declared.Atom.{Atom}
 use Rattle.model.specs.declared.Atom.the-variants.{Blank, OnClock, OnCounter}
 use Rattle.model.specs.declared.Update.{Update}
 use Rattle.model.specs.declared.Update.the-variants.{Constant, Sum, Keep as KeepIt}
+use Rattle.model.specs.declared.ClockUpdate.{ClockUpdate}
+use Rattle.model.specs.declared.ClockUpdate.the-variants.{Unchanged, Reset, Copy}
 use Rattle.model.specs.declared.Model.{Model}
 use Rattle.model.specs.Indexed.{each, sumBelow}
 use Rattle.model.specs.Record.{atomAt, invariantAt, edgeAt, counterAt}
 use Rattle.model.specs.Automaton.{ceiling, Component, loc, groupSize, initialValue, stateSize, choices, variables}
 use Rattle.model.proofs.IndexedLaws.{length-each, sum-same}
-use Rattle.model.proofs.FormLaws.{WellFormed, DeclaredAtom, DeclaredUpdate, formed, choices-is, variables-is}
+use Rattle.model.proofs.FormLaws.{WellFormed, DeclaredAtom, DeclaredUpdate, DeclaredReset, formed, choices-is, variables-is}
 use Rattle.list.specs.Items.{blockAt, nextBlock, stateWidth, choiceWidth, stateItems, edgesItems, stateMember, groupItems, initialItems, invariantOf}
 use Rattle.list.specs.Items.{invariantItems, excludeFailing, choiceItems, delayItems, delaysItems, edgeOf}
 use Rattle.list.specs.Clauses.{Clause, oneHotWidth, groupClauses, clausesOf}
@@ -28,7 +30,7 @@ use Rattle.parts.specs.Rules.{partClauses, Fits}
 use Rattle.parts.proofs.PartLengths.{keep-length, rise-length}
 use Rattle.parts.specs.declared.GroupTable.{GroupTable}
 use Rattle.parts.specs.StateBlock.{componentAt, groupTable, firstAt, sizeAt, Bounded}
-use Rattle.parts.specs.PartsOf.{atomPart, leadsPart, delayPart, edgePart, AtomIn, UpdateIn}
+use Rattle.parts.specs.PartsOf.{atomPart, leadsPart, delayPart, edgePart, AtomIn, UpdateIn, ResetIn}
 use Rattle.parts.proofs.GroupLaws.{size-is, comp-counter, comp-clock, bounded, group-cases, block-is}
 use Rattle.parts.proofs.PartPieces.{groups-are, vars-are, top-is, state-is, choices-are, groups-law, initial-law, atom-law, delay-law, edge-law}
 use Rattle.parts.proofs.PartFits.{group-fits, group-small, locations-in, atom-fits, delay-fits, edge-fits}
@@ -170,6 +172,11 @@ module _ {m : Model} {b : GroupTable} (k : Known m b) where
   update-in KeepIt d = tt
   update-in (Constant n) d = tt
   update-in (Sum w offset) d = omega (arith, wf .vars-le)
+
+  pub reset-in : (u : ClockUpdate) → DeclaredReset m u → ResetIn b u
+  reset-in Unchanged d = tt
+  reset-in Reset d = tt
+  reset-in (Copy w) d = omega (arith, known-vars, wf .vars-le, wf .clocks-le)
 
   pub choice-piece-of : (o : ℕ) → groupClauses (o + b .state) (b .choices) ≡ clausesOf (choiceItems oneHotWidth m o)
   choice-piece-of o =

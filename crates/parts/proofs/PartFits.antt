@@ -12,12 +12,12 @@ use Rattle.model.specs.declared.Atom.the-variants.{Blank, OnClock, OnCounter}
 use Rattle.model.specs.declared.Update.{Update}
 use Rattle.model.specs.declared.Update.the-variants.{Constant, Sum, Keep as KeepIt}
 use Rattle.model.specs.declared.ClockUpdate.{ClockUpdate}
-use Rattle.model.specs.declared.ClockUpdate.the-variants.{Unchanged, Reset}
+use Rattle.model.specs.declared.ClockUpdate.the-variants.{Unchanged, Reset, Copy}
 use Rattle.model.specs.declared.Edge.{Edge}
 use Rattle.model.specs.declared.Model.{Model}
 use Rattle.model.specs.Record.{atomAt, updateAt, resetAt, counterAt}
 use Rattle.model.specs.Automaton.{ceiling, groupSize, stateSize, choices, setEarlier}
-use Rattle.model.proofs.FormLaws.{WellFormed, WellFormedEdge, DeclaredAtom, DeclaredUpdate}
+use Rattle.model.proofs.FormLaws.{WellFormed, WellFormedEdge, DeclaredAtom, DeclaredUpdate, DeclaredReset}
 use Rattle.parts.specs.declared.Rule.{Rule}
 use Rattle.parts.specs.declared.Rule.the-variants.{Keep, Rise, Shift, Set, Forbid}
 use Rattle.parts.specs.Rules.{reach, Fits}
@@ -101,14 +101,17 @@ module _ (m : Model) (ok : WellFormed m) where
           leads-fits (readAt (groupTable m) o order w i) (1 + w) (1 + i) (Shift z (greatestAt (groupTable m) i)) (read-fits (setEarlier order w i))
           (omega arith) (omega arith) (omega (arith, greatest-is m i, counter-size i l))
 
-      pub reset-fits : (i : ℕ) (u : ClockUpdate) → i < m .clocks → Fits (resetPart (groupTable m) o i u) n
-      reset-fits i Unchanged l =
+      pub reset-fits : (i : ℕ) (u : ClockUpdate) → i < m .clocks → DeclaredReset m u → Fits (resetPart (groupTable m) o i u) n
+      reset-fits i Unchanged l d =
           subst (λ (v : ℕ). Fits (leadsPart (groupTable m) o o (1 + v + i) (1 + v + i) Keep) n) (sym (vars-are m))
           (leads-fits o (1 + m .vars + i) (1 + m .vars + i) Keep (omega arith) (omega arith) (omega arith) (omega arith))
-      reset-fits i Reset l =
+      reset-fits i Reset l d =
           subst (λ (v : ℕ). Fits (setPart (nextAt (groupTable m) o + firstAt (groupTable m) (1 + v + i)) (sizeAt (groupTable m) (1 + v + i)) (Set 0)) n)
           (sym (vars-are m))
           (set-fits _ _ (Set 0) (omega (arith, clock-size i l, group-fits (1 + m .vars + i) (omega arith), next-at)))
+      reset-fits i (Copy w) l d =
+          subst (λ (v : ℕ). Fits (leadsPart (groupTable m) o o (1 + v + w) (1 + v + i) Keep) n) (sym (vars-are m))
+          (leads-fits o (1 + m .vars + w) (1 + m .vars + i) Keep (omega arith) (omega arith) (omega arith) (omega (arith, clock-size w d, clock-size i l)))
 
       pub delay-fits : (d g : ℕ) → g < 1 + m .vars + m .clocks → Fits (delayPart (groupTable m) o d g) n
       delay-fits d g l = by (ltb g (1 + groupTable m .vars)) refl
@@ -128,4 +131,4 @@ module _ (m : Model) (ok : WellFormed m) where
           (set-fits (nextAt (groupTable m) o) _ (Set (e .target)) (omega (arith, w .target-ok, locations-in, next-at)))
           (λ k p. atom-fits (atomAt (e .guard) k) (omega arith) (w .guard-ok k p))
           (λ i p. let q : i < m .vars = omega (arith, vars-are m) in update-fits (e .order) i (updateAt e i) q (w .sets-ok i q))
-          (λ i p. reset-fits i (resetAt e i) p) j (omega (arith, groups-are m, vars-are m))
+          (λ i p. reset-fits i (resetAt e i) p (w .resets-ok i p)) j (omega (arith, groups-are m, vars-are m))

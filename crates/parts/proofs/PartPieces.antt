@@ -13,7 +13,7 @@ use Rattle.model.specs.declared.Atom.the-variants.{Blank, OnClock, OnCounter}
 use Rattle.model.specs.declared.Update.{Update}
 use Rattle.model.specs.declared.Update.the-variants.{Constant, Sum, Keep as KeepIt}
 use Rattle.model.specs.declared.ClockUpdate.{ClockUpdate}
-use Rattle.model.specs.declared.ClockUpdate.the-variants.{Unchanged, Reset}
+use Rattle.model.specs.declared.ClockUpdate.the-variants.{Unchanged, Reset, Copy}
 use Rattle.model.specs.declared.Edge.{Edge}
 use Rattle.model.specs.declared.Model.{Model}
 use Rattle.model.specs.Indexed.{each, onlyIf}
@@ -21,7 +21,7 @@ use Rattle.model.specs.Record.{atomAt, updateAt, resetAt, counterAt}
 use Rattle.model.specs.Automaton.{ceiling, Component, loc, counter, clock, groupSize, initialValue, delayedValue, stateSize, choices, shifted, inRange}
 use Rattle.model.specs.Automaton.{setEarlier}
 use Rattle.model.proofs.IndexedLaws.{each-zero, each-suc}
-use Rattle.model.proofs.FormLaws.{WellFormed, WellFormedEdge, DeclaredAtom, DeclaredUpdate}
+use Rattle.model.proofs.FormLaws.{WellFormed, WellFormedEdge, DeclaredAtom, DeclaredUpdate, DeclaredReset}
 use Rattle.list.specs.Lists.{toList}
 use Rattle.list.specs.Items.{Member, offset, nextBlock, stateWidth, choiceMember, excludeFailing, groupItems, initialItems, delayItems, updateItems, resetItems}
 use Rattle.list.specs.Items.{sourceItems, targetItems, guardItems, readBlock, updatesItems, resetsItems, edgeItems}
@@ -217,18 +217,23 @@ module _ (m : Model) where
         (comp-counter m i l) ∙ sym
         (leads-piece m from o c (counter w) (counter i) (shifted z (counterAt m i .greatest)))
 
-    pub reset-law : (o c i : ℕ) (u : ClockUpdate) → i < m .clocks
+    pub reset-law : (o c i : ℕ) (u : ClockUpdate) → i < m .clocks → DeclaredReset m u
         → partClauses (o + S + c) (resetPart (groupTable m) o i u) ≡ clausesOf (resetItems oneHotWidth m o c i u)
-    reset-law o c i Unchanged l =
+    reset-law o c i Unchanged l d =
         let k : 1 + m .vars + i < 9 = omega (arith, ok .vars-le, ok .clocks-le) in
         ap (λ (v : ℕ). partClauses (o + S + c) (leadsPart (groupTable m) o o (1 + v + i) (1 + v + i) Keep)) vars-are ∙
         leads-from (o + S + c) o o Keep k k (comp-clock m i) (comp-clock m i) ∙ sym (leads-piece m o o c (clock i) (clock i) some)
-    reset-law o c i Reset l =
+    reset-law o c i Reset l d =
         let k : 1 + m .vars + i < 9 = omega (arith, ok .vars-le, ok .clocks-le) in
         let e : nextAt (groupTable m) o + firstAt (groupTable m) (1 + groupTable m .vars + i) ≡ after o + at (clock i) =
         ap₂ (λ (a b : ℕ). a + b) (next-is o)
         (ap (λ (v : ℕ). firstAt (groupTable m) (1 + v + i)) vars-are ∙ first-is m (1 + m .vars + i) k ∙ ap at (comp-clock m i)) in
         set-is (o + S + c) _ _ _ ∙ ap (λ (z : ℕ). ruleClauses (o + S + c) 0 z 0 (Set 0)) e ∙ sym (sets-piece m o c (clock i) (some 0))
+    reset-law o c i (Copy w) l d =
+        let g : 1 + m .vars + w < 9 = omega (arith, ok .vars-le, ok .clocks-le) in
+        let k : 1 + m .vars + i < 9 = omega (arith, ok .vars-le, ok .clocks-le) in
+        ap (λ (v : ℕ). partClauses (o + S + c) (leadsPart (groupTable m) o o (1 + v + w) (1 + v + i) Keep)) vars-are ∙
+        leads-from (o + S + c) o o Keep g k (comp-clock m w) (comp-clock m i) ∙ sym (leads-piece m o o c (clock w) (clock i) some)
 
     module _ (o c : ℕ) (e : Edge) (w : WellFormedEdge m e) where
       abbrev x : ℕ
@@ -266,7 +271,8 @@ module _ (m : Model) where
       resets-law : each (m .clocks) (λ i. F (6 + m .vars + i)) ≡ clausesOf (resetsItems oneHotWidth m o c e)
       resets-law =
           each-cong (m .clocks) (λ i. F (6 + m .vars + i)) (λ i. clausesOf (resetItems oneHotWidth m o c i (resetAt e i)))
-          (λ i l. ap (λ (v : ℕ). F (6 + v + i)) (sym vars-are) ∙ ap (partClauses x) (clock-part (groupTable m) e o i) ∙ reset-law o c i (resetAt e i) l)
+          (λ i l. ap (λ (v : ℕ). F (6 + v + i)) (sym vars-are) ∙ ap (partClauses x) (clock-part (groupTable m) e o i)
+          ∙ reset-law o c i (resetAt e i) l (w .resets-ok i l))
           ∙ sym (resets-piece m o c e)
 
       pub edge-law : each (groupTable m .groups + 5) F ≡ clausesOf (edgeItems oneHotWidth m o c e)

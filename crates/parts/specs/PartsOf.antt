@@ -10,7 +10,7 @@ use Rattle.model.specs.declared.Atom.the-variants.{Blank, OnClock, OnCounter}
 use Rattle.model.specs.declared.Update.{Update}
 use Rattle.model.specs.declared.Update.the-variants.{Constant, Sum, Keep as KeepIt}
 use Rattle.model.specs.declared.ClockUpdate.{ClockUpdate}
-use Rattle.model.specs.declared.ClockUpdate.the-variants.{Unchanged, Reset}
+use Rattle.model.specs.declared.ClockUpdate.the-variants.{Unchanged, Reset, Copy}
 use Rattle.model.specs.declared.Edge.{Edge}
 use Rattle.model.specs.Record.{blankCounter, atomAt, updateAt, resetAt}
 use Rattle.model.specs.Automaton.{setEarlier}
@@ -60,10 +60,11 @@ updatePart b o order i KeepIt = leadsPart b o o (1 + i) (1 + i) Keep
 updatePart b o order i (Constant n) = setPart (nextAt b o + firstAt b (1 + i)) (sizeAt b (1 + i)) (cond (leb n (greatestAt b i)) (Set n) Forbid)
 updatePart b o order i (Sum w offset) = leadsPart b (readAt b o order w i) o (1 + w) (1 + i) (Shift offset (greatestAt b i))
 
--- A reset of clock i, or none.
+-- An update of clock i: unchanged, reset, or a copy of clock w.
 abbrev pub resetPart : GroupTable → ℕ → ℕ → ClockUpdate → Part
 resetPart b o i Unchanged = leadsPart b o o (1 + b .vars + i) (1 + b .vars + i) Keep
 resetPart b o i Reset = setPart (nextAt b o + firstAt b (1 + b .vars + i)) (sizeAt b (1 + b .vars + i)) (Set 0)
+resetPart b o i (Copy w) = leadsPart b o o (1 + b .vars + w) (1 + b .vars + i) Keep
 
 -- Part j of an edge: its source, its target, four guard atoms, each counter, each clock.
 unfoldable pub edgePart : GroupTable → Edge → ℕ → ℕ → Part
@@ -85,3 +86,9 @@ abbrev pub UpdateIn : Update → Type 0
 UpdateIn KeepIt = Unit {0}
 UpdateIn (Constant n) = Unit {0}
 UpdateIn (Sum w offset) = 1 + w < 9
+
+-- The table has the group that an update of a clock reads.
+abbrev pub ResetIn : GroupTable → ClockUpdate → Type 0
+ResetIn b Unchanged = Unit {0}
+ResetIn b Reset = Unit {0}
+ResetIn b (Copy w) = 1 + b .vars + w < 9

@@ -265,7 +265,7 @@ impl GroupTable {
         }
     }
 
-    // The clauses of a reset of clock `i`, or of none.
+    // The clauses of an update of clock `i`.
     pub fn reset_part(self, o: usize, i: usize, update: ClockUpdate) -> Part
         requires { ⌜ Bounded self × (o ≤ mostVariables) × (i < 4) ⌝ }
         ensures { λ r. ⌜ r ≡ resetPart self o i update ⌝ }
@@ -274,6 +274,9 @@ impl GroupTable {
         match update {
             ClockUpdate::Unchanged => self.leads_part(o, o, g, g, Rule::Keep),
             ClockUpdate::Reset => self.set_part(o, g, Rule::Set(0)),
+            ClockUpdate::Copy { source } => {
+                self.leads_part(o, o, 1 + self.vars + source as usize, g, Rule::Keep)
+            }
         }
     }
 

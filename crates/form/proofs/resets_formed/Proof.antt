@@ -21,6 +21,9 @@ abbrev μ-loop : tie.MeasureT-loop
 loop-holds : tie.Need-loop-holds Inv-loop μ-loop
 loop-holds c = (search needs, all-none _)
 
+mul-s : tie.Need-mul-s Inv-loop μ-loop
+mul-s c = search needs
+
 array-copy-out-s : tie.Need-array-copy-out-s Inv-loop μ-loop
 array-copy-out-s c = search needs
 
@@ -48,4 +51,5 @@ returns-2 c = let e : c .before .loop .i ≡ 4 = omega arith in
     sym (rw e at (c .before .loop .inv .1))
 
 pub resets-formed-spec : {M : Type 1} → statement M
-resets-formed-spec = tie.close (tie.spec Inv-loop μ-loop loop-holds array-copy-out-s reset-slot-formed-requires returns add-i loop-less loop-again returns-2)
+resets-formed-spec =
+    tie.close (tie.spec Inv-loop μ-loop loop-holds mul-s array-copy-out-s reset-slot-formed-requires returns add-i loop-less loop-again returns-2)

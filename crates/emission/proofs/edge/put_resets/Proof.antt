@@ -29,6 +29,9 @@ sub-i-end c = omega (arith, c .before .before .before .before .before .pre .2 .v
 loop-holds : tie.Need-loop-holds Inv-loop μ-loop
 loop-holds c = (omega arith, wrote-each-none _ _ _ (omega (arith, c .before .before .before .before .before .pre .4 .words .room)))
 
+mul-s : tie.Need-mul-s Inv-loop μ-loop
+mul-s c = search needs
+
 array-copy-out-s : tie.Need-array-copy-out-s Inv-loop μ-loop
 array-copy-out-s c = omega (arith, c .before .before .before .before .before .before .before .pre .2 .groups-le)
 
@@ -67,4 +70,4 @@ returns c =
 
 pub put-resets-spec : {M : Type 1} → statement M
 put-resets-spec =
-    tie.close (tie.spec Inv-loop μ-loop add-i-end sub-i-end loop-holds array-copy-out-s put-reset-requires add-i loop-less loop-again same-length returns)
+    tie.close (tie.spec Inv-loop μ-loop add-i-end sub-i-end loop-holds mul-s array-copy-out-s put-reset-requires add-i loop-less loop-again same-length returns)

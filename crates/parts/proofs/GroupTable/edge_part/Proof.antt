@@ -84,6 +84,9 @@ returns-4 c =
 sub-x : tie.Need-sub-x
 sub-x c = search needs
 
+mul-s-3 : tie.Need-mul-s-3
+mul-s-3 c = search needs
+
 element-copy-out-s-3 : tie.Need-element-copy-out-s-3
 element-copy-out-s-3 c = search needs
 
@@ -106,5 +109,5 @@ returns-5 c =
 pub edge-part-spec : {M : Type 1} → statement M
 edge-part-spec =
     tie.close (tie.spec element-copy-out-locations cast-locations returns cast-t25 cast-t27 add-t28 cast-t30 add-t31 cast-t32 returns-2 sub-s mul-s
-    element-copy-out-s atom-part-requires returns-3 mul-s-2 element-copy-out-s-2 update-part-requires returns-4 sub-x element-copy-out-s-3
+    element-copy-out-s atom-part-requires returns-3 mul-s-2 element-copy-out-s-2 update-part-requires returns-4 sub-x mul-s-3 element-copy-out-s-3
     reset-part-requires returns-5)
