@@ -4,7 +4,7 @@ ghost use Prim.Native.Nat.{_+_, _-_, _≤_};
 ghost use lib.ListN.{length, take, drop, getD};
 ghost use mathlib.Core.List.{[], _∷_};
 ghost use mathlib.Core.Bool.{cond};
-ghost use Rattle.text.specs.bytes.Bytes.{FirstFrom, LeadingDigits, numberOf, narrowed, isDigit, isHyphen, counted};
+ghost use Rattle.text.specs.bytes.Bytes.{FirstFrom, LeadingDigits, numberOf, narrowed, isDigit, assigns, isHyphen, counted};
 ghost use Rattle.text.specs.bytes.Faulty.{noFaults, faultNumber, lineTold, isNoFault};
 
 pub enum NumberRead {
@@ -212,6 +212,15 @@ pub fn byte(s: &[u8], i: usize) -> u8
     ensures { λ r. ⌜ r ≡ getD (now (s .entry)) i 0 ⌝ }
 {
     if i < s.len() { s[i] } else { 0 }
+}
+
+// Whether := stands at the front.
+pub fn assigns(s: &[u8]) -> bool
+    ensures { λ r. ⌜ r ≡ assigns (now (s .entry)) ⌝ }
+{
+    let a = byte(s, 0);
+    let b = byte(s, 1);
+    (a == b':') & (b == b'=')
 }
 
 // How many of n slots are filled after one more item, where k were filled before it.

@@ -8,13 +8,14 @@ use model::Model;
 ghost use mathlib.Core.Path.{_≡_};
 ghost use mathlib.Core.List.{foldl, map};
 ghost use Rattle.text.specs.bytes.Bytes.{splitOn, itemsOf};
-ghost use Rattle.text.specs.resets.Resets.{resetNamed, resetOf, isMalformed, isUndeclared, clockOf, updateIn, resetValue};
-ghost use Rattle.text.specs.resets.OnePass.{put, absorbed, noResets, collected};
+ghost use Rattle.text.specs.resets.Resets.{resetNamed, copyFrom, copyNamed, sourceOf, clockSet, resetOf, isMalformed, isUndeclared, clockOf, resetValue};
+ghost use Rattle.text.specs.resets.OnePass.{storedUpdate, put, absorbed, noResets, collected};
 
 // One item of the line.
 pub enum ResetRead {
     Malformed,
     ToZero(u16),
+    ToCopy { clock: u16, source: u16 },
 }
 
 // The faults of the value and, where there are none, its resets.
@@ -23,7 +24,7 @@ pub struct ResetValue {
     pub resets: [ClockSlot; Model::CLOCKS],
 }
 
-// What one pass over the items collects. `least` is the least clock that may be reset next.
+// What one pass over the items collects. `least` is the least clock that may be set next.
 pub(crate) struct ResetsRead {
     faults: Faults,
     least: u32,
@@ -39,12 +40,57 @@ fn reset_named(x: NumberRead) -> ResetRead
     }
 }
 
-// One item: x and the number of the clock reset.
+fn copy_from(x: u16, source: NumberRead) -> ResetRead
+    ensures { λ r. ⌜ r ≡ copyFrom x source ⌝ }
+{
+    match source {
+        NumberRead::Malformed => ResetRead::Malformed,
+        NumberRead::Number(w) => ResetRead::ToCopy {
+            clock: x,
+            source: w,
+        },
+    }
+}
+
+fn copy_named(x: NumberRead, source: NumberRead) -> ResetRead
+    ensures { λ r. ⌜ r ≡ copyNamed x source ⌝ }
+{
+    match x {
+        NumberRead::Malformed => ResetRead::Malformed,
+        NumberRead::Number(n) => copy_from(n, source),
+    }
+}
+
+// The clock copied: x and its number.
+fn source(t: &[u8]) -> NumberRead
+    ensures { λ r. ⌜ r ≡ sourceOf (now (t .entry)) ⌝ }
+{
+    if bytes::byte(t, 0) == b'x' {
+        bytes::number(bytes::tail(t, 1))
+    } else {
+        NumberRead::Malformed
+    }
+}
+
+// The number of the clock set and, after :=, the clock copied.
+fn clock_set(s: &[u8]) -> ResetRead
+    ensures { λ r. ⌜ r ≡ clockSet (now (s .entry)) ⌝ }
+{
+    let d = bytes::digits(s);
+    let u = bytes::tail(s, d);
+    if bytes::assigns(u) {
+        copy_named(bytes::number(bytes::head(s, d)), source(bytes::tail(u, 2)))
+    } else {
+        reset_named(bytes::number(s))
+    }
+}
+
+// One item: x, and the clock set.
 fn item(s: &[u8]) -> ResetRead
     ensures { λ r. ⌜ r ≡ resetOf (now (s .entry)) ⌝ }
 {
     if bytes::byte(s, 0) == b'x' {
-        reset_named(bytes::number(bytes::tail(s, 1)))
+        clock_set(bytes::tail(s, 1))
     } else {
         ResetRead::Malformed
     }
@@ -57,6 +103,10 @@ impl ResetRead {
         match self {
             ResetRead::Malformed => true,
             ResetRead::ToZero(_) => false,
+            ResetRead::ToCopy {
+                clock: _,
+                source: _,
+            } => false,
         }
     }
 
@@ -66,24 +116,32 @@ impl ResetRead {
         match self {
             ResetRead::Malformed => false,
             ResetRead::ToZero(x) => (clocks as u16) <= x,
+            ResetRead::ToCopy { clock, source } => {
+                ((clocks as u16) <= clock) | ((clocks as u16) <= source)
+            }
         }
     }
 
+    // The clock set.
     fn clock(self) -> u16
         ensures { λ r. ⌜ r ≡ clockOf self ⌝ }
     {
         match self {
             ResetRead::Malformed => 0,
             ResetRead::ToZero(x) => x,
+            ResetRead::ToCopy { clock, source: _ } => clock,
         }
     }
 
-    fn update(self) -> ClockUpdate
-        ensures { λ r. ⌜ r ≡ updateIn self ⌝ }
+    fn stored(self) -> ClockUpdate
+        ensures { λ r. ⌜ r ≡ storedUpdate self ⌝ }
     {
         match self {
             ResetRead::Malformed => ClockUpdate::Unchanged,
             ResetRead::ToZero(_) => ClockUpdate::Reset,
+            ResetRead::ToCopy { clock: _, source } => ClockUpdate::Copy {
+                source: bytes::narrow(source),
+            },
         }
     }
 }
@@ -127,7 +185,7 @@ impl ResetsRead {
             undeclared: f.undeclared | a.is_undeclared(clocks),
             unordered: f.unordered | (k < self.least),
         };
-        let resets = put(slots, k as usize, a.update());
+        let resets = put(slots, k as usize, a.stored());
         ResetsRead {
             faults,
             least: k + 1,

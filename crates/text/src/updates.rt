@@ -8,7 +8,7 @@ use model::UpdateSlot;
 ghost use mathlib.Core.Path.{_≡_};
 ghost use mathlib.Core.List.{foldl, map};
 ghost use Rattle.text.specs.bytes.Bytes.{splitOn, itemsOf};
-ghost use Rattle.text.specs.updates.Sets.{signedSum, valuedSum, madeSum, madeConstant, sumOf, setTo, setNamed, assigns, setOf, isMalformed, isOutside, isUndeclared, counterOf, setValue};
+ghost use Rattle.text.specs.updates.Sets.{signedSum, valuedSum, madeSum, madeConstant, sumOf, setTo, setNamed, setOf, isMalformed, isOutside, isUndeclared, counterOf, setValue};
 ghost use Rattle.text.specs.updates.OnePass.{storedOffset, storedUpdate, put, isSet, listedAt, absorbed, noSets, collected};
 
 // One item of the line.
@@ -128,14 +128,6 @@ fn set_named(s: &[u8], v: NumberRead) -> SetRead
     }
 }
 
-fn assigns(s: &[u8]) -> bool
-    ensures { λ r. ⌜ r ≡ assigns (now (s .entry)) ⌝ }
-{
-    let a = bytes::byte(s, 0);
-    let b = bytes::byte(s, 1);
-    (a == b':') & (b == b'=')
-}
-
 // One item: v, the number of the counter set, :=, and what it is set to.
 fn item(s: &[u8]) -> SetRead
     ensures { λ r. ⌜ r ≡ setOf (now (s .entry)) ⌝ }
@@ -144,7 +136,7 @@ fn item(s: &[u8]) -> SetRead
     let t = bytes::tail(s, 1);
     let d = bytes::digits(t);
     let u = bytes::tail(t, d);
-    if (name == b'v') & assigns(u) {
+    if (name == b'v') & bytes::assigns(u) {
         set_named(bytes::tail(u, 2), bytes::number(bytes::head(t, d)))
     } else {
         SetRead::Malformed

@@ -4,7 +4,7 @@ use Rattle.text.specs.bytes.Bytes.{firstAt, startsWith, isDue, valueOf, numberO
 use Rattle.text.specs.bytes.Faulty.{faultNumber, lineNumber, anyOf, risesFrom}
 use Rattle.text.specs.atoms.Atoms.{relationAt, atomOf, atomFaults, atomSlots, invItems, whenItems}
 use Rattle.text.specs.updates.Sets.{sumOf, setTo, setOf, timesSet, setTwice, setFaults, updateSlots, orderSlots, setItems}
-use Rattle.text.specs.resets.Resets.{resetOf, resetFaults, resetSlots, resetItems}
+use Rattle.text.specs.resets.Resets.{sourceOf, clockSet, resetOf, resetFaults, resetSlots, resetItems}
 use Rattle.text.specs.line.Values.{numberFaults, referenceFaults, counterFaults}
 use Rattle.text.specs.lines.Store.{withLocations, withInitial, withTarget, withClocks, withVars, withUsed, withCounter, withInvariant, withEdge, withSource}
 use Rattle.text.specs.lines.Store.{withEdgeTarget, withGuard, withUpdates, withResets}
@@ -25,16 +25,17 @@ a & b = (a, b)
 
 texts-read : EachRead accepted × EachRead refused
 unfolding accepted refused firstAt startsWith isDue valueOf numberOf digitsOf splitOn isHyphen itemsOf faultNumber lineNumber anyOf risesFrom relationAt
-    atomOf atomFaults atomSlots invItems whenItems sumOf setTo setOf timesSet setTwice setFaults updateSlots orderSlots setItems resetOf resetFaults
-    resetSlots resetItems numberFaults referenceFaults counterFaults withLocations withInitial withTarget withClocks withVars withUsed withCounter
-    withInvariant withEdge withSource withEdgeTarget withGuard withUpdates withResets readLine locationsLine initLine targetLine clocksLine varsLine varLine
-    invLine edgesLine fromLine toLine whenLine setLine resetLine inTurn readHead readCounters readInvariants readEdge readEdges readLines readEnded
-    readReport listBelow allBelow modelA modelB blankModel
+    atomOf atomFaults atomSlots invItems whenItems sumOf setTo setOf timesSet setTwice setFaults updateSlots orderSlots setItems sourceOf clockSet resetOf
+    resetFaults resetSlots resetItems numberFaults referenceFaults counterFaults withLocations withInitial withTarget withClocks withVars withUsed
+    withCounter withInvariant withEdge withSource withEdgeTarget withGuard withUpdates withResets readLine locationsLine initLine targetLine clocksLine
+    varsLine varLine invLine edgesLine fromLine toLine whenLine setLine resetLine inTurn readHead readCounters readInvariants readEdge readEdges readLines
+    readEnded readReport listBelow allBelow modelA modelB blankModel
 texts-read = (
-  refl & refl & refl & refl & refl & refl & tt,
+  refl & refl & refl & refl & refl & refl & refl & refl & refl & refl & refl & tt,
   refl & refl & refl & refl & refl & refl & refl & refl & refl & refl & refl & refl & refl & refl & refl & refl & refl & refl & refl & refl & refl &
-      refl & refl & refl & refl & refl & refl & refl & refl & refl & refl & refl & refl & refl & refl & refl & refl & refl & refl & refl & refl &
-      refl & refl & refl & refl & tt,
+      refl & refl & refl & refl & refl & refl & refl & refl & refl & refl & refl & refl & refl & refl & refl & refl & refl & refl & refl & refl & refl &
+      refl & refl & refl & refl & refl & refl & refl & refl & refl & refl & refl & refl & refl & refl & refl & refl & refl & refl & refl & refl & refl &
+      tt,
 )
 
 pub accepted-read : EachRead accepted

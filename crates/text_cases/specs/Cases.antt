@@ -10,9 +10,12 @@ use Rattle.text.specs.Text.{ReadReport, readRefused, readAccepted, readReport}
 use Rattle.text.specs.Bound.{BoundReport, boundRefused, boundAccepted, boundReport}
 use Rattle.model.specs.declared.Update.{Update}
 use Rattle.model.specs.declared.Update.the-variants.{Keep, Sum}
+use Rattle.model.specs.declared.Relation.the-variants.{GreaterEqual}
+use Rattle.model.specs.declared.ClockUpdate.{ClockUpdate}
+use Rattle.model.specs.declared.ClockUpdate.the-variants.{Unchanged, Reset, Copy}
 use Rattle.model.specs.declared.Model.{Model}
 use Rattle.model.specs.Record.{blankAtom, blankUpdate, blankReset, blankCounter, blankInvariant, blankEdge}
-use Rattle.samples.specs.Models.{modelA, modelB}
+use Rattle.samples.specs.Models.{onClock, modelA, modelB}
 
 -- ---- the worked models
 abbrev pub textA : String
@@ -42,6 +45,27 @@ twoCounters u v order = record {
   } ∷ replicate 31 blankEdge;
 }
 
+-- A with two clocks, whose edge has x0>=1 and updates x0 and x1 as given
+abbrev pub twoClocks : ClockUpdate → ClockUpdate → Model
+twoClocks u v = record {
+  locations = 2;
+  initial = 0;
+  target = 1;
+  clocks = 2;
+  vars = 0;
+  counters = replicate 4 blankCounter;
+  invariants = replicate 16 blankInvariant;
+  used = 1;
+  edges = record {
+    source = 0;
+    target = 1;
+    guard = onClock 0 GreaterEqual 1;
+    updates = replicate 4 blankUpdate;
+    order = replicate 4 0;
+    resets = record { update = u } ∷ record { update = v } ∷ replicate 2 blankReset;
+  } ∷ replicate 31 blankEdge;
+}
+
 -- ---- texts
 pub record Reading : Type 0 where
   pub text : String
@@ -67,6 +91,16 @@ accepted =
     reading "locations=2\ninit=0\ntarget=1\nclocks=0\nvars=2\nvar=1,0\nvar=1,0\ninv=-\ninv=-\nedges=1\nfrom=0\nto=1\nwhen=-\nset=v0:=v1+0,v1:=v0+0\nreset=-\n" (readAccepted (twoCounters (Sum 1 (pos 0)) (Sum 0 (pos 0)) (0 ∷ 1 ∷ 0 ∷ 0 ∷ []))) ∷
     -- v0:=v0+0 is no keep; one counter set, v0, has the blank order
     reading "locations=2\ninit=0\ntarget=1\nclocks=0\nvars=2\nvar=1,0\nvar=1,0\ninv=-\ninv=-\nedges=1\nfrom=0\nto=1\nwhen=-\nset=v0:=v0+0\nreset=-\n" (readAccepted (twoCounters (Sum 0 (pos 0)) Keep (replicate 4 0))) ∷
+    -- two clocks reset
+    reading "locations=2\ninit=0\ntarget=1\nclocks=2\nvars=0\ninv=-\ninv=-\nedges=1\nfrom=0\nto=1\nwhen=x0>=1\nset=-\nreset=x0,x1\n" (readAccepted (twoClocks Reset Reset)) ∷
+    -- a clock reset, and copied by the other
+    reading "locations=2\ninit=0\ntarget=1\nclocks=2\nvars=0\ninv=-\ninv=-\nedges=1\nfrom=0\nto=1\nwhen=x0>=1\nset=-\nreset=x0,x1:=x0\n" (readAccepted (twoClocks Reset (Copy 0))) ∷
+    -- each clock is the other's source
+    reading "locations=2\ninit=0\ntarget=1\nclocks=2\nvars=0\ninv=-\ninv=-\nedges=1\nfrom=0\nto=1\nwhen=x0>=1\nset=-\nreset=x0:=x1,x1:=x0\n" (readAccepted (twoClocks (Copy 1) (Copy 0))) ∷
+    -- a clock that copies itself stays a copy
+    reading "locations=2\ninit=0\ntarget=1\nclocks=2\nvars=0\ninv=-\ninv=-\nedges=1\nfrom=0\nto=1\nwhen=x0>=1\nset=-\nreset=x0:=x0\n" (readAccepted (twoClocks (Copy 0) Unchanged)) ∷
+    -- a copy alone
+    reading "locations=2\ninit=0\ntarget=1\nclocks=2\nvars=0\ninv=-\ninv=-\nedges=1\nfrom=0\nto=1\nwhen=x0>=1\nset=-\nreset=x1:=x0\n" (readAccepted (twoClocks Unchanged (Copy 0))) ∷
     []
 
 unfoldable pub refused : List Reading
@@ -161,6 +195,42 @@ refused =
     reading "locations=4\ninit=0\ntarget=3\nclocks=1\nvars=1\nvar=1,0\ninv=-\ninv=x0<=3\ninv=-\ninv=-\nedges=3\nfrom=0\nto=1\nwhen=-\nset=-\nreset=x0,x0\nfrom=1\nto=2\nwhen=x0<=2\nset=v0:=v0+1\nreset=-\nfrom=1\nto=3\nwhen=x0>=3\nset=-\nreset=-\n" (readRefused 6 16) ∷
     -- an undeclared clock reset
     reading "locations=4\ninit=0\ntarget=3\nclocks=1\nvars=1\nvar=1,0\ninv=-\ninv=x0<=3\ninv=-\ninv=-\nedges=3\nfrom=0\nto=1\nwhen=-\nset=-\nreset=x1,x0\nfrom=1\nto=2\nwhen=x0<=2\nset=v0:=v0+1\nreset=-\nfrom=1\nto=3\nwhen=x0>=3\nset=-\nreset=-\n" (readRefused 5 16) ∷
+    -- a clock reset after one with a greater number became a copy
+    reading "locations=2\ninit=0\ntarget=1\nclocks=2\nvars=0\ninv=-\ninv=-\nedges=1\nfrom=0\nto=1\nwhen=x0>=1\nset=-\nreset=x1:=x0,x0\n" (readRefused 6 13) ∷
+    -- a clock that becomes a copy and is reset
+    reading "locations=2\ninit=0\ntarget=1\nclocks=2\nvars=0\ninv=-\ninv=-\nedges=1\nfrom=0\nto=1\nwhen=x0>=1\nset=-\nreset=x0:=x1,x0\n" (readRefused 6 13) ∷
+    -- an undeclared clock copied
+    reading "locations=2\ninit=0\ntarget=1\nclocks=2\nvars=0\ninv=-\ninv=-\nedges=1\nfrom=0\nto=1\nwhen=x0>=1\nset=-\nreset=x0:=x2\n" (readRefused 5 13) ∷
+    -- an undeclared clock becomes a copy
+    reading "locations=2\ninit=0\ntarget=1\nclocks=2\nvars=0\ninv=-\ninv=-\nedges=1\nfrom=0\nto=1\nwhen=x0>=1\nset=-\nreset=x2:=x0\n" (readRefused 5 13) ∷
+    -- 5 before 6, in reset
+    reading "locations=2\ninit=0\ntarget=1\nclocks=2\nvars=0\ninv=-\ninv=-\nedges=1\nfrom=0\nto=1\nwhen=x0>=1\nset=-\nreset=x1:=x0,x0:=x9\n" (readRefused 5 13) ∷
+    -- a clock copied of three digits
+    reading "locations=2\ninit=0\ntarget=1\nclocks=2\nvars=0\ninv=-\ninv=-\nedges=1\nfrom=0\nto=1\nwhen=x0>=1\nset=-\nreset=x0:=x999\n" (readRefused 5 13) ∷
+    -- a clock copied of four digits
+    reading "locations=2\ninit=0\ntarget=1\nclocks=2\nvars=0\ninv=-\ninv=-\nedges=1\nfrom=0\nto=1\nwhen=x0>=1\nset=-\nreset=x0:=x1000\n" (readRefused 3 13) ∷
+    -- nothing after the comma
+    reading "locations=2\ninit=0\ntarget=1\nclocks=2\nvars=0\ninv=-\ninv=-\nedges=1\nfrom=0\nto=1\nwhen=x0>=1\nset=-\nreset=x0:=x1,\n" (readRefused 3 13) ∷
+    -- a clock set to a constant
+    reading "locations=2\ninit=0\ntarget=1\nclocks=2\nvars=0\ninv=-\ninv=-\nedges=1\nfrom=0\nto=1\nwhen=x0>=1\nset=-\nreset=x0:=0\n" (readRefused 3 13) ∷
+    -- a clock set to a sum
+    reading "locations=2\ninit=0\ntarget=1\nclocks=2\nvars=0\ninv=-\ninv=-\nedges=1\nfrom=0\nto=1\nwhen=x0>=1\nset=-\nreset=x0:=x1+0\n" (readRefused 3 13) ∷
+    -- = alone
+    reading "locations=2\ninit=0\ntarget=1\nclocks=2\nvars=0\ninv=-\ninv=-\nedges=1\nfrom=0\nto=1\nwhen=x0>=1\nset=-\nreset=x0=x1\n" (readRefused 3 13) ∷
+    -- : alone
+    reading "locations=2\ninit=0\ntarget=1\nclocks=2\nvars=0\ninv=-\ninv=-\nedges=1\nfrom=0\nto=1\nwhen=x0>=1\nset=-\nreset=x0:x1\n" (readRefused 3 13) ∷
+    -- nothing after :=
+    reading "locations=2\ninit=0\ntarget=1\nclocks=2\nvars=0\ninv=-\ninv=-\nedges=1\nfrom=0\nto=1\nwhen=x0>=1\nset=-\nreset=x0:=\n" (readRefused 3 13) ∷
+    -- no number of the clock set
+    reading "locations=2\ninit=0\ntarget=1\nclocks=2\nvars=0\ninv=-\ninv=-\nedges=1\nfrom=0\nto=1\nwhen=x0>=1\nset=-\nreset=x:=x0\n" (readRefused 3 13) ∷
+    -- no number of the clock copied
+    reading "locations=2\ninit=0\ntarget=1\nclocks=2\nvars=0\ninv=-\ninv=-\nedges=1\nfrom=0\nto=1\nwhen=x0>=1\nset=-\nreset=x0:=x\n" (readRefused 3 13) ∷
+    -- a leading zero of the clock copied
+    reading "locations=2\ninit=0\ntarget=1\nclocks=2\nvars=0\ninv=-\ninv=-\nedges=1\nfrom=0\nto=1\nwhen=x0>=1\nset=-\nreset=x0:=x01\n" (readRefused 3 13) ∷
+    -- a clock set to a counter
+    reading "locations=2\ninit=0\ntarget=1\nclocks=2\nvars=0\ninv=-\ninv=-\nedges=1\nfrom=0\nto=1\nwhen=x0>=1\nset=-\nreset=x0:=v0\n" (readRefused 3 13) ∷
+    -- a copy of a copy
+    reading "locations=2\ninit=0\ntarget=1\nclocks=2\nvars=0\ninv=-\ninv=-\nedges=1\nfrom=0\nto=1\nwhen=x0>=1\nset=-\nreset=x0:=x1:=x0\n" (readRefused 3 13) ∷
     []
 
 -- ---- bound lines

@@ -13,12 +13,13 @@ use Rattle.model.specs.declared.Update.{Update}
 use Rattle.model.specs.declared.Update.the-variants.{Keep, Constant, Sum}
 use Rattle.model.specs.declared.UpdateSlot.{UpdateSlot}
 use Rattle.model.specs.declared.ClockUpdate.{ClockUpdate}
+use Rattle.model.specs.declared.ClockUpdate.the-variants.{Unchanged, Reset, Copy}
 use Rattle.model.specs.declared.ClockSlot.{ClockSlot}
 use Rattle.model.specs.declared.Edge.{Edge}
 use Rattle.model.specs.Indexed.{allBelow}
 use Rattle.model.specs.Record.{blankUpdate, blankReset, atomAt}
 use Rattle.model.specs.Automaton.{isKeep}
-use Rattle.model.specs.Form.{isNotEqual, atomFormed, updateFormed, isUnchanged, resetSlotFormed, eachFormed, filledFromFirst, atomsFormed}
+use Rattle.model.specs.Form.{isNotEqual, atomFormed, updateFormed, clockUpdateFormed, isUnchanged, resetSlotFormed, eachFormed, filledFromFirst, atomsFormed}
 use Rattle.model.specs.Form.{updateSlotFormed, updatesFormed, orderFormed, resetsFormed, edgeFormed}
 use Rattle.model.proofs.IndexedLaws.{and-T, all-below}
 
@@ -96,15 +97,17 @@ weaken-updates vars slots =
     let at : ℕ → ℕ → Bool = λ n i. updateSlotFormed n (getD slots i blankUpdate .update) i in
     all-weaken (at 0) (at vars) 4 (λ i h. keep-formed vars (getD slots i blankUpdate .update) (ltb i vars) (rw (le-ltb i 0 zero-le) at h))
 
-unchanged-formed : (u : ClockUpdate) (b : Bool) → T (isUnchanged u) → T (cond b true (isUnchanged u))
-unchanged-formed u true h = tt
-unchanged-formed u false h = h
+unchanged-formed : (clocks : ℕ) (u : ClockUpdate) (b : Bool) → T (isUnchanged u) → T (cond b (clockUpdateFormed clocks u) (isUnchanged u))
+unchanged-formed clocks Unchanged true h = tt
+unchanged-formed clocks Unchanged false h = tt
+unchanged-formed clocks Reset b h = absurd h
+unchanged-formed clocks (Copy w) b h = absurd h
 
 weaken-resets : (clocks : ℕ) (slots : List ClockSlot) → T (resetsFormed 0 slots) → T (resetsFormed clocks slots)
 unfolding resetsFormed
 weaken-resets clocks slots =
     let at : ℕ → ℕ → Bool = λ n i. resetSlotFormed n (getD slots i blankReset .update) i in
-    all-weaken (at 0) (at clocks) 4 (λ i h. unchanged-formed (getD slots i blankReset .update) (ltb i clocks) (rw (le-ltb i 0 zero-le) at h))
+    all-weaken (at 0) (at clocks) 4 (λ i h. unchanged-formed clocks (getD slots i blankReset .update) (ltb i clocks) (rw (le-ltb i 0 zero-le) at h))
 
 pub weaken : (locations clocks vars : ℕ) (e : Edge) → 1 ≤ locations → T (edgeFormed 1 0 0 e) → T (edgeFormed locations clocks vars e)
 weaken locations clocks vars e l h =

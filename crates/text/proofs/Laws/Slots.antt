@@ -2,7 +2,7 @@
 use Prim.Native.Nat.{ℕ, _+_, _≤_, _<_, zero-le}
 use mathlib.Core.Path.{_≡_, refl, sym, ap, _∙_, subst}
 use mathlib.Core.Logic.{⊎-elim}
-use mathlib.Core.List.{List}
+use mathlib.Core.List.{List, [], _∷_, foldl}
 use mathlib.Core.Bool.{Bool, true, false, cond}
 use native.Mathlib.Omega.{arith}
 use lib.Dec.{T, ltb}
@@ -10,6 +10,8 @@ use lib.ListN.{length, getD, set, replicate, length-set, length-replicate, getD-
 use lib.Seq.{getD-set-same, getD-set-other, set-out}
 use borrow.Author.Tests.{lt-ltb, le-ltb, ltb-false}
 use Rattle.model.proofs.IndexedLaws.{lt-or-le}
+use Rattle.text.specs.bytes.Faulty.{anyOf}
+use Rattle.text.proofs.bytes.Flags.{any-head, any-tail}
 
 pub three-ways : {C : Type 0} (i k : ℕ) → (i < k → C) → (i ≡ k → C) → (k < i → C) → C
 three-ways i k below same above = ⊎-elim below (λ l. ⊎-elim above (λ r. same (omega arith)) (lt-or-le k i)) (lt-or-le i k)
@@ -82,3 +84,26 @@ put-is {X} l k n x long = go (ltb k n) refl
     go : (b : Bool) → ltb k n ≡ b → cond b (set l k x) l ≡ set l k x
     go true e = refl
     go false e = sym (set-out l k x (omega (arith, ltb-false k n e)))
+
+-- ---- items put into their slots one after the other, of which none fails the test `bad`
+module _ {A X : Type 0} (bad : A → Bool) (key : A → ℕ) (given : A → X) where
+  -- each fills a slot that counts as filled
+  pub fill-all : {P Q : X → Bool} {d : X} {n k : ℕ} → ((a : A) → bad a ≡ false → (key a < k) × T (P (given a))) → (l : List A) → anyOf bad l ≡ false
+      → {slots : List X} → Filled P Q d n k slots → Filled P Q d n k (foldl (λ s a. set s (key a) (given a)) slots l)
+  fill-all h [] u f = f
+  fill-all h (a ∷ l) u f =
+      let g = h a (any-head bad a l u) in
+      fill-all h l (any-tail bad a l u) (fill-again f (key a) (given a) (g .0) (g .1))
+
+  -- one pass puts what it stores of each, which is what is given
+  pub put-all : {S : Type 0} (step : S → A → S) (slots : S → List X) (stored : A → X) (n : ℕ)
+      → ((s : S) (a : A) → slots (step s a) ≡ cond (ltb (key a) n) (set (slots s) (key a) (stored a)) (slots s))
+      → ((a : A) → bad a ≡ false → stored a ≡ given a)
+      → (l : List A) → anyOf bad l ≡ false → (s : S) → length (slots s) ≡ n
+      → slots (foldl step s l) ≡ foldl (λ x a. set x (key a) (given a)) (slots s) l
+  put-all step slots stored n h e [] u s long = refl
+  put-all step slots stored n h e (a ∷ l) u s long =
+      let next : slots (step s a) ≡ set (slots s) (key a) (given a) =
+      h s a ∙ rw (e a (any-head bad a l u)) (put-is (slots s) (key a) n (given a) long) in
+      put-all step slots stored n h e l (any-tail bad a l u) (step s a) (ap length next ∙ length-set (slots s) (key a) (given a) ∙ long)
+      ∙ ap (λ (x : List X). foldl (λ x a. set x (key a) (given a)) x l) next

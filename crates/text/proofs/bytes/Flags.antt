@@ -58,6 +58,12 @@ pub any-tail : {A : Type 0} (f : A → Bool) (a : A) (l : List A) → anyOf f (a
 unfolding anyOf
 any-tail f a l h = or-right (f a) (anyOf f l) h
 
+-- no item fails one test, and none another
+pub any-neither : {A : Type 0} (f g : A → Bool) (l : List A) → anyOf f l ≡ false → anyOf g l ≡ false → anyOf (λ a. f a || g a) l ≡ false
+unfolding anyOf
+any-neither f g [] h k = refl
+any-neither f g (a ∷ l) h k = rw (any-head f a l h, any-head g a l k, any-neither f g l (any-tail f a l h) (any-tail g a l k))
+
 -- ---- faults that agree flag by flag
 pub same-faults : (f : Faults) {a b c d e : Bool} → f .malformed ≡ a → f .crowded ≡ b → f .outside ≡ c → f .undeclared ≡ d → f .unordered ≡ e
     → f ≡ record { malformed = a; crowded = b; outside = c; undeclared = d; unordered = e }

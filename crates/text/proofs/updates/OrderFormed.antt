@@ -18,12 +18,12 @@ use Rattle.model.proofs.IndexedLaws.{eq-T, T-true, lt-or-le, all-below, sum-sam
 use Rattle.text.specs.bytes.Faulty.{faultNumber, anyOf}
 use Rattle.text.specs.declared.updates.SetRead.{SetRead}
 use Rattle.text.specs.declared.updates.SetRead.the-variants.{Malformed, ToConstant, ToSum}
-use Rattle.text.specs.updates.Sets.{isMalformed, isOutside, isUndeclared, counterOf, timesSet, setTwice, setFaults, updateIn, placed}
+use Rattle.text.specs.updates.Sets.{isMalformed, counterOf, timesSet, setTwice, setFaults, updateIn, placed}
 use Rattle.text.specs.updates.Sets.{updateSlots, orderSlots}
 use Rattle.text.specs.updates.OnePass.{isSet}
 use Rattle.text.proofs.bytes.Flags.{any-head, any-tail, passed}
 use Rattle.text.proofs.updates.TimesSet.{set-more, blank-set}
-use Rattle.text.proofs.updates.UpdatesFormed.{item-formed}
+use Rattle.text.proofs.updates.UpdatesFormed.{unfit, none-unfit, item-formed}
 
 -- the counter that item k sets
 abbrev pub counterAt : List SetRead → ℕ → ℕ
@@ -81,12 +81,10 @@ kept-or-set items i p =
     let e : isSet (foldl placed blank items) i ≡ ltb 0 (timesSet i items) = slots-set items blank refl i p ∙ rw (blank-set i p) in
     rw (lt-ltb i 4 p) at e
 
-counters-below : (vars : ℕ) (l : List SetRead) → anyOf isMalformed l ≡ false → anyOf isOutside l ≡ false → anyOf (isUndeclared vars) l ≡ false
-    → (k : ℕ) → k < length l → counterAt l k < vars
-counters-below vars [] m o u k p = absurd (omega (arith, p))
-counters-below vars (a ∷ l) m o u zero p = item-formed vars a (any-head isMalformed a l m) (any-head isOutside a l o) (any-head (isUndeclared vars) a l u) .0
-counters-below vars (a ∷ l) m o u (suc k) p =
-    counters-below vars l (any-tail isMalformed a l m) (any-tail isOutside a l o) (any-tail (isUndeclared vars) a l u) k (omega (arith, p))
+counters-below : (vars : ℕ) (l : List SetRead) → anyOf (unfit vars) l ≡ false → (k : ℕ) → k < length l → counterAt l k < vars
+counters-below vars [] u k p = absurd (omega (arith, p))
+counters-below vars (a ∷ l) u zero p = item-formed vars a (any-head (unfit vars) a l u) .0
+counters-below vars (a ∷ l) u (suc k) p = counters-below vars l (any-tail (unfit vars) a l u) k (omega (arith, p))
 
 -- ---- the order
 -- every item sets one of v0 to v3, and none is set twice
@@ -101,7 +99,7 @@ set-line vars items few h =
     let rare : ℕ → Bool = λ i. leb (timesSet i items) 1 in
     let each = all-below rare 4 .0 (T-true (allBelow rare 4) .1 (not-false (allBelow rare 4) (g .ordered))) in
     record {
-      below = λ k p. omega (arith, few, counters-below vars items (g .well-formed) (g .inside) (g .declared) k p);
+      below = λ k p. omega (arith, few, counters-below vars items (none-unfit vars items h) k p);
       once = λ i p. leb→le (timesSet i items) 1 (each i p);
     }
 

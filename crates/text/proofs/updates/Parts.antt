@@ -5,11 +5,11 @@ use mathlib.Core.Bool.{Bool, true, false, _&&_}
 use mathlib.Core.List.{List}
 use lib.ListN.{getD, take, drop}
 use lib.Dec.{eqb}
-use Rattle.text.specs.bytes.Bytes.{digitsOf, numberOf}
+use Rattle.text.specs.bytes.Bytes.{digitsOf, numberOf, assigns}
 use Rattle.text.specs.declared.bytes.NumberRead.{NumberRead}
 use Rattle.text.specs.declared.updates.SetRead.{SetRead}
 use Rattle.text.specs.declared.updates.SetRead.the-variants.{Malformed}
-use Rattle.text.specs.updates.Sets.{madeSum, sumOf, setNamed, assigns, setOf}
+use Rattle.text.specs.updates.Sets.{madeSum, sumOf, setNamed, setOf}
 
 pub sum-parts : (v : ℕ) (s : List ℕ) {t u h f : List ℕ} {d a : ℕ} {name value : NumberRead} {r : SetRead}
     → t ≡ drop 1 s → d ≡ digitsOf t → u ≡ drop d t → h ≡ take d t → name ≡ numberOf h → a ≡ getD u 0 0 → f ≡ drop 1 u → value ≡ numberOf f

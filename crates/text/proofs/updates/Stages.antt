@@ -5,12 +5,13 @@ use mathlib.Core.List.{List, [], _∷_, _++_, map, foldl, append-assoc, append-n
 use mathlib.Core.Bool.{Bool, false, not, _||_, or-assoc, or-false}
 use native.Mathlib.Omega.{arith}
 use lib.ListN.{length, set, replicate, length-set}
-use lib.Dec.{leb}
+use lib.Dec.{ltb, leb}
 use borrow.Author.Tests.{lt-ltb, leb-false, ltb-false}
 use Rattle.text.specs.bytes.Bytes.{narrowed}
 use Rattle.text.specs.bytes.Faulty.{faultNumber, anyOf}
-use Rattle.text.proofs.bytes.Flags.{flag, unflagged, or-left, or-right, any-head, any-tail, same-faults, passed, if-faultless}
-use Rattle.text.proofs.Laws.Slots.{put-is}
+use Rattle.text.proofs.bytes.Flags.{flag, unflagged, or-left, or-right, any-head, any-tail, same-faults, if-faultless}
+use Rattle.text.proofs.Laws.Slots.{put-is, put-all}
+use Rattle.model.specs.declared.Update.{Update}
 use Rattle.model.specs.declared.UpdateSlot.{UpdateSlot}
 use Rattle.model.specs.Indexed.{allBelow}
 use Rattle.model.specs.Record.{blankUpdate}
@@ -18,10 +19,11 @@ use Rattle.model.specs.Automaton.{isKeep}
 use Rattle.text.specs.declared.updates.SetRead.{SetRead}
 use Rattle.text.specs.declared.updates.SetRead.the-variants.{Malformed, ToConstant, ToSum}
 use Rattle.text.specs.declared.updates.SetsRead.{SetsRead}
-use Rattle.text.specs.updates.Sets.{isMalformed, isOutside, isUndeclared, counterOf, setFaults, updateIn, placed, updateSlots, orderSlots}
+use Rattle.text.specs.updates.Sets.{isMalformed, isOutside, isUndeclared, counterOf, setFaults, updateIn, updateSlots, orderSlots}
 use Rattle.text.specs.updates.Sets.{setValue}
 use Rattle.text.specs.updates.OnePass.{storedUpdate, put, isSet, absorbed, noSets, collected}
 use Rattle.text.proofs.updates.TimesSet.{once, once-none, once-more, once-blank}
+use Rattle.text.proofs.updates.UpdatesFormed.{unfit, none-unfit, item-formed}
 use Rattle.text.proofs.updates.Listing.{Lists, lists-none, lists-more, lists-all}
 
 -- ---- the flags
@@ -61,45 +63,38 @@ module _ (vars : ℕ) where
 
 -- ---- the slots
 module _ (vars : ℕ) (p : vars < 256) where
-  stored-is : (a : SetRead) → isOutside a ≡ false → isUndeclared vars a ≡ false → storedUpdate a ≡ updateIn a
-  stored-is Malformed o u = refl
-  stored-is (ToConstant v c) o u = rw (lt-ltb c 256 (omega (arith, ltb-false 31 c o)))
-  stored-is (ToSum v w negative n) o u = rw (lt-ltb w 256 (omega (arith, leb-false vars w (or-right (leb vars v) (leb vars w) u))), o)
-
-  slots-are : (l : List SetRead) (s : SetsRead) (slots : List UpdateSlot) → length slots ≡ 4 → s .updates ≡ slots → anyOf isOutside l ≡ false
-      → anyOf (isUndeclared vars) l ≡ false
-      → foldl (absorbed vars) s l .updates ≡ foldl placed slots l
-  unfolding absorbed put
-  slots-are [] s slots n e o u = e
-  slots-are (a ∷ l) s slots n e o u =
-      slots-are l (absorbed vars s a) (placed slots a) (length-set slots (counterOf a) (record { update = updateIn a }) ∙ n)
-      (rw (e, stored-is a (any-head isOutside a l o) (any-head (isUndeclared vars) a l u)) (put-is slots (counterOf a) 4 _ n))
-      (any-tail isOutside a l o)
-      (any-tail (isUndeclared vars) a l u)
+  stored-is : (a : SetRead) → unfit vars a ≡ false → storedUpdate a ≡ updateIn a
+  stored-is Malformed u = refl
+  stored-is (ToConstant v c) u = rw (lt-ltb c 256 (omega (arith, ltb-false 31 c (or-left (ltb 31 c) (leb vars v) u))))
+  stored-is (ToSum v w negative n) u =
+      let named = or-right (ltb 31 n) (leb vars v || leb vars w) u in
+      let source = leb-false vars w (or-right (leb vars v) (leb vars w) named) in
+      rw (lt-ltb w 256 (omega (arith, source)), or-left (ltb 31 n) (leb vars v || leb vars w) u)
 
   filled : (items : List SetRead) → faultNumber (setFaults vars items) ≡ 0 → foldl (absorbed vars) noSets items .updates ≡ updateSlots items
-  unfolding setFaults updateSlots noSets
-  filled items h = let g = passed (setFaults vars items) h in slots-are items noSets (replicate 4 blankUpdate) refl refl (g .inside) (g .declared)
+  unfolding updateSlots noSets absorbed put
+  filled items h =
+      let slot : Update → UpdateSlot = λ u. record { update = u } in
+      put-all (unfit vars) counterOf (λ a. slot (updateIn a)) (absorbed vars) (λ s. s .updates) (λ a. slot (storedUpdate a)) 4
+      (λ s a. refl) (λ a u. ap slot (stored-is a u)) items (none-unfit vars items h) noSets refl
 
   -- ---- the order
-  narrow-is : (a : SetRead) → isUndeclared vars a ≡ false → narrowed (counterOf a) ≡ counterOf a
-  narrow-is Malformed u = refl
-  narrow-is (ToConstant v c) u = rw (lt-ltb v 256 (omega (arith, leb-false vars v u)))
-  narrow-is (ToSum v w negative n) u = rw (lt-ltb v 256 (omega (arith, leb-false vars v (or-left (leb vars v) (leb vars w) u))))
+  narrow-is : (a : SetRead) → unfit vars a ≡ false → narrowed (counterOf a) ≡ counterOf a
+  narrow-is a u = rw (lt-ltb (counterOf a) 256 (omega (arith, item-formed vars a u .0)))
 
-  order-lists : (l : List SetRead) (s : SetsRead) (seen : List ℕ) → Lists seen (s .count) (s .order) → anyOf (isUndeclared vars) l ≡ false
+  order-lists : (l : List SetRead) (s : SetsRead) (seen : List ℕ) → Lists seen (s .count) (s .order) → anyOf (unfit vars) l ≡ false
       → Lists (seen ++ map counterOf l) (foldl (absorbed vars) s l .count) (foldl (absorbed vars) s l .order)
   unfolding absorbed
   order-lists [] s seen h u = rw (append-nil seen) h
   order-lists (a ∷ l) s seen h u =
       rw (← append-assoc seen (counterOf a ∷ []) (map counterOf l))
       (order-lists l (absorbed vars s a) (seen ++ (counterOf a ∷ []))
-      (rw (narrow-is a (any-head (isUndeclared vars) a l u)) (lists-more h (counterOf a)))
-      (any-tail (isUndeclared vars) a l u))
+      (rw (narrow-is a (any-head (unfit vars) a l u)) (lists-more h (counterOf a)))
+      (any-tail (unfit vars) a l u))
 
   listed : (items : List SetRead) → faultNumber (setFaults vars items) ≡ 0 → foldl (absorbed vars) noSets items .order ≡ orderSlots items
-  unfolding setFaults orderSlots noSets
-  listed items h = lists-all (order-lists items noSets [] lists-none (passed (setFaults vars items) h .declared))
+  unfolding orderSlots noSets
+  listed items h = lists-all (order-lists items noSets [] lists-none (none-unfit vars items h))
 
   pub by-stages : (items : List SetRead) → collected (foldl (absorbed vars) noSets items) ≡ setValue vars items
   unfolding collected setValue

@@ -1,7 +1,7 @@
 -- What a run of bytes says: its first line, its key, the number that it is, the items that it is made of.
 use Prim.Native.Nat.{ℕ, _+_, _-_, _*_, _≤_}
 use mathlib.Core.Path.{_≡_}
-use lib.ListN.{length, take, drop}
+use lib.ListN.{length, getD, take, drop}
 use mathlib.Core.List.{List, [], _∷_}
 use mathlib.Core.Bool.{Bool, true, false, cond, not, _&&_}
 use lib.Dec.{ltb, leb, eqb}
@@ -49,6 +49,7 @@ valueOf key t = drop (length key) (before 10 t)
 abbrev pub isDigit : ℕ → Bool
 isDigit x = leb 48 x && leb x 57
 
+-- the number that the bytes are
 unfoldable pub numberOf : List ℕ → NumberRead
 numberOf [] = Malformed
 numberOf (a ∷ []) = cond (isDigit a) (Number (a - 48)) Malformed
@@ -57,10 +58,12 @@ numberOf (a ∷ b ∷ c ∷ []) =
     cond (isDigit a && isDigit b && isDigit c && not (eqb a 48)) (Number (((a - 48) * 10 + (b - 48)) * 10 + (c - 48))) Malformed
 numberOf (a ∷ b ∷ c ∷ d ∷ l) = Malformed
 
+-- the bytes are no number
 abbrev pub isMalformed : NumberRead → Bool
 isMalformed Malformed = true
 isMalformed (Number n) = false
 
+-- the number, and 0 where there is none
 abbrev pub numberIn : NumberRead → ℕ
 numberIn Malformed = 0
 numberIn (Number n) = n
@@ -69,6 +72,7 @@ numberIn (Number n) = n
 abbrev pub narrowed : ℕ → ℕ
 narrowed n = cond (ltb n 256) n 0
 
+-- the same as a byte
 abbrev pub byteIn : NumberRead → ℕ
 byteIn n = narrowed (numberIn n)
 
@@ -89,12 +93,17 @@ leading l = numberOf (take (digitsOf l) l)
 abbrev pub following : List ℕ → List ℕ
 following l = drop (digitsOf l) l
 
+-- := (58 61) stands at the front
+abbrev pub assigns : List ℕ → Bool
+assigns l = eqb (getD l 0 0) 58 && eqb (getD l 1 0) 61
+
 -- ---- items, parted by commas (44)
--- the parts of l between the bytes b
+-- one more byte at the front of the first part
 abbrev pub grow : ℕ → List (List ℕ) → List (List ℕ)
 grow x [] = (x ∷ []) ∷ []
 grow x (p ∷ ps) = (x ∷ p) ∷ ps
 
+-- the parts of l between the bytes b
 unfoldable pub splitOn : ℕ → List ℕ → List (List ℕ)
 splitOn b [] = [] ∷ []
 splitOn b (x ∷ l) = cond (eqb x b) ([] ∷ splitOn b l) (grow x (splitOn b l))

@@ -14,4 +14,4 @@ unfolding put
 returns-2 c = rw (le-ltb _ _ (c .if1 .left))
 
 pub put-spec : {M : Type 1} → statement M
-put-spec = tie.close (tie.spec (search needs) returns returns-2)
+put-spec = tie.close (tie.spec (search needs) (search needs) returns returns-2)

@@ -9,7 +9,7 @@ unfolding absorbed
 returns c =
     let b = c .before .before .before .before .before in
     let d = b .before .before in
-    rw (c .put .ensures, c .before .update .ensures, b .is-undeclared .ensures, d .is-malformed .ensures, d .before .clock .ensures)
+    rw (c .put .ensures, c .before .stored .ensures, b .is-undeclared .ensures, d .is-malformed .ensures, d .before .clock .ensures)
 
 pub absorb-spec : {M : Type 1} → statement M
 absorb-spec =
