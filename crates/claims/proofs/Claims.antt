@@ -1,24 +1,25 @@
--- What is claimed of the calls, the page to read first: demands 2 and 3 and the corollary on the shortest run, of the words that emission leaves in the
--- lent buffer, of any solver's assignment to them, and of what the conversions and the walker answer and leave; that the DIMACS file has those words; the
--- same of the calls for C on a text; what a solver's output says of the list; that updates happen in their written order; that 16 bits are enough for a
--- number; and the rows. specs/Words.antt, Calls.antt, Files.antt, Texts.antt, Outputs.antt and Cases.antt say what the statements mean; each proof is
--- cited.
+-- What is claimed of the calls, the page to read first: demands 2 and 3 and the corollary on the shortest run, of the words that emission leaves in the lent
+-- buffer, of any solver's assignment to them, and of what the conversions and the walker answer and leave; that the DIMACS file has those words; the same of
+-- the calls for C on a text; what a solver's output says of the list; that updates happen in their written order; that copies of clocks read the values
+-- before the edge; that 16 bits are enough for a number; and the rows. specs/Words.antt, Calls.antt, Files.antt, Texts.antt, Outputs.antt and Cases.antt say
+-- what the statements mean; each proof is cited.
 use mathlib.Core.Path.{_≡_}
 use mathlib.Core.Logic.{_↔_}
 use mathlib.Core.List.{List, [], _∷_, _++_}
 use mathlib.Core.Bool.{true}
 use mathlib.Core.Option.{some}
-use Prim.Native.Nat.{ℕ, _-_, _≤_}
+use Prim.Native.Nat.{ℕ, _-_, _≤_, _<_}
 use lib.Dec.{T}
 use lib.IntN.{ℤ}
 use lib.ListN.{length, take, getD}
+use Rattle.model.specs.declared.ClockUpdate.the-variants.{Reset, Copy}
 use Rattle.model.specs.declared.Counter.{Counter}
 use Rattle.model.specs.declared.Edge.{Edge}
 use Rattle.model.specs.declared.Model.{Model}
 use Rattle.model.specs.declared.State.{State}
 use Rattle.model.specs.Indexed.{each}
-use Rattle.model.specs.Record.{updateAt}
-use Rattle.model.specs.Automaton.{variables, value, counter, listed, updated, edgeStep}
+use Rattle.model.specs.Record.{updateAt, resetAt}
+use Rattle.model.specs.Automaton.{variables, value, counter, clock, listed, updated, edgeStep}
 use Rattle.model.specs.Form.{wellFormed}
 use Rattle.model.proofs.FormLaws.{WellFormed, WellFormedEdge}
 use Rattle.model.proofs.StepLaws
@@ -32,6 +33,8 @@ use Rattle.dimacs.specs.DimacsCall.{FileReport}
 use Rattle.dimacs.specs.File.{file}
 use Rattle.list.proofs.SourcesBefore
 use Rattle.list.proofs.SourcesBefore.{itemsFromBefore}
+use Rattle.list.specs.SelfCopies.{SelfCopies}
+use Rattle.list.proofs.SelfCopyLaws
 use Rattle.parts.specs.Numbering.{SixteenBits}
 use Rattle.parts.proofs.SixteenBits as SixteenLaws
 use Rattle.text.specs.bytes.Faulty.{faultNumber}
@@ -58,6 +61,7 @@ use Rattle.claims.specs.Cases.{allRowsHold}
 use Rattle.claims.proofs.Within
 use Rattle.claims.proofs.Accepted
 use Rattle.claims.proofs.CallProofs
+use Rattle.claims.proofs.Copies
 use Rattle.claims.proofs.Files
 use Rattle.claims.proofs.Texts
 use Rattle.claims.proofs.Outputs
@@ -220,6 +224,22 @@ pub no-earlier-lists : (width : ℕ → ℕ) (m : Model) (o c : ℕ) (e : Edge) 
     ≡ sourceItems width m o c e ++ targetItems width m o c e ++ guardItems width m o c e ++ each (m .vars) (λ i. itemsFromBefore width m o c i (updateAt e i))
     ++ resetsItems width m o c e
 no-earlier-lists = SourcesBefore.no-earlier-lists
+
+-- ---- copies of clocks
+-- A clock that an edge makes a copy shows after the edge what its source showed before it, whatever the edge does to the source; also where it resets the
+-- source, which then shows 0.
+pub copies-read-before : (m : Model) (e : Edge) (s t : State) → edgeStep m e s ≡ some t → (i w : ℕ) → i < 4 → resetAt e i ≡ Copy w
+    → value t (clock i) ≡ value s (clock w)
+copies-read-before = Copies.copies-read-before
+
+pub copy-beside-reset : (m : Model) (e : Edge) (s t : State) → edgeStep m e s ≡ some t → (i w : ℕ) → i < 4 → w < 4 → resetAt e i ≡ Copy w
+    → resetAt e w ≡ Reset → (value t (clock i) ≡ value s (clock w)) × (value t (clock w) ≡ 0)
+copy-beside-reset = Copies.copy-beside-reset
+
+-- A well-formed record in which clocks are copied to themselves is another one than that in which they are left unchanged; both have the same steps and
+-- the same list.
+pub self-copies : (m : Model) → T (wellFormed m) → SelfCopies m
+self-copies = SelfCopyLaws.self-copies
 
 -- ---- sixteen bits are enough for a number
 -- For every well-formed record, step up to 64 and declared member: the number is that of the list's variable, at most 21,776, and no value on the way to

@@ -2,6 +2,7 @@ pub mod ReadBack
 pub mod Within
 pub mod Accepted
 pub mod CallProofs
+pub mod Copies
 pub mod Files
 pub mod Texts
 pub mod Outputs

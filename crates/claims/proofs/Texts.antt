@@ -35,7 +35,7 @@ use Rattle.text.specs.bytes.Faulty.{faultNumber, lineNumber, anyOf, risesFrom}
 use Rattle.text.specs.declared.bytes.Faults.{Faults}
 use Rattle.text.specs.atoms.Atoms.{relationAt, atomOf, atomFaults, atomSlots, invItems, whenItems}
 use Rattle.text.specs.updates.Sets.{sumOf, setTo, setOf, timesSet, setTwice, setFaults, updateSlots, orderSlots, setItems}
-use Rattle.text.specs.resets.Resets.{resetOf, resetFaults, resetSlots, resetItems}
+use Rattle.text.specs.resets.Resets.{sourceOf, clockSet, resetOf, resetFaults, resetSlots, resetItems}
 use Rattle.text.specs.line.Values.{numberFaults, referenceFaults, counterFaults}
 use Rattle.text.specs.lines.Store.{withLocations, withInitial, withTarget, withClocks, withVars, withUsed, withCounter, withInvariant, withEdge, withSource}
 use Rattle.text.specs.lines.Store.{withEdgeTarget, withGuard, withUpdates, withResets}
@@ -57,6 +57,7 @@ use Rattle.claims.specs.Calls.{Calls, recordCalls, Emitted, EmittedWords
 use Rattle.claims.specs.Files.{Filed, FiledBytes}
 use Rattle.claims.specs.Texts.{countsIn, fileIn, textCalls, IsRead, Not20, Never20, RowTexts}
 use Rattle.claims.specs.RowModels.{clockRelations, counterRelations, counterUpdates, twoOfEach, raisedThenCopied, copiedThenRaised, twoOrders}
+use Rattle.claims.specs.RowModels.{resetAndCopied, clocksSwapped}
 use Rattle.claims.proofs.Accepted.{emits}
 use Rattle.claims.proofs.CallProofs.{words-are, demand-2, demand-3, shortest}
 use Rattle.claims.proofs.Files.{files, filed-bytes}
@@ -382,13 +383,12 @@ never-20 = record {
 
 -- ---- the small models
 pub row-texts : RowTexts
-unfolding listBelow allBelow firstAt startsWith isDue valueOf numberOf digitsOf splitOn isHyphen itemsOf faultNumber lineNumber anyOf risesFrom
-    relationAt atomOf atomFaults atomSlots invItems whenItems sumOf setTo setOf timesSet setTwice setFaults updateSlots orderSlots setItems resetOf
-    resetFaults resetSlots resetItems numberFaults referenceFaults counterFaults withLocations withInitial withTarget withClocks withVars withUsed
-    withCounter withInvariant withEdge withSource withEdgeTarget withGuard withUpdates withResets readLine locationsLine initLine targetLine
-    clocksLine varsLine varLine invLine edgesLine fromLine toLine whenLine setLine resetLine inTurn readHead readCounters readInvariants readEdge
-    readEdges readLines readEnded readReport blankModel clockRelations counterRelations counterUpdates twoOfEach raisedThenCopied copiedThenRaised
-    twoOrders
+unfolding listBelow allBelow firstAt startsWith isDue valueOf numberOf digitsOf splitOn isHyphen itemsOf faultNumber lineNumber anyOf risesFrom relationAt
+    atomOf atomFaults atomSlots invItems whenItems sumOf setTo setOf timesSet setTwice setFaults updateSlots orderSlots setItems sourceOf clockSet resetOf
+    resetFaults resetSlots resetItems numberFaults referenceFaults counterFaults withLocations withInitial withTarget withClocks withVars withUsed withCounter
+    withInvariant withEdge withSource withEdgeTarget withGuard withUpdates withResets readLine locationsLine initLine targetLine clocksLine varsLine varLine
+    invLine edgesLine fromLine toLine whenLine setLine resetLine inTurn readHead readCounters readInvariants readEdge readEdges readLines readEnded readReport
+    blankModel clockRelations counterRelations counterUpdates twoOfEach raisedThenCopied copiedThenRaised twoOrders resetAndCopied clocksSwapped
 row-texts = record {
   clock-relations = refl;
   counter-relations = refl;
@@ -397,4 +397,6 @@ row-texts = record {
   raised-then-copied = refl;
   copied-then-raised = refl;
   two-orders = refl;
+  reset-and-copied = refl;
+  clocks-swapped = refl;
 }

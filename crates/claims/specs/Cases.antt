@@ -8,6 +8,7 @@ use lib.Dec.{eqb}
 use lib.ListN.{length, replicate}
 use lib.IntN.{ℤ, pos, negsuc}
 use Rattle.model.specs.declared.Model.{Model}
+use Rattle.model.specs.declared.State.{State}
 use Rattle.model.specs.Indexed.{each}
 use Rattle.model.specs.Automaton.{ceiling, Component, loc, counter, clock, stateSize, choices, variables}
 use Rattle.model.specs.Form.{wellFormed}
@@ -17,14 +18,16 @@ use Rattle.list.specs.Lists.{allOf}
 use Rattle.list.specs.Clauses.{clauses}
 use Rattle.list.specs.Assignments.{satisfied}
 use Rattle.parts.specs.Numbering.{stateNumber, choiceNumber, numbersInOrder}
+use Rattle.walk.specs.StepCall.{StepReport, stepReport}
 use Rattle.walk.specs.Walker.{walkReport}
 use Rattle.encode.specs.EncodeCall.{encodeReport, encodeLeft}
 use Rattle.decode.specs.DecodeCall.{decodeReport, decodeLeft}
 use Rattle.emission.specs.EmitCall.{EmitReport, emitReport, emitLeft}
 use Rattle.samples.specs.Models.{modelA, waitingA, modelB, fullModel}
 use Rattle.claims.specs.RowModels.{clockRelations, counterRelations, counterUpdates, twoOfEach, raisedThenCopied, copiedThenRaised, twoOrders}
+use Rattle.claims.specs.RowModels.{resetAndCopied, clocksSwapped}
 use Rattle.claims.specs.RowWords.{neg, end, clockRelationsWords, counterRelationsWords, counterUpdatesWords, twoOfEachWords}
-use Rattle.claims.specs.RowWords.{raisedThenCopiedWords, copiedThenRaisedWords, twoOrdersWords}
+use Rattle.claims.specs.RowWords.{raisedThenCopiedWords, copiedThenRaisedWords, twoOrdersWords, resetAndCopiedWords, clocksSwappedWords}
 
 -- ---- what a row may say
 pub data Fact : Type 0 where
@@ -51,6 +54,8 @@ pub data Fact : Type 0 where
   assignmentRefused : Model → ℕ → List ℕ → ℕ → ℕ → Fact
   -- of all lists of k choices, exactly these are runs
   runsAre : Model → ℕ → List (List ℕ) → Fact
+  -- from the state with this location and these clocks, this byte leads to the state with that location and those clocks; counters show 0
+  stepIs : Model → ℕ → List ℕ → ℕ → ℕ → List ℕ → Fact
   -- the walker refuses the run with this number and place
   runRefused : Model → List ℕ → ℕ → ℕ → Fact
 
@@ -79,6 +84,15 @@ equalCounts r v c w = eqb (r .number) 0 && eqb (r .variables) v && eqb (r .claus
 abbrev equalRefusal : Refusal → ℕ → ℕ → Bool
 equalRefusal x number place = eqb (x .number) number && eqb (x .place) place
 
+-- The state with this location and these clocks, and counters at 0.
+abbrev standing : ℕ → List ℕ → State
+standing l clocks = record { location = l; counters = replicate 4 0; clocks = clocks }
+
+abbrev equalStep : StepReport → State → Bool
+equalStep r t =
+    eqb (r .number) 0 && eqb (r .state .location) (t .location) && equalLists eqb (r .state .counters) (t .counters) &&
+    equalLists eqb (r .state .clocks) (t .clocks)
+
 -- Those that pass the test, in order.
 abbrev keepIf : (List ℕ → Bool) → List (List ℕ) → List (List ℕ)
 keepIf p [] = []
@@ -100,6 +114,7 @@ holds (decodesTo m k a r) =
     isAccepted (encodeReport m r (length a)) && equalLists eqb (encodeLeft m r (replicate (length a) 0)) a
 holds (assignmentRefused m k a number place) = equalRefusal (decodeReport m k a k) number place
 holds (runsAre m k rs) = equalLists (equalLists eqb) (keepIf (isRun m) (strings (choices m) k)) rs
+holds (stepIs m l xs byte l′ ys) = equalStep (stepReport m (standing l xs) byte) (standing l′ ys)
 holds (runRefused m r number place) = equalRefusal (walkReport m r) number place
 
 -- ---- the rows
@@ -115,7 +130,7 @@ P n f = record { number = n; says = f }
 unfoldable pub rows : List Row
 rows =
     P 0 (areFormed (modelA ∷ waitingA ∷ modelB ∷ clockRelations ∷ counterRelations ∷ counterUpdates ∷ twoOfEach ∷ [])) ∷
-    P 0 (areFormed (raisedThenCopied ∷ copiedThenRaised ∷ twoOrders ∷ [])) ∷
+    P 0 (areFormed (raisedThenCopied ∷ copiedThenRaised ∷ twoOrders ∷ resetAndCopied ∷ clocksSwapped ∷ [])) ∷
     P 1 (countsAre modelA 0 2 4 10) ∷
     P 1 (satisfiedBy modelA 0 []) ∷
     P 2 (wordsAre modelA 1 (
@@ -148,6 +163,19 @@ rows =
     P 0 (wordsAre twoOrders 1 twoOrdersWords) ∷
     P 0 (decodesTo twoOrders 1 (1 ∷ 1 ∷ 0 ∷ 0 ∷ 1 ∷ 0 ∷ 0 ∷ 1 ∷ 0 ∷ 1 ∷ 0 ∷ 1 ∷ 0 ∷ 1 ∷ []) (2 ∷ [])) ∷
     P 0 (runRefused twoOrders (3 ∷ 3 ∷ []) 28 2) ∷
+    P 0 (totalsAre resetAndCopied 2 8 4) ∷
+    P 0 (countsAre resetAndCopied 1 20 62 215) ∷
+    P 0 (countsAre resetAndCopied 2 32 110 390) ∷
+    P 0 (wordsAre resetAndCopied 1 resetAndCopiedWords) ∷
+    P 0 (runsAre resetAndCopied 2 ((1 ∷ 3 ∷ []) ∷ (2 ∷ 3 ∷ []) ∷ [])) ∷
+    P 0 (stepIs resetAndCopied 0 (1 ∷ 2 ∷ 0 ∷ 0 ∷ []) 3 1 (0 ∷ 1 ∷ 0 ∷ 0 ∷ [])) ∷
+    P 0 (decodesTo resetAndCopied 2 (
+    1 ∷ 0 ∷ 1 ∷ 0 ∷ 0 ∷ 1 ∷ 0 ∷ 0 ∷ 0 ∷ 1 ∷ 0 ∷ 0 ∷ 1 ∷ 0 ∷ 0 ∷ 1 ∷ 0 ∷ 0 ∷ 1 ∷ 0 ∷ 0 ∷ 0 ∷ 0 ∷ 1 ∷ 0 ∷ 1 ∷ 1 ∷ 0 ∷ 0 ∷ 0 ∷ 1 ∷ 0 ∷ [])
+    (1 ∷ 3 ∷ [])) ∷
+    P 0 (totalsAre clocksSwapped 1 6 3) ∷
+    P 0 (countsAre clocksSwapped 1 15 38 127) ∷
+    P 0 (wordsAre clocksSwapped 1 clocksSwappedWords) ∷
+    P 0 (stepIs clocksSwapped 0 (1 ∷ 0 ∷ 0 ∷ 0 ∷ []) 2 1 (0 ∷ 1 ∷ 0 ∷ 0 ∷ [])) ∷
     P 0 (numbersAre modelA 1 (1 ∷ 2 ∷ 3 ∷ 4 ∷ 5 ∷ 6 ∷ 7 ∷ [])) ∷
     P 0 (stateNumberIs modelB 1 (counter 0) 1 25) ∷
     P 0 (choiceNumberIs modelB 2 7 57) ∷

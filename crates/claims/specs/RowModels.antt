@@ -1,6 +1,6 @@
 -- The small models of the rows that pin the definitions: together they have every relation on clocks, in an invariant and in a guard, and on counters,
--- every sort of update, in range and out of it, updates that read a counter set earlier and one set later, a clock reset and one left unchanged, two
--- counters and two clocks. Each stands here as a text and as the record that the text is read as (specs/Texts.antt: RowTexts).
+-- every sort of update, in range and out of it, updates that read a counter set earlier and one set later, clocks reset, copied, swapped and left
+-- unchanged, two counters and two clocks. Each stands here as a text and as the record that the text is read as (specs/Texts.antt: RowTexts).
 use mathlib.Core.List.{List, [], _∷_, _++_}
 use Prim.Native.Nat.{ℕ, _-_}
 use Prim.Native.String.{String}
@@ -12,7 +12,7 @@ use Rattle.model.specs.declared.Atom.the-variants.{OnClock, OnCounter}
 use Rattle.model.specs.declared.Update.{Update}
 use Rattle.model.specs.declared.Update.the-variants.{Keep, Constant, Sum}
 use Rattle.model.specs.declared.ClockUpdate.{ClockUpdate}
-use Rattle.model.specs.declared.ClockUpdate.the-variants.{Unchanged, Reset}
+use Rattle.model.specs.declared.ClockUpdate.the-variants.{Unchanged, Reset, Copy}
 use Rattle.model.specs.declared.AtomSlot.{AtomSlot}
 use Rattle.model.specs.declared.UpdateSlot.{UpdateSlot}
 use Rattle.model.specs.declared.ClockSlot.{ClockSlot}
@@ -159,3 +159,22 @@ twoOrders =
     let eachOther : List Update = Sum 1 (pos 0) ∷ Sum 0 (pos 0) ∷ [] in
     let edges : List Edge = edge 0 0 [] eachOther (0 ∷ 1 ∷ []) [] ∷ edge 0 0 [] raisedAndCopied (0 ∷ 1 ∷ []) [] ∷ [] in
     model 1 0 0 0 (counter 1 0 ∷ counter 1 1 ∷ []) (invariant [] ∷ []) edges
+
+-- ---- a clock reset and copied to another: the copy reads the value before the reset
+abbrev pub resetAndCopiedText : List String
+resetAndCopiedText =
+    "locations=2" ∷ "init=0" ∷ "target=1" ∷ "clocks=2" ∷ "vars=0" ∷ "inv=-" ∷ "inv=-" ∷ "edges=1" ∷
+    "from=0" ∷ "to=1" ∷ "when=x0>=1" ∷ "set=-" ∷ "reset=x0,x1:=x0" ∷ []
+
+unfoldable pub resetAndCopied : Model
+resetAndCopied =
+    model 2 0 1 2 [] (invariant [] ∷ invariant [] ∷ []) (edge 0 1 (OnClock 0 GreaterEqual 1 ∷ []) [] [] (Reset ∷ Copy 0 ∷ []) ∷ [])
+
+-- ---- two clocks swapped
+abbrev pub clocksSwappedText : List String
+clocksSwappedText =
+    "locations=2" ∷ "init=0" ∷ "target=1" ∷ "clocks=2" ∷ "vars=0" ∷ "inv=-" ∷ "inv=-" ∷ "edges=1" ∷
+    "from=0" ∷ "to=1" ∷ "when=-" ∷ "set=-" ∷ "reset=x0:=x1,x1:=x0" ∷ []
+
+unfoldable pub clocksSwapped : Model
+clocksSwapped = model 2 0 1 2 [] (invariant [] ∷ invariant [] ∷ []) (edge 0 1 [] [] [] (Copy 1 ∷ Copy 0 ∷ []) ∷ [])

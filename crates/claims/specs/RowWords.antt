@@ -107,3 +107,29 @@ twoOrdersWords =
     neg 8 ∷ neg 5 ∷ pos 12 ∷ end ∷ neg 8 ∷ neg 11 ∷ pos 13 ∷ end ∷ neg 8 ∷ neg 12 ∷ pos 14 ∷ end ∷ neg 9 ∷ pos 1 ∷ end ∷ neg 9 ∷ pos 10 ∷ end ∷
     neg 9 ∷ neg 2 ∷ pos 12 ∷ end ∷ neg 9 ∷ neg 3 ∷ end ∷ neg 9 ∷ neg 11 ∷ pos 13 ∷ end ∷ neg 9 ∷ neg 12 ∷ pos 14 ∷ end ∷ pos 10 ∷ end ∷
     pos 11 ∷ pos 12 ∷ end ∷ neg 11 ∷ neg 12 ∷ end ∷ pos 13 ∷ pos 14 ∷ end ∷ neg 13 ∷ neg 14 ∷ end ∷ pos 10 ∷ end ∷ []
+
+unfoldable pub resetAndCopiedWords : List ℤ
+resetAndCopiedWords =
+    pos 1 ∷ pos 2 ∷ end ∷ neg 1 ∷ neg 2 ∷ end ∷ pos 3 ∷ pos 4 ∷ pos 5 ∷ end ∷ neg 3 ∷ neg 4 ∷ end ∷ neg 3 ∷ neg 5 ∷ end ∷ neg 4 ∷ neg 5 ∷ end ∷
+    pos 6 ∷ pos 7 ∷ pos 8 ∷ end ∷ neg 6 ∷ neg 7 ∷ end ∷ neg 6 ∷ neg 8 ∷ end ∷ neg 7 ∷ neg 8 ∷ end ∷ pos 1 ∷ end ∷ pos 3 ∷ end ∷ pos 6 ∷ end ∷
+    pos 9 ∷ pos 10 ∷ pos 11 ∷ pos 12 ∷ end ∷ neg 9 ∷ neg 10 ∷ end ∷ neg 9 ∷ neg 11 ∷ end ∷ neg 9 ∷ neg 12 ∷ end ∷ neg 10 ∷ neg 11 ∷ end ∷
+    neg 10 ∷ neg 12 ∷ end ∷ neg 11 ∷ neg 12 ∷ end ∷ neg 9 ∷ neg 1 ∷ pos 13 ∷ end ∷ neg 9 ∷ neg 2 ∷ pos 14 ∷ end ∷ neg 9 ∷ neg 3 ∷ pos 15 ∷ end ∷
+    neg 9 ∷ neg 4 ∷ pos 16 ∷ end ∷ neg 9 ∷ neg 5 ∷ pos 17 ∷ end ∷ neg 9 ∷ neg 6 ∷ pos 18 ∷ end ∷ neg 9 ∷ neg 7 ∷ pos 19 ∷ end ∷ neg 9 ∷ neg 8 ∷ pos 20 ∷ end ∷
+    neg 10 ∷ neg 1 ∷ pos 13 ∷ end ∷ neg 10 ∷ neg 2 ∷ pos 14 ∷ end ∷ neg 10 ∷ neg 3 ∷ pos 16 ∷ end ∷ neg 10 ∷ neg 4 ∷ pos 17 ∷ end ∷
+    neg 10 ∷ neg 5 ∷ pos 17 ∷ end ∷ neg 10 ∷ neg 6 ∷ pos 19 ∷ end ∷ neg 10 ∷ neg 7 ∷ pos 20 ∷ end ∷ neg 10 ∷ neg 8 ∷ pos 20 ∷ end ∷
+    neg 11 ∷ neg 1 ∷ pos 13 ∷ end ∷ neg 11 ∷ neg 2 ∷ pos 14 ∷ end ∷ neg 11 ∷ neg 3 ∷ pos 17 ∷ end ∷ neg 11 ∷ neg 4 ∷ pos 17 ∷ end ∷
+    neg 11 ∷ neg 5 ∷ pos 17 ∷ end ∷ neg 11 ∷ neg 6 ∷ pos 20 ∷ end ∷ neg 11 ∷ neg 7 ∷ pos 20 ∷ end ∷ neg 11 ∷ neg 8 ∷ pos 20 ∷ end ∷ neg 12 ∷ pos 1 ∷ end ∷
+    neg 12 ∷ pos 14 ∷ end ∷ neg 12 ∷ neg 3 ∷ end ∷ neg 12 ∷ pos 15 ∷ end ∷ neg 12 ∷ neg 3 ∷ pos 18 ∷ end ∷ neg 12 ∷ neg 4 ∷ pos 19 ∷ end ∷
+    neg 12 ∷ neg 5 ∷ pos 20 ∷ end ∷ pos 13 ∷ pos 14 ∷ end ∷ neg 13 ∷ neg 14 ∷ end ∷ pos 15 ∷ pos 16 ∷ pos 17 ∷ end ∷ neg 15 ∷ neg 16 ∷ end ∷
+    neg 15 ∷ neg 17 ∷ end ∷ neg 16 ∷ neg 17 ∷ end ∷ pos 18 ∷ pos 19 ∷ pos 20 ∷ end ∷ neg 18 ∷ neg 19 ∷ end ∷ neg 18 ∷ neg 20 ∷ end ∷ neg 19 ∷ neg 20 ∷ end ∷
+    pos 14 ∷ end ∷ []
+
+unfoldable pub clocksSwappedWords : List ℤ
+clocksSwappedWords =
+    pos 1 ∷ pos 2 ∷ end ∷ neg 1 ∷ neg 2 ∷ end ∷ pos 3 ∷ pos 4 ∷ end ∷ neg 3 ∷ neg 4 ∷ end ∷ pos 5 ∷ pos 6 ∷ end ∷ neg 5 ∷ neg 6 ∷ end ∷ pos 1 ∷ end ∷
+    pos 3 ∷ end ∷ pos 5 ∷ end ∷ pos 7 ∷ pos 8 ∷ pos 9 ∷ end ∷ neg 7 ∷ neg 8 ∷ end ∷ neg 7 ∷ neg 9 ∷ end ∷ neg 8 ∷ neg 9 ∷ end ∷ neg 7 ∷ neg 1 ∷ pos 10 ∷ end ∷
+    neg 7 ∷ neg 2 ∷ pos 11 ∷ end ∷ neg 7 ∷ neg 3 ∷ pos 12 ∷ end ∷ neg 7 ∷ neg 4 ∷ pos 13 ∷ end ∷ neg 7 ∷ neg 5 ∷ pos 14 ∷ end ∷ neg 7 ∷ neg 6 ∷ pos 15 ∷ end ∷
+    neg 8 ∷ neg 1 ∷ pos 10 ∷ end ∷ neg 8 ∷ neg 2 ∷ pos 11 ∷ end ∷ neg 8 ∷ neg 3 ∷ pos 13 ∷ end ∷ neg 8 ∷ neg 4 ∷ pos 13 ∷ end ∷ neg 8 ∷ neg 5 ∷ pos 15 ∷ end ∷
+    neg 8 ∷ neg 6 ∷ pos 15 ∷ end ∷ neg 9 ∷ pos 1 ∷ end ∷ neg 9 ∷ pos 11 ∷ end ∷ neg 9 ∷ neg 5 ∷ pos 12 ∷ end ∷ neg 9 ∷ neg 6 ∷ pos 13 ∷ end ∷
+    neg 9 ∷ neg 3 ∷ pos 14 ∷ end ∷ neg 9 ∷ neg 4 ∷ pos 15 ∷ end ∷ pos 10 ∷ pos 11 ∷ end ∷ neg 10 ∷ neg 11 ∷ end ∷ pos 12 ∷ pos 13 ∷ end ∷
+    neg 12 ∷ neg 13 ∷ end ∷ pos 14 ∷ pos 15 ∷ end ∷ neg 14 ∷ neg 15 ∷ end ∷ pos 11 ∷ end ∷ []

@@ -25,6 +25,7 @@ use Rattle.claims.specs.Calls.{Calls}
 use Rattle.claims.specs.RowModels.{clockRelations, clockRelationsText, counterRelations, counterRelationsText}
 use Rattle.claims.specs.RowModels.{counterUpdates, counterUpdatesText, twoOfEach, twoOfEachText, raisedThenCopied, raisedThenCopiedText}
 use Rattle.claims.specs.RowModels.{copiedThenRaised, copiedThenRaisedText, twoOrders, twoOrdersText}
+use Rattle.claims.specs.RowModels.{resetAndCopied, resetAndCopiedText, clocksSwapped, clocksSwappedText}
 
 -- ---- the calls of which the demands are said
 -- The text is read.
@@ -93,3 +94,5 @@ pub record RowTexts : Type 0 where
   pub raised-then-copied : readReport (textOf raisedThenCopiedText) ≡ readAccepted raisedThenCopied
   pub copied-then-raised : readReport (textOf copiedThenRaisedText) ≡ readAccepted copiedThenRaised
   pub two-orders : readReport (textOf twoOrdersText) ≡ readAccepted twoOrders
+  pub reset-and-copied : readReport (textOf resetAndCopiedText) ≡ readAccepted resetAndCopied
+  pub clocks-swapped : readReport (textOf clocksSwappedText) ≡ readAccepted clocksSwapped

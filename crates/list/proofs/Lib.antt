@@ -12,5 +12,7 @@ pub mod PieceClauses
 pub mod Within
 pub mod Raised
 pub mod SourcesBefore
+pub mod OtherEdgesLaws
+pub mod SelfCopyLaws
 pub mod Searching
 pub mod Claims

@@ -3,3 +3,5 @@ pub mod Items
 pub mod Clauses
 pub mod Assignments
 pub mod Demands
+pub mod OtherEdges
+pub mod SelfCopies
