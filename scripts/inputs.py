@@ -26,11 +26,21 @@ def two_counters(updates):
     return A.replace(b"vars=0\n", b"vars=2\nvar=1,0\nvar=1,0\n").replace(b"\nset=-\n", b"\nset=" + updates + b"\n")
 
 
+def two_clocks(guard, items):
+    """A with two clocks, and the guard and the reset items of its edge."""
+    text = A.replace(b"clocks=0\n", b"clocks=2\n").replace(b"\nwhen=-\n", b"\nwhen=" + guard + b"\n")
+    return text.replace(b"\nreset=-\n", b"\nreset=" + items + b"\n")
+
+
 def looping(head, edges, update):
     """A text of a head and so many edges from location 0 to itself, each with one update."""
     edge = b"from=0 to=0 when=- set=%s reset=-" % update
     return b"".join(line + b"\n" for line in (head + b" edges=%d" % edges + (b" " + edge) * edges).split())
 
+
+# A clock saved in another beside its reset, and two clocks exchanged.
+SAVED = two_clocks(b"x0>=1", b"x0,x1:=x0")
+EXCHANGED = two_clocks(b"-", b"x0:=x1,x1:=x0")
 
 # Lists of as many words as the size program lends, and of one more.
 MOST = looping(b"bound=57 locations=1 init=0 target=0 clocks=1 vars=1 var=1,0 inv=x0<=0", 7, b"v0:=31")
@@ -132,4 +142,26 @@ CASES = [
     ("A with two counters, one raised and then copied", (0, 0, 15, 38, 126), b"bound=1\n" + two_counters(b"v0:=v0+1,v1:=v0+0")),
     ("A with two counters, one copied and then raised", (0, 0, 15, 38, 126), b"bound=1\n" + two_counters(b"v1:=v0+0,v0:=v0+1")),
     ("reset=-,x0", refused(3, 15), wide(15, b"reset=-,x0")),
+    ("reset=x0:=x0", (0, 0, 83, 1145, 3613), wide(15, b"reset=x0:=x0")),
+    ("reset=x0:=x1, one clock", refused(5, 15), wide(15, b"reset=x0:=x1")),
+    ("reset=x0:=v0", refused(3, 15), wide(15, b"reset=x0:=v0")),
+    ("a clock saved beside its reset, at 1", (0, 0, 20, 62, 215), b"bound=1\n" + SAVED),
+    ("a clock saved beside its reset, at 2", (0, 0, 32, 110, 390), b"bound=2\n" + SAVED),
+    ("two clocks exchanged", (0, 0, 15, 38, 127), b"bound=1\n" + EXCHANGED),
 ]
+# A with two clocks and these reset items.
+CASES += [("reset=" + items, numbers, b"bound=1\n" + two_clocks(b"-", items.encode())) for items, numbers in [
+    ("x0:=x1", (0, 0, 15, 38, 127)),
+    ("x0,x1:=x0", (0, 0, 15, 37, 122)),
+    ("x1:=x0,x0", refused(6, 13)),
+    ("x0:=x1,x0", refused(6, 13)),
+    ("x0:=x2", refused(5, 13)),
+    ("x2:=x0", refused(5, 13)),
+    ("x1:=x0,x0:=x9", refused(5, 13)),
+    ("x0:=x999", refused(5, 13)),
+    ("x0:=x1000", refused(3, 13)),
+    ("x0:=x1,", refused(3, 13)),
+    ("x0:=0", refused(3, 13)),
+    ("x0:=x1+0", refused(3, 13)),
+    ("x0=x1", refused(3, 13)),
+]]

@@ -1,7 +1,7 @@
 //! The clause list in plain Rust without any vector of clauses: the clauses are
 //! told one after the other to a visitor, which is known when this is compiled.
 
-use reference::model::{Atom, Atoms, Edge, Model, Update};
+use reference::model::{Atom, Atoms, ClockUpdate, Edge, Model, Update};
 
 use crate::layout::{Group, Layout};
 
@@ -100,9 +100,9 @@ pub fn step<V: Visitor>(model: &Model, layout: &Layout, block: usize, visitor: &
 
 fn delay<V: Visitor>(layout: &Layout, block: usize, choice: usize, ticks: usize, visitor: &mut V) -> Result<(), V::End> {
     let next = block + layout.step();
-    kept(layout.locations(), block, next, choice, visitor)?;
+    kept(layout.locations().at(block), layout.locations().at(next), choice, visitor)?;
     for group in layout.counters() {
-        kept(*group, block, next, choice, visitor)?;
+        kept(group.at(block), group.at(next), choice, visitor)?;
     }
     for group in layout.clocks() {
         let (before, after) = (block + group.first, next + group.first);
@@ -114,10 +114,10 @@ fn delay<V: Visitor>(layout: &Layout, block: usize, choice: usize, ticks: usize,
     Ok(())
 }
 
-fn kept<V: Visitor>(group: Group, block: usize, next: usize, choice: usize, visitor: &mut V) -> Result<(), V::End> {
-    let (before, after) = (block + group.first, next + group.first);
-    for value in 0..group.length {
-        visitor.both_imply(choice, before + value, after + value)?;
+/// Each value before is the value after, of the same group or of one as long.
+fn kept<V: Visitor>(before: Group, after: Group, choice: usize, visitor: &mut V) -> Result<(), V::End> {
+    for value in 0..before.length {
+        visitor.both_imply(choice, before.first + value, after.first + value)?;
     }
     Ok(())
 }
@@ -129,7 +129,7 @@ fn edge<V: Visitor>(layout: &Layout, block: usize, choice: usize, edge: &Edge, v
     failing(layout, block, choice, &edge.guard, visitor)?;
     for (index, group) in layout.counters().iter().enumerate() {
         match edge.updates[index] {
-            Update::Keep => kept(*group, block, next, choice, visitor)?,
+            Update::Keep => kept(group.at(block), group.at(next), choice, visitor)?,
             Update::Constant(constant) => {
                 constant_update(group.at(next), choice, usize::from(constant), visitor)?;
             }
@@ -140,11 +140,12 @@ fn edge<V: Visitor>(layout: &Layout, block: usize, choice: usize, edge: &Edge, v
             }
         }
     }
-    for (group, reset) in layout.clocks().iter().zip(edge.resets) {
-        if reset {
-            visitor.implies(choice, next + group.first)?;
-        } else {
-            kept(*group, block, next, choice, visitor)?;
+    for (group, update) in layout.clocks().iter().zip(edge.clock_updates) {
+        let after = group.at(next);
+        match update {
+            ClockUpdate::Unchanged => kept(group.at(block), after, choice, visitor)?,
+            ClockUpdate::Reset => visitor.implies(choice, after.first)?,
+            ClockUpdate::Copy(source) => kept(layout.clocks()[usize::from(source)].at(block), after, choice, visitor)?,
         }
     }
     Ok(())

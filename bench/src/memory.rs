@@ -10,7 +10,7 @@ use wirdoku::library;
 use crate::input;
 
 /// Bytes of the thread's stack, the thread's own needs included.
-pub const STACK: usize = 64 * 1024;
+pub const STACK: usize = 96 * 1024;
 
 /// Makes all calls on a model at the greatest bound.
 pub fn on_a_small_stack(input: &Subject) -> Result<(), String> {

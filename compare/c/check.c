@@ -146,6 +146,10 @@ struct text two_counters(const char *set) {
     return with_line(with_line(file_text("models/a.txt"), 5, "vars=2\nvar=1,0\nvar=1,0"), 14, set);
 }
 
+struct text two_clocks(const char *when, const char *reset) {
+    return with_line(with_line(with_line(file_text("models/a.txt"), 4, "clocks=2"), 11, when), 13, reset);
+}
+
 struct text repeated(const char *string, size_t count) {
     size_t length = strlen(string);
     uint8_t *bytes = block(count * length);

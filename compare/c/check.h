@@ -31,6 +31,8 @@ struct text joined(struct text first, struct text second);
 struct text with_line(struct text base, size_t line, const char *string);
 /* Model A with two counters of greatest value 1, and a `set` line for its edge, which is line 14. */
 struct text two_counters(const char *set);
+/* Model A with two clocks, and a `when` and a `reset` line for its edge, which are lines 11 and 13. */
+struct text two_clocks(const char *when, const char *reset);
 /* A string so many times. */
 struct text repeated(const char *string, size_t count);
 /* A text of so many bytes LF. */

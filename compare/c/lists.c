@@ -63,6 +63,29 @@ static void listed_updates(void) {
     copied("set=v1:=v0+0,v0:=v0+1", before);
 }
 
+/* The totals at bound 1, and in the list the edge's clauses as one piece. */
+static void edge_of(const char *name, struct text t, struct wirdoku_sizes sizes, const int32_t *clauses, size_t length) {
+    int32_t *out = lent_words(sizes.words);
+    check_sizes(name, wirdoku_emit(t.at, t.length, 1, out, sizes.words), WIRDOKU_ACCEPTED, 0, sizes.variables, sizes.clauses, sizes.words);
+    size_t at = 0;
+    while (at + length < sizes.words && memcmp(out + at, clauses, length * sizeof *out) != 0)
+        at++;
+    check(name, at + length < sizes.words);
+}
+
+/* A copy names the clock copied from in the state before, also beside its reset and beside another copy. */
+static void copied_clocks(void) {
+    const int32_t saved[] = {-12, 1, 0, -12, 14, 0, -12, -3, 0, -12, 15, 0, -12, -3, 18, 0, -12, -4, 19, 0, -12, -5, 20, 0};
+    const int32_t exchanged[] = {-9, 1, 0, -9, 11, 0, -9, -5, 12, 0, -9, -6, 13, 0, -9, -3, 14, 0, -9, -4, 15, 0};
+    const struct wirdoku_sizes of_saved = {.variables = 20, .clauses = 62, .words = 215};
+    const struct wirdoku_sizes of_exchanged = {.variables = 15, .clauses = 38, .words = 127};
+    struct text t = two_clocks("when=x0>=1", "reset=x0,x1:=x0");
+    edge_of("a clock saved beside its reset", t, of_saved, saved, sizeof saved / sizeof *saved);
+    check_sizes("a clock saved beside its reset, at 2", wirdoku_counts(t.at, t.length, 2), WIRDOKU_ACCEPTED, 0, 32, 110, 390);
+    t = two_clocks("when=-", "reset=x0:=x1,x1:=x0");
+    edge_of("two clocks exchanged", t, of_exchanged, exchanged, sizeof exchanged / sizeof *exchanged);
+}
+
 /* Whether each clause has a literal that the assignment makes true; counts the clauses. */
 static int satisfied(const int32_t *words, size_t length, const uint8_t *assignment, int32_t variables, size_t *clauses) {
     int all = 1, some = 0;
@@ -148,6 +171,7 @@ void list_tests(void) {
     totals(a, b);
     lists(a);
     listed_updates();
+    copied_clocks();
     satisfying(b);
     size_program(a);
     sharp_sizes();

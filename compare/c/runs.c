@@ -67,6 +67,33 @@ static void listed_updates(void) {
     check("the raised counter copied: its assignment", memcmp(assignment, expected, 15) == 0 && bytes_kept(assignment, 15, 16));
 }
 
+/* The edge of model A with two clocks, from their values before to those after. */
+static void clocks_to(const char *reset, uint32_t before, uint32_t after) {
+    struct text t = two_clocks("when=x0<=1", reset);
+    check_state(reset, wirdoku_step(t.at, t.length, slots_of(0, 0, before), 3), WIRDOKU_ACCEPTED, 0, slots_of(1, 0, after));
+}
+
+/* Copies of clocks read the values before the edge. */
+static void copied_clocks(void) {
+    clocks_to("reset=x0,x1:=x0", 0x01020000, 0x00010000);
+    clocks_to("reset=x0:=x1,x1", 0x01020000, 0x02000000);
+    clocks_to("reset=x0:=x1,x1:=x0", 0x01020000, 0x02010000);
+    clocks_to("reset=x1:=x0", 0x01020000, 0x01010000);
+    clocks_to("reset=x0:=x0,x1:=x1", 0x01020000, 0x01020000);
+    struct text t = two_clocks("when=x0>=1", "reset=x0,x1:=x0");
+    const uint8_t run[2] = {1, 3}, other[2] = {0, 3};
+    uint8_t *assignment = lent_bytes(33), *back = lent_bytes(2);
+    check_answer("a clock saved too early", wirdoku_walk(t.at, t.length, other, 2), WIRDOKU_STEP_NOT_ALLOWED, 2);
+    check_answer("a clock saved", wirdoku_walk(t.at, t.length, run, 2), WIRDOKU_ACCEPTED, 0);
+    check_answer("a clock saved: to assignment", wirdoku_run_to_assignment(t.at, t.length, run, 2, assignment, 33), WIRDOKU_ACCEPTED, 0);
+    check_answer("a clock saved: and back", wirdoku_assignment_to_run(t.at, t.length, 2, assignment, 32, back, 2), WIRDOKU_ACCEPTED, 0);
+    check("a clock saved: its run, nothing beyond its assignment", memcmp(back, run, 2) == 0 && bytes_kept(assignment, 32, 33));
+    /* the last three bytes are the values 0 to 2 of x1: 1 becomes 0 */
+    assignment[29] = 1;
+    assignment[30] = 0;
+    check_answer("a clock lost", wirdoku_assignment_to_run(t.at, t.length, 2, assignment, 32, back, 2), WIRDOKU_CLAUSE_FALSE, 97);
+}
+
 static struct wirdoku_answer walked(struct text t, size_t length, uint8_t b0, uint8_t b1, uint8_t b2) {
     const uint8_t bytes[3] = {b0, b1, b2};
     uint8_t *run = block(length);
@@ -164,6 +191,7 @@ void run_tests(void) {
     steps(b);
     all_slots();
     listed_updates();
+    copied_clocks();
     walks(a, b);
     assignments(a);
     encoded(a);

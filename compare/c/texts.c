@@ -20,15 +20,25 @@ static const struct {
     {8, "inv=x0!=3", WIRDOKU_NOT_OF_FORM},
     {14, "set=v0:=v1-0", WIRDOKU_NOT_OF_FORM},
     {15, "reset=-\r", WIRDOKU_NOT_OF_FORM},
+    {15, "reset=x0:=0", WIRDOKU_NOT_OF_FORM},
+    {15, "reset=x0:=x1+0", WIRDOKU_NOT_OF_FORM},
+    {15, "reset=x0=x1", WIRDOKU_NOT_OF_FORM},
+    {15, "reset=x0:=x1000", WIRDOKU_NOT_OF_FORM},
+    {15, "reset=x0:=x1,", WIRDOKU_NOT_OF_FORM},
     {1, "locations=17", WIRDOKU_OUT_OF_RANGE},
     {7, "var=3,4", WIRDOKU_OUT_OF_RANGE},
     {8, "inv=x0<=31", WIRDOKU_OUT_OF_RANGE},
     {3, "target=2", WIRDOKU_NOT_DECLARED},
     {15, "reset=x2", WIRDOKU_NOT_DECLARED},
+    {15, "reset=x0:=x2", WIRDOKU_NOT_DECLARED},
+    {15, "reset=x2:=x0", WIRDOKU_NOT_DECLARED},
+    {15, "reset=x0:=x999", WIRDOKU_NOT_DECLARED},
     {14, "set=v0:=v999+0", WIRDOKU_NOT_DECLARED},
     {14, "set=v1:=1,v0:=1,v1:=0", WIRDOKU_SET_TWICE_OR_NOT_RISING},
     {15, "reset=x1,x0", WIRDOKU_SET_TWICE_OR_NOT_RISING},
     {15, "reset=x0,x0", WIRDOKU_SET_TWICE_OR_NOT_RISING},
+    {15, "reset=x1:=x0,x0", WIRDOKU_SET_TWICE_OR_NOT_RISING},
+    {15, "reset=x0:=x1,x0", WIRDOKU_SET_TWICE_OR_NOT_RISING},
     {13, "when=v0>0,v0>0,v0>0,v0>0,v0>0", WIRDOKU_TOO_MANY_ATOMS},
     {8, "inv=x0<31,v9=1", WIRDOKU_NOT_OF_FORM},
     {8, "inv=x7<31,x0<1,x0<1,x0<1,x0<1", WIRDOKU_TOO_MANY_ATOMS},
@@ -42,6 +52,20 @@ static const struct {
     {14, "set=v0:=1,v1:=1,v0:=1,v1:=1,v0:=1", WIRDOKU_SET_TWICE_OR_NOT_RISING},
     {15, "reset=x0,x0,x9", WIRDOKU_NOT_DECLARED},
     {15, "reset=x0,x0,x9,", WIRDOKU_NOT_OF_FORM},
+    {15, "reset=x1:=x0,x0:=x9", WIRDOKU_NOT_DECLARED},
+    {15, "reset=x1:=x9,x0:=0", WIRDOKU_NOT_OF_FORM},
+};
+
+/* Lines of that text that are accepted. */
+static const struct {
+    size_t line;
+    const char *changed;
+} TAKEN[] = {
+    {14, "set=v1:=1,v0:=1"},
+    {15, "reset=x0:=x1"},
+    {15, "reset=x0:=x0"},
+    {15, "reset=x0,x1:=x0"},
+    {15, "reset=x0:=x1,x1:=x0"},
 };
 
 /* Every call with a refused text: its number and line, zeros beside them, the given state, and lent buffers as they were. */
@@ -71,8 +95,10 @@ static void refusals(void) {
     struct text a = file_text("models/a.txt"), base = text_of(BASE);
     char name[128];
     check_answer("the accepted text of the rows", wirdoku_read(base.at, base.length), WIRDOKU_ACCEPTED, 0);
-    struct text falling = with_line(base, 14, "set=v1:=1,v0:=1");
-    check_answer("counters set in falling order", wirdoku_read(falling.at, falling.length), WIRDOKU_ACCEPTED, 0);
+    for (size_t i = 0; i < sizeof TAKEN / sizeof *TAKEN; i++) {
+        struct text t = with_line(base, TAKEN[i].line, TAKEN[i].changed);
+        check_answer(TAKEN[i].changed, wirdoku_read(t.at, t.length), WIRDOKU_ACCEPTED, 0);
+    }
     for (size_t i = 0; i < sizeof ROWS / sizeof *ROWS; i++) {
         snprintf(name, sizeof name, "line %zu: %s", ROWS[i].line, ROWS[i].changed);
         refused(name, with_line(base, ROWS[i].line, ROWS[i].changed), ROWS[i].number, ROWS[i].line);

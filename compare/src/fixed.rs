@@ -1,6 +1,6 @@
 //! Worked cases: the answers stand here as the document gives them, or follow from trying everything.
 
-use reference::gen::models::{model_a, model_b};
+use reference::gen::models::{model_a, model_b, saving};
 use reference::model::{Atom, Model, Relation};
 use wirdoku::library::{self, Answer, FileAnswer, Sizes, State};
 
@@ -23,6 +23,8 @@ pub fn fixed(tally: &mut Tally, _: Seeds) {
     initial_invariant(tally);
     listed_updates(tally);
     sets(tally);
+    copied_clocks(tally);
+    resets(tally);
     greatest_bound(tally);
     limits_of_the_text(tally);
     outputs::worked(tally);
@@ -234,12 +236,90 @@ fn sets(tally: &mut Tally) {
         ("v0:=1,v1:=1,v0:=1,v1:=1,v0:=31", 6),
         ("v1:=1,v0:=1,x", 3),
     ];
-    for (set, number) in cases {
-        let text = setting(set);
-        tally.answer("read", told(number, if number == 0 { 0 } else { 14 }), library::read(&text));
+    values(tally, 14, &cases, setting);
+}
+
+/// Values of a line, accepted or refused there.
+fn values(tally: &mut Tally, line: usize, cases: &[(&str, u8)], text: fn(&str) -> Vec<u8>) {
+    for (value, number) in cases {
+        let text = text(value);
+        tally.answer("read", told(*number, if *number == 0 { 0 } else { line }), library::read(&text));
         calls::reading(tally, 5, &text);
-        tally.case(|| format!("set={set}"));
+        tally.case(|| format!("line {line}: {value}"));
     }
+}
+
+/// The model that saves a clock, with other reset items and without its guard; the items stand in line 13.
+fn resetting(reset: &str) -> Vec<u8> {
+    let text = String::from_utf8(written(&saving())).unwrap_or_default();
+    text.replace("when=x0>=1", "when=-").replace("reset=x0,x1:=x0", &format!("reset={reset}")).into_bytes()
+}
+
+fn clocks(location: u8, x0: u8, x1: u8) -> State {
+    State { location, counters: [0; 4], clocks: [x0, x1, 0, 0] }
+}
+
+/// Copies of clocks: a clock saved beside its reset, with all its runs of 2 steps; two clocks exchanged.
+fn copied_clocks(tally: &mut Tally) {
+    let text = written(&saving());
+    list(tally, &text, 1, sizes(0, 20, 62, 215));
+    list(tally, &text, 2, sizes(0, 32, 110, 390));
+    let shape = library::shape(&text);
+    tally.same("M, S and H", (2, 8, 4), (shape.ceiling, shape.state, shape.choices));
+    let saved: [&[i32]; 7] = [&[-12, 1], &[-12, 14], &[-12, -3], &[-12, 15], &[-12, -3, 18], &[-12, -4, 19], &[-12, -5, 20]];
+    edge_clauses(tally, &text, &saved);
+    stepped(tally, &text, clocks(0, 1, 2), 3, clocks(1, 0, 1));
+    let every = (0..16).map(|pair| [pair / 4, pair % 4]);
+    let runs: Vec<[u8; 2]> = every.filter(|run| library::walk(&text, run) == ACCEPTED).collect();
+    tally.same("runs of 2 steps", vec![[1, 3], [2, 3]], runs);
+    tally.case(|| "a clock saved beside its reset".to_string());
+    let exchange = resetting("x0:=x1,x1:=x0");
+    list(tally, &exchange, 1, sizes(0, 15, 38, 127));
+    edge_clauses(tally, &exchange, &[&[-9, 1], &[-9, 11], &[-9, -5, 12], &[-9, -6, 13], &[-9, -3, 14], &[-9, -4, 15]]);
+    stepped(tally, &exchange, clocks(0, 0, 1), 2, clocks(1, 1, 0));
+    tally.case(|| "two clocks exchanged".to_string());
+    for reset in ["x1:=x1", "-"] {
+        stepped(tally, &resetting(reset), clocks(0, 0, 1), 2, clocks(1, 0, 1));
+        tally.case(|| format!("reset={reset}"));
+    }
+}
+
+/// The clauses at bound 1 that begin with the last choice, which is the edge of the model.
+fn edge_clauses(tally: &mut Tally, text: &[u8], expected: &[&[i32]]) {
+    let shape = library::shape(text);
+    let edge = (shape.state + shape.choices) as i32;
+    let mut words = vec![0; library::counts(text, 1).words];
+    library::emit(text, 1, &mut words);
+    let found: Vec<&[i32]> = words.split(|word| *word == 0).filter(|clause| clause.first() == Some(&-edge)).collect();
+    tally.same("clauses of the edge", expected, &found[..]);
+}
+
+fn stepped(tally: &mut Tally, text: &[u8], before: State, byte: u8, after: State) {
+    let answer = library::step(text, before, byte);
+    tally.same("the edge", (0, after), (answer.number, answer.state));
+    calls::step(tally, text, before, byte);
+}
+
+/// Reset items: copies in every form, 3, 5 and 6 and their order.
+fn resets(tally: &mut Tally) {
+    let cases = [
+        ("x0:=x1", 0),
+        ("x0:=x0", 0),
+        ("x0,x1:=x0", 0),
+        ("x0:=x1,x1:=x0", 0),
+        ("x1:=x0,x0", 6),
+        ("x0:=x1,x0", 6),
+        ("x0:=x2", 5),
+        ("x2:=x0", 5),
+        ("x1:=x0,x0:=x9", 5),
+        ("x0:=x999", 5),
+        ("x0:=x1000", 3),
+        ("x0:=x1,", 3),
+        ("x0:=0", 3),
+        ("x0:=x1+0", 3),
+        ("x0=x1", 3),
+    ];
+    values(tally, 13, &cases, resetting);
 }
 
 /// 64 is taken and 65 gives 21, in every call with a bound or a run.

@@ -3,7 +3,7 @@
 use reference::gen::models;
 use reference::gen::rng::Rng;
 use reference::gen::runs::walk;
-use reference::model::{rising_order, Atom, Edge, Model, Relation, Update, MAX_BOUND};
+use reference::model::{rising_order, Atom, ClockUpdate, Edge, Model, Relation, Update, MAX_BOUND};
 use wirdoku::library::{self, FileAnswer, Sizes};
 
 use crate::expected::List;
@@ -16,7 +16,7 @@ use crate::{calls, show};
 /// The totals of the longest list.
 const MOST: Sizes = Sizes { number: 0, line: 0, variables: 21_776, clauses: 1_876_043, words: 6_729_941 };
 /// Length and 64-bit FNV-1a of the longest file.
-const LONGEST: (usize, u64) = (34_191_627, 0x004f_dfcf_b854_2462);
+const LONGEST: (usize, u64) = (34_193_259, 0x85d4_6b12_2a02_944e);
 /// Seeds of the runs.
 const RUNS: [u64; 3] = [7_000_000, 7_000_001, 7_000_002];
 
@@ -70,7 +70,7 @@ pub fn model_and_run(seed: u64) -> (Model, Vec<u8>) {
 }
 
 /// A model at every limit whose edges can often be taken: two from each location, with four atoms in
-/// every guard and invariant, an update of each counter, in orders of which most matter, and resets.
+/// every guard and invariant, an update of each counter, in orders of which most matter, resets and copies.
 fn busy() -> Model {
     let mut model = models::largest();
     let at_most = |clock| Atom::clock(clock, Relation::LessEqual, 30);
@@ -96,14 +96,29 @@ fn busy_edge(index: u8) -> Edge {
         ],
         updates: [rotate(1), rotate(2), Update::Constant(index), last],
         order: [0; 4],
-        resets: [false; 4],
+        clock_updates: busy_clocks(usize::from(index)),
     };
     edge.order = rising_order(&edge.updates);
     let listed = edge.listed().len();
     edge.order[..listed].rotate_left(usize::from(index) % listed);
-    edge.resets[usize::from(one)] = true;
-    edge.resets[usize::from(other)] = index % 3 == 0;
     edge
+}
+
+/// Two clocks are reset; or one is reset and saved in the next, and the third is a copy of the fourth; or two are
+/// exchanged, and the third is its own copy.
+fn busy_clocks(index: usize) -> [ClockUpdate; 4] {
+    let clocks = [0, 1, 2, 3].map(|more| (index + more) % 4);
+    let (reset, copy) = (ClockUpdate::Reset, |place: usize| ClockUpdate::Copy(clocks[place] as u8));
+    let of_places = match index % 3 {
+        0 => [reset, reset, ClockUpdate::Unchanged],
+        1 => [reset, copy(0), copy(3)],
+        _ => [copy(1), copy(0), copy(2)],
+    };
+    let mut updates = Edge::BLANK.clock_updates;
+    for (clock, update) in clocks.into_iter().zip(of_places) {
+        updates[clock] = update;
+    }
+    updates
 }
 
 /// Run to assignment and back; run buffers of 63 and 64; bytes flipped from the first to the last.

@@ -73,7 +73,7 @@ pub fn parts() -> Vec<Part> {
     vec![
         part("texts", "damaged model texts, every call", (1_000_000, 20_000), texts::DUE, texts::damaged),
         part("values", "lines with other values, every call", (2_000_000, 12_000), texts::VALUES_DUE, texts::other_values),
-        part("near", "texts that differ from A or B in a byte", (0, texts::PLACES), &[], texts::near),
+        part("near", "texts that differ from a right one in a byte", (0, texts::PLACES), &[], texts::near),
         part("inputs", "inputs of the size program", (3_000_000, 20_000), texts::INPUTS_DUE, texts::inputs),
         part("lists", "lists word for word, files byte for byte", (4_000_000, 2_400), lists::DUE, lists::lists),
         part("runs", "runs and steps", (5_000_000, 6_000), runs::DUE, runs::runs),

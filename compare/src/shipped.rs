@@ -23,7 +23,7 @@ pub fn shipped(tally: &mut Tally, _: Seeds) {
     let shipped = subject::shipped(Path::new(folder));
     tally.same("models", None, shipped.as_ref().err());
     let shipped = shipped.unwrap_or_default();
-    tally.same("models, seven at least", true, shipped.len() >= 7);
+    tally.same("models, eight at least", true, shipped.len() >= 8);
     tally.case(|| "folder models".to_string());
     for subject::Subject { name, model, text } in shipped {
         for bound in 0..=MAX_BOUND + 1 {

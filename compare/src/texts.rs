@@ -1,7 +1,7 @@
 //! Model texts, right and damaged: every call with each of them. A refused text is refused alike by
 //! every call, whatever else the call is given.
 
-use reference::gen::models::{any_model, model_a, model_b};
+use reference::gen::models::{any_model, model_a, model_b, saving};
 use reference::gen::records;
 use reference::gen::rng::Rng;
 use reference::gen::texts::{size_input, text};
@@ -129,22 +129,24 @@ pub fn inputs(tally: &mut Tally, seeds: Seeds) {
     }
 }
 
-/// Places in and after the texts of models A and B, counted one after the other.
-pub const PLACES: u64 = 302;
+/// The texts of models A and B, and of one that copies a clock.
+fn right_texts() -> [Vec<u8>; 3] {
+    [model_a(), model_b(), saving()].map(|model| written(&model))
+}
 
-/// Every text that differs from model A or logger model B in one byte at a place (replaced by each of
-/// the 256, inserted or removed) or that is cut off there. The seeds are the places.
+/// Places in and after those texts, counted one after the other.
+pub const PLACES: u64 = 412;
+
+/// Every text that differs from one of these in one byte at a place (replaced by each of the 256,
+/// inserted or removed) or that is cut off there. The seeds are the places.
 pub fn near(tally: &mut Tally, places: Seeds) {
-    let (a, b) = (written(&model_a()), written(&model_b()));
+    let all: Vec<(Vec<u8>, usize)> =
+        right_texts().into_iter().flat_map(|text| (0..=text.len()).map(move |place| (text.clone(), place))).collect();
     for seed in places.each() {
-        let place = seed as usize;
-        let texts = match place.checked_sub(a.len() + 1) {
-            None => neighbours(&a, place),
-            Some(place) => neighbours(&b, place.min(b.len())),
-        };
-        for text in texts {
+        let (right, place) = &all[seed as usize % all.len()];
+        for text in neighbours(right, *place) {
             calls::reading(tally, seed, &text);
-            tally.case(|| format!("place {place} text {}", show::text(&text)));
+            tally.case(|| format!("place {seed} text {}", show::text(&text)));
         }
         if tally.stopped() {
             return;
@@ -167,11 +169,11 @@ pub fn neighbours(right: &[u8], place: usize) -> Vec<Box<[u8]>> {
 
 #[cfg(test)]
 mod tests {
-    use super::{model_a, model_b, written, PLACES};
+    use super::{right_texts, PLACES};
 
     #[test]
     fn all_places_are_counted() {
-        let places = written(&model_a()).len() + 1 + written(&model_b()).len() + 1;
+        let places: usize = right_texts().iter().map(|text| text.len() + 1).sum();
         assert_eq!(PLACES, places as u64);
     }
 }

@@ -1,6 +1,6 @@
 //! Texts with other values: lines that keep their key and get a value of the key's form, with numbers
-//! at and beyond the limits, too many items, counters set in any order and twice, resets that do not rise,
-//! and signs that are wrong. Several faults can stand in one line, so that the order in which a line is
+//! at and beyond the limits, too many items, counters set in any order and twice, resets and copies of clocks
+//! that do not rise, and signs that are wrong. Several faults can stand in one line, so that the order in which a line is
 //! tried is seen.
 
 use reference::gen::models::any_model;
@@ -29,7 +29,7 @@ pub fn text(rng: &mut Rng) -> Vec<u8> {
 
 /// The place of a line, half of the time of one with items.
 fn place(rng: &mut Rng, lines: &[Vec<u8>]) -> usize {
-    let keys = [&b"inv="[..], b"when=", b"set=", b"set=", b"reset="];
+    let keys = [&b"inv="[..], b"when=", b"set=", b"set=", b"reset=", b"reset="];
     let key = rng.pick(&keys);
     let places: Vec<usize> = (0..lines.len()).filter(|place| lines[*place].starts_with(key)).collect();
     if places.is_empty() || rng.one_in(2) {
@@ -122,7 +122,18 @@ fn update(rng: &mut Rng, model: &Model) -> String {
     format!("v{target}{set}{name}{}{add}{}", index(rng, model.counters), constant(rng))
 }
 
+/// A clock, half of the time with a clock that is copied to it.
 fn reset(rng: &mut Rng, model: &Model) -> String {
+    let set = clock(rng, model);
+    if rng.one_in(2) {
+        return set;
+    }
+    let copy = sign(rng, ":=", &["=", ":", "", "=:"]);
+    let rest = sign(rng, "", &["+0", "-1", ":=x0", ":="]);
+    format!("{set}{copy}{}{rest}", clock(rng, model))
+}
+
+fn clock(rng: &mut Rng, model: &Model) -> String {
     let name = sign(rng, "x", &["", "v", "xx"]);
     format!("{name}{}", index(rng, model.clocks))
 }

@@ -3,13 +3,14 @@
 //!
 //! In order: locations, init, target, clocks, counters; four times greatest,
 //! initial; sixteen times four atoms; edges; 32 times source, target, four
-//! atoms, four updates, the order's four slots, four resets. An atom is four
-//! bytes: sort (0 blank, 1 clock, 2 counter), index, relation (0 to 5 for
+//! atoms, four updates, the order's four slots, four clock updates. An atom is
+//! four bytes: sort (0 blank, 1 clock, 2 counter), index, relation (0 to 5 for
 //! < <= = >= > !=), constant. An update is three bytes: sort (0 keep, 1 constant,
-//! 2 sum), constant or source, offset as a byte (two's complement). A reset is
-//! one byte, 0 or 1. Parts that a sort does not use are 0.
+//! 2 sum), constant or source, offset as a byte (two's complement). A clock update
+//! is two bytes: sort (0 unchanged, 1 reset, 2 copy), source. Parts that a sort
+//! does not use are 0.
 
-use crate::model::{Atom, Atoms, Comparison, Edge, Model, Relation, Update};
+use crate::model::{Atom, Atoms, ClockUpdate, Comparison, Edge, Model, Relation, Update};
 
 /// The bytes of a record.
 pub fn bytes(model: &Model) -> Vec<u8> {
@@ -38,8 +39,17 @@ fn edge_bytes(edge: &Edge) -> Vec<u8> {
         });
     }
     bytes.extend(edge.order);
-    bytes.extend(edge.resets.map(u8::from));
+    bytes.extend(edge.clock_updates.iter().flat_map(|update| clock_update_bytes(*update)));
     bytes
+}
+
+/// The sort of a clock update and its source, 0 where it has none.
+pub fn clock_update_bytes(update: ClockUpdate) -> [u8; 2] {
+    match update {
+        ClockUpdate::Unchanged => [0, 0],
+        ClockUpdate::Reset => [1, 0],
+        ClockUpdate::Copy(source) => [2, source],
+    }
 }
 
 fn atom_bytes(atoms: &Atoms) -> Vec<u8> {
@@ -54,8 +64,8 @@ fn one_atom(atom: Atom) -> [u8; 4] {
     }
 }
 
-/// The record of some bytes; none if a sort, relation or reset byte stands for
-/// nothing or the length is wrong.
+/// The record of some bytes; none if a sort or relation byte stands for nothing or
+/// the length is wrong.
 pub fn record(bytes: &[u8]) -> Option<Model> {
     let mut source = Source { bytes };
     let model = source.model()?;
@@ -105,8 +115,8 @@ impl Source<'_> {
         for slot in &mut edge.order {
             *slot = self.byte()?;
         }
-        for reset in &mut edge.resets {
-            *reset = self.reset()?;
+        for update in &mut edge.clock_updates {
+            *update = self.clock_update()?;
         }
         Some(())
     }
@@ -142,10 +152,12 @@ impl Source<'_> {
         }
     }
 
-    fn reset(&mut self) -> Option<bool> {
-        match self.byte()? {
-            0 => Some(false),
-            1 => Some(true),
+    fn clock_update(&mut self) -> Option<ClockUpdate> {
+        let (sort, source) = (self.byte()?, self.byte()?);
+        match sort {
+            0 => Some(ClockUpdate::Unchanged),
+            1 => Some(ClockUpdate::Reset),
+            2 => Some(ClockUpdate::Copy(source)),
             _ => None,
         }
     }

@@ -3,7 +3,7 @@
 
 use std::ops::ControlFlow;
 
-use crate::model::{test_record_and_bound, variables, Atom, Edge, Model, Update};
+use crate::model::{test_record_and_bound, variables, Atom, ClockUpdate, Edge, Model, Update};
 use crate::numbering::{Group, Numbering};
 use crate::refusal::{Refusal, WORDS_SHORT};
 
@@ -238,7 +238,7 @@ impl Lister<'_> {
             self.update(t, choice, index, edge)?;
         }
         for index in 0..usize::from(self.model.clocks) {
-            self.edge_clock(t, choice, index, edge.resets[index])?;
+            self.edge_clock(t, choice, index, edge.clock_updates[index])?;
         }
         Flow::Continue(())
     }
@@ -272,13 +272,14 @@ impl Lister<'_> {
         self.clause(&literals)
     }
 
-    /// Reset gives not edge, 0 after; else each value is kept.
-    fn edge_clock(&mut self, t: u32, choice: i32, index: usize, reset: bool) -> Flow {
+    /// Reset gives not edge, 0 after; else each value before is the value after,
+    /// the clock's own or that of the clock copied from.
+    fn edge_clock(&mut self, t: u32, choice: i32, index: usize, update: ClockUpdate) -> Flow {
         let after = self.numbering.clock(t, index);
-        if reset {
-            self.clause(&[-choice, after.member(0)])
-        } else {
-            self.kept(choice, self.numbering.clock(t - 1, index), after)
+        match update {
+            ClockUpdate::Unchanged => self.kept(choice, self.numbering.clock(t - 1, index), after),
+            ClockUpdate::Reset => self.clause(&[-choice, after.member(0)]),
+            ClockUpdate::Copy(source) => self.kept(choice, self.numbering.clock(t - 1, usize::from(source)), after),
         }
     }
 }

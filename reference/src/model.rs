@@ -111,6 +111,16 @@ pub enum Update {
     },
 }
 
+/// What an edge does to one clock.
+#[derive(Clone, Copy, PartialEq, Eq, Hash, Debug)]
+pub enum ClockUpdate {
+    Unchanged,
+    Reset,
+    /// The value of this clock from before the edge; the clock may be its own
+    /// source.
+    Copy(u8),
+}
+
 #[derive(Clone, Copy, PartialEq, Eq, Hash, Debug)]
 pub struct Edge {
     pub source: u8,
@@ -120,7 +130,7 @@ pub struct Edge {
     /// The counters that are not kept, in the order in which their updates
     /// happen; the slots after them are blank (0).
     pub order: Order,
-    pub resets: [bool; MAX_CLOCKS],
+    pub clock_updates: [ClockUpdate; MAX_CLOCKS],
 }
 
 /// Slots of counters, the first ones used.
@@ -134,7 +144,7 @@ impl Edge {
         guard: NO_ATOMS,
         updates: [Update::Keep; MAX_COUNTERS],
         order: [0; MAX_COUNTERS],
-        resets: [false; MAX_CLOCKS],
+        clock_updates: [ClockUpdate::Unchanged; MAX_CLOCKS],
     };
 
     /// The used slots of the order, as many as there are counters not kept.
@@ -148,6 +158,14 @@ impl Edge {
     pub fn reads_after(&self, counter: u8, source: u8) -> bool {
         let mut earlier = self.listed().iter().take_while(|listed| **listed != counter);
         earlier.any(|listed| *listed == source)
+    }
+
+    /// The copies of clocks: the clock set and the clock copied from.
+    pub fn copies(&self) -> impl Iterator<Item = (u8, u8)> + '_ {
+        (0..).zip(self.clock_updates).filter_map(|(clock, update)| match update {
+            ClockUpdate::Copy(source) => Some((clock, source)),
+            ClockUpdate::Unchanged | ClockUpdate::Reset => None,
+        })
     }
 
     /// The counters of a well-formed edge whose update reads a counter set earlier.
@@ -237,7 +255,8 @@ fn unused<T>(slots: &[T], count: u8) -> &[T] {
 /// "A model record is well formed if it meets all limits above, names only what
 /// is declared, fills atom slots from the first, and its unused slots are blank
 /// (number 0, no atom, keep, no reset)." 20 also "unless the order names each
-/// counter not kept exactly once and is blank beyond".
+/// counter not kept exactly once and is blank beyond", and where "the clock
+/// copied from isn't declared".
 pub fn well_formed(model: &Model) -> bool {
     numbers_well_formed(model) && counters_well_formed(model) && invariants_well_formed(model) && edges_well_formed(model)
 }
@@ -277,7 +296,8 @@ fn edge_well_formed(model: &Model, edge: &Edge) -> bool {
         && used(&edge.updates, model.counters).iter().all(|u| update_well_formed(model, *u))
         && unused(&edge.updates, model.counters).iter().all(|u| *u == Update::Keep)
         && order_well_formed(edge)
-        && unused(&edge.resets, model.clocks).iter().all(|reset| !reset)
+        && used(&edge.clock_updates, model.clocks).iter().all(|u| clock_update_well_formed(model, *u))
+        && unused(&edge.clock_updates, model.clocks).iter().all(|u| *u == ClockUpdate::Unchanged)
 }
 
 /// The used slots are the counters not kept, in some order; the others are 0.
@@ -319,6 +339,13 @@ fn update_well_formed(model: &Model, update: Update) -> bool {
         Update::Keep => true,
         Update::Constant(constant) => constant <= MAX_COUNTER_VALUE,
         Update::Sum { source, offset } => source < model.counters && (-MAX_OFFSET..=MAX_OFFSET).contains(&offset),
+    }
+}
+
+fn clock_update_well_formed(model: &Model, update: ClockUpdate) -> bool {
+    match update {
+        ClockUpdate::Unchanged | ClockUpdate::Reset => true,
+        ClockUpdate::Copy(source) => source < model.clocks,
     }
 }
 

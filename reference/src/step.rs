@@ -1,6 +1,6 @@
 //! Steps and runs ("Steps", "Run"): delay and edge, the step call, the walker.
 
-use crate::model::{ceiling, choice_length, test_record, test_record_and_bound, Edge, Model, Update};
+use crate::model::{ceiling, choice_length, test_record, test_record_and_bound, ClockUpdate, Edge, Model, Update};
 use crate::refusal::{number_and_place, Refusal, INITIAL_INVARIANT, NOT_ALLOWED, NOT_TARGET, NO_SUCH_STEP, WRONG_STATE};
 use crate::state::State;
 
@@ -37,7 +37,8 @@ pub fn delay(model: &Model, state: State, ticks: u32) -> Option<State> {
 
 /// "Edge e: the state stands in its source, the guard holds before, every new
 /// counter value lies in its range (else the edge can't be taken), and the
-/// target's invariant holds afterwards." Updates happen in their listed order.
+/// target's invariant holds afterwards." Updates of counters happen in their
+/// listed order; copies of clocks are "all read together", before the edge.
 pub fn edge(model: &Model, state: State, edge: &Edge) -> Option<State> {
     if state.location != edge.source || !state.meets(&edge.guard) {
         return None;
@@ -52,9 +53,11 @@ pub fn edge(model: &Model, state: State, edge: &Edge) -> Option<State> {
         }
         after.counters[index] = value as u8;
     }
-    for (clock, reset) in after.clocks.iter_mut().zip(edge.resets) {
-        if reset {
-            *clock = 0;
+    for (clock, update) in after.clocks.iter_mut().zip(edge.clock_updates) {
+        match update {
+            ClockUpdate::Unchanged => {}
+            ClockUpdate::Reset => *clock = 0,
+            ClockUpdate::Copy(source) => *clock = state.clocks[usize::from(source)],
         }
     }
     after.meets_invariant(model).then_some(after)

@@ -8,8 +8,8 @@
 use std::ops::RangeInclusive;
 
 use crate::model::{
-    test_record, Atom, Atoms, Counter, Edge, Model, Order, Relation, Update, MAX_ATOMS, MAX_CLOCKS, MAX_CLOCK_CONSTANT,
-    MAX_COUNTERS, MAX_COUNTER_VALUE, MAX_EDGES, MAX_LOCATIONS, MAX_OFFSET, NO_ATOMS,
+    test_record, Atom, Atoms, ClockUpdate, Counter, Edge, Model, Order, Relation, Update, MAX_ATOMS, MAX_CLOCKS,
+    MAX_CLOCK_CONSTANT, MAX_COUNTERS, MAX_COUNTER_VALUE, MAX_EDGES, MAX_LOCATIONS, MAX_OFFSET, NO_ATOMS,
 };
 use crate::refusal::{
     Refusal, BYTES_LEFT, NOT_DECLARED, OUT_OF_RANGE, SET_TWICE_OR_NOT_RISING, TEXT_TOO_LONG, TOO_MANY_ITEMS, WRONG_BOUND_LINE,
@@ -94,8 +94,8 @@ impl<'a> Reader<'a> {
         let target = self.location_line("to", model)?;
         let guard = self.atoms_line("when", model)?;
         let (updates, order) = self.set_line(model)?;
-        let resets = self.reset_line(model)?;
-        Ok(Edge { source, target, guard, updates, order, resets })
+        let clock_updates = self.reset_line(model)?;
+        Ok(Edge { source, target, guard, updates, order, clock_updates })
     }
 
     /// The value of the due line, or 2: no LF, or not the due key and `=`.
@@ -176,17 +176,17 @@ impl<'a> Reader<'a> {
         Ok((updates, order))
     }
 
-    /// An edge's resets: 2, 3, 5, 6.
-    fn reset_line(&mut self, model: &Model) -> Result<[bool; MAX_CLOCKS], Refusal> {
+    /// An edge's resets and copies of clocks: 2, 3, 5, 6.
+    fn reset_line(&mut self, model: &Model) -> Result<[ClockUpdate; MAX_CLOCKS], Refusal> {
         let value = self.due_line("reset")?;
         let found = self.need(items(value, reset_form), WRONG_FORM)?;
-        self.test(found.iter().all(|clock| *clock < u32::from(model.clocks)), NOT_DECLARED)?;
-        self.test(found.windows(2).all(|pair| pair[0] < pair[1]), SET_TWICE_OR_NOT_RISING)?;
-        let mut resets = [false; MAX_CLOCKS];
-        for clock in &found {
-            resets[*clock as usize] = true;
+        self.test(found.iter().all(|item| item.declared(model)), NOT_DECLARED)?;
+        self.test(found.windows(2).all(|pair| pair[0].clock < pair[1].clock), SET_TWICE_OR_NOT_RISING)?;
+        let mut updates = Edge::BLANK.clock_updates;
+        for item in &found {
+            updates[item.clock as usize] = item.update();
         }
-        Ok(resets)
+        Ok(updates)
     }
 }
 
@@ -258,6 +258,26 @@ impl SetItem {
     }
 }
 
+/// A `reset` item as the text names it: the clock set, and the clock copied from.
+struct ResetItem {
+    clock: u32,
+    source: Option<u32>,
+}
+
+impl ResetItem {
+    fn declared(&self, model: &Model) -> bool {
+        let named = [Some(self.clock), self.source];
+        named.into_iter().flatten().all(|clock| clock < u32::from(model.clocks))
+    }
+
+    fn update(&self) -> ClockUpdate {
+        match self.source {
+            None => ClockUpdate::Reset,
+            Some(source) => ClockUpdate::Copy(source as u8),
+        }
+    }
+}
+
 /// The items of a value parted by commas, none for a hyphen alone; no result
 /// if one item is not of its form.
 fn items<T>(value: &[u8], form: impl Fn(&[u8]) -> Option<T>) -> Option<Vec<T>> {
@@ -303,13 +323,13 @@ fn set_form(item: &[u8]) -> Option<SetItem> {
     Some(SetItem { counter, value })
 }
 
-/// `x0`.
-fn reset_form(item: &[u8]) -> Option<u32> {
+/// `x0` or `x0:=x1`.
+fn reset_form(item: &[u8]) -> Option<ResetItem> {
     let mut scan = Scan { rest: item };
-    scan.sign("x")?;
-    let clock = scan.number()?;
+    let clock = scan.clock()?;
+    let source = if scan.sign(":=").is_some() { Some(scan.clock()?) } else { None };
     scan.end()?;
-    Some(clock)
+    Some(ResetItem { clock, source })
 }
 
 /// A number and nothing else.
@@ -342,6 +362,12 @@ impl Scan<'_> {
         }
         self.rest = rest;
         Some(digits.iter().fold(0, |number, digit| number * 10 + u32::from(digit - b'0')))
+    }
+
+    /// Takes a clock: its index.
+    fn clock(&mut self) -> Option<u32> {
+        self.sign("x")?;
+        self.number()
     }
 
     /// Takes a relation; the two-byte signs are tried first.
@@ -391,7 +417,7 @@ pub fn write(model: &Model) -> Result<String, Refusal> {
         lines.push(format!("to={}", edge.target));
         lines.push(format!("when={}", written_atoms(&edge.guard)));
         lines.push(format!("set={}", written_updates(edge)));
-        lines.push(format!("reset={}", written_resets(&edge.resets)));
+        lines.push(format!("reset={}", written_clock_updates(&edge.clock_updates)));
     }
     Ok(lines.join("\n") + "\n")
 }
@@ -413,9 +439,12 @@ fn written_updates(edge: &Edge) -> String {
     }))
 }
 
-fn written_resets(resets: &[bool]) -> String {
-    let reset = resets.iter().enumerate().filter(|(_, reset)| **reset);
-    written_items(reset.map(|(index, _)| format!("x{index}")))
+fn written_clock_updates(updates: &[ClockUpdate]) -> String {
+    written_items(updates.iter().enumerate().filter_map(|(clock, update)| match update {
+        ClockUpdate::Unchanged => None,
+        ClockUpdate::Reset => Some(format!("x{clock}")),
+        ClockUpdate::Copy(source) => Some(format!("x{clock}:=x{source}")),
+    }))
 }
 
 /// The items parted by commas, or a hyphen for none.

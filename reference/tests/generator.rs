@@ -10,7 +10,7 @@ use reference::gen::models::{self, Size};
 use reference::gen::rng::Rng;
 use reference::gen::{outputs, records, runs, texts};
 use reference::list::{emit, totals};
-use reference::model::{variables, well_formed, MAX_BOUND};
+use reference::model::{variables, well_formed, Edge, Model, MAX_BOUND};
 use reference::output::{output_to_assignment, read_output};
 use reference::size::sizes;
 use reference::step::{step_call, walk};
@@ -64,6 +64,21 @@ fn damaged_texts_meet_every_refusal() {
     assert_eq!(met, (0..=8).collect());
 }
 
+/// Texts that are refused at a line with a copy of a clock: 3, 5 and 6.
+#[test]
+fn damaged_texts_have_wrong_copies() {
+    let mut met = BTreeSet::new();
+    for seed in 0..2_000 {
+        let text = texts::text(&mut Rng::new(seed));
+        let reading = read(&text);
+        let refused = text.split(|byte| *byte == b'\n').nth((reading.line as usize).wrapping_sub(1)).unwrap_or(b"");
+        if refused.starts_with(b"reset=") && refused.contains(&b':') {
+            met.insert(reading.refusal);
+        }
+    }
+    assert!(met.is_superset(&[3, 5, 6].into()), "{met:?}");
+}
+
 #[test]
 fn size_inputs_meet_every_refusal() {
     let met: BTreeSet<u32> = (0..20_000).map(|seed| sizes(&texts::size_input(&mut Rng::new(seed))).refusal).collect();
@@ -87,6 +102,34 @@ fn damaged_records_never_stop_a_call() {
         assert_eq!(flat::record(&flat::bytes(&model)), Some(model));
     }
     assert_eq!(met.len(), 2);
+}
+
+/// The record without any update of a clock.
+fn without_clock_updates(model: &Model) -> Model {
+    let edge = model.edge.map(|edge| Edge { clock_updates: Edge::BLANK.clock_updates, ..edge });
+    Model { edge, ..model.clone() }
+}
+
+/// Records that are refused for updates of clocks alone: a copy in a slot of no edge,
+/// in a slot of no clock, from a clock that is not declared.
+#[test]
+fn damaged_records_have_wrong_copies() {
+    let mut met = [0; 3];
+    for seed in 0..5_000 {
+        let model = records::record(&mut Rng::new(seed));
+        if well_formed(&model) || !well_formed(&without_clock_updates(&model)) {
+            continue;
+        }
+        for (index, edge) in (0..).zip(&model.edge) {
+            for (clock, source) in edge.copies() {
+                let wrong = [index >= model.edges, clock >= model.clocks, source >= model.clocks];
+                if let Some(first) = wrong.iter().position(|wrong| *wrong) {
+                    met[first] += 1;
+                }
+            }
+        }
+    }
+    assert!(met.iter().all(|count| *count >= 20), "{met:?}");
 }
 
 #[test]

@@ -3,7 +3,7 @@
 
 mod common;
 
-use common::{model, LIGHT, MODEL_A, MODEL_B};
+use common::{model, LIGHT, MODEL_A, MODEL_B, SAVES};
 use reference::assign::{assignment_of, run_of};
 use reference::gen::models::{self, Size};
 use reference::gen::rng::Rng;
@@ -35,7 +35,7 @@ fn lists_begin_with_the_shorter_lists() {
             }
         }
     }
-    for text in [MODEL_A, MODEL_B, LIGHT] {
+    for text in [MODEL_A, MODEL_B, LIGHT, SAVES] {
         for k in 0..=64 {
             check_prefix(&model(text), k / 2, k);
             check_prefix(&model(text), k.saturating_sub(1), k);

@@ -5,7 +5,7 @@ mod common;
 
 use std::collections::BTreeSet;
 
-use common::{model, LIGHT, MODEL_A, MODEL_B};
+use common::{model, LIGHT, MODEL_A, MODEL_B, SAVES};
 use reference::assign::{assignment_of, is_true, run_of};
 use reference::gen::models::{self, Size};
 use reference::gen::rng::Rng;
@@ -105,7 +105,7 @@ fn all_solutions_of_full_models_at_small_bounds() {
 
 #[test]
 fn all_solutions_of_the_known_models() {
-    for text in [MODEL_A, MODEL_B, LIGHT] {
+    for text in [MODEL_A, MODEL_B, LIGHT, SAVES] {
         for bound in 0..=5 {
             assert!(compare_by_backtracking(&model(text), bound));
         }

@@ -7,7 +7,7 @@ use common::{model, MODEL_A, PAIR};
 use reference::assign::{decode, encode};
 use reference::gen::models::{largest, model_b};
 use reference::list::{clauses, emit, totals, visit_clauses, words, Flow};
-use reference::model::{rising_order, well_formed, Atom, Counter, Edge, Model, Relation, Update, NO_ATOMS};
+use reference::model::{rising_order, well_formed, Atom, ClockUpdate, Counter, Edge, Model, Relation, Update, NO_ATOMS};
 use reference::refusal::Refusal;
 use reference::search::{all_runs, count_runs, shortest};
 use reference::state::State;
@@ -186,10 +186,6 @@ fn unused_slots_are_blank() {
     assert!(!after(|m| set(m, 1, 0, Update::Constant(0))));
     assert!(!after(|m| m.edge[1].order[0] = 1));
     assert!(!after(|m| m.edge[31].order[3] = 1));
-    assert!(!after(|m| m.edge[1].resets[0] = true));
-    assert!(after(|m| m.edge[0].resets = [true, true, false, false]));
-    assert!(!after(|m| m.edge[0].resets[2] = true));
-    assert!(!after(|m| m.edge[0].resets[3] = true));
     assert!(!after(|m| set(m, 0, 2, Update::Constant(0))));
     assert!(!after(|m| set(m, 0, 3, Update::Sum { source: 0, offset: 0 })));
     assert!(!after(|m| m.counter[2] = Counter { greatest: 1, initial: 0 }));
@@ -197,9 +193,46 @@ fn unused_slots_are_blank() {
 }
 
 #[test]
+fn clock_updates_in_every_slot() {
+    let clocks = [(0, 0), (0, 1), (0, 2), (0, 3), (1, 0), (31, 3)];
+    for (edge, clock) in clocks {
+        let used = edge == 0 && clock < 2;
+        let with = |update| after(|m| m.edge[edge].clock_updates[clock] = update);
+        assert!(with(ClockUpdate::Unchanged));
+        assert_eq!(with(ClockUpdate::Reset), used);
+        for byte in 0..=255 {
+            assert_eq!(with(ClockUpdate::Copy(byte)), used && byte < 2, "edge {edge}, x{clock}:=x{byte}");
+        }
+    }
+}
+
+/// Copies name clocks that are declared, and no slot beyond the declared clocks is used.
+#[test]
+fn copies_ask_for_their_clocks() {
+    for clocks in 0..=4 {
+        let with = |x0, x1| {
+            after(|m| {
+                m.clocks = clocks;
+                m.edge[0].clock_updates[..2].copy_from_slice(&[x0, x1]);
+            })
+        };
+        assert_eq!(with(ClockUpdate::Reset, ClockUpdate::Copy(0)), clocks >= 2);
+        assert_eq!(with(ClockUpdate::Copy(2), ClockUpdate::Reset), clocks >= 3);
+        assert_eq!(with(ClockUpdate::Copy(3), ClockUpdate::Copy(2)), clocks == 4);
+    }
+}
+
+#[test]
 fn every_call_refuses_a_malformed_record_first() {
     let mut record = model(MODEL_A);
     record.edge[0].target = 2;
+    refused_by_every_call(record);
+    let mut record = model(PAIR);
+    record.edge[0].clock_updates[0] = ClockUpdate::Copy(2);
+    refused_by_every_call(record);
+}
+
+fn refused_by_every_call(record: Model) {
     let refusal = Refusal::plain(20);
     let state = State { location: 200, counters: [9; 4], clocks: [9; 4] };
     assert_eq!(step_call(&record, state, 255), (20, state));

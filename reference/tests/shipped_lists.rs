@@ -1,6 +1,6 @@
 //! The lists of shipped models, by their words and a digest. In these models no update
-//! reads a counter that is set earlier in its list, so that the lists do not depend on
-//! the order of updates.
+//! reads a counter that is set earlier in its list and no clock is copied: the lists
+//! depend neither on the order of updates nor on copies.
 
 use std::path::Path;
 
@@ -48,12 +48,21 @@ fn reads_a_counter_set_earlier(model: &Model) -> bool {
     model.used_edges().iter().any(|edge| edge.later_readers().next().is_some())
 }
 
+fn copies_a_clock(model: &Model) -> bool {
+    model.used_edges().iter().any(|edge| edge.copies().next().is_some())
+}
+
+/// The names of the shipped models with a property.
+fn with(property: fn(&Model) -> bool) -> Vec<String> {
+    models().into_iter().filter(|subject| property(&subject.model)).map(|subject| subject.name).collect()
+}
+
 #[test]
 fn lists_are_the_stored_ones() {
     let models = models();
     for (name, bound, words, stored) in LISTS {
         let model = &models.iter().find(|subject| subject.name == format!("{name}.txt")).unwrap().model;
-        assert!(!reads_a_counter_set_earlier(model), "{name}");
+        assert!(!reads_a_counter_set_earlier(model) && !copies_a_clock(model), "{name}");
         assert_eq!(totals(model, bound).unwrap().words, words, "{name} at {bound}");
         assert_eq!(digest(model, bound), Ok(stored), "{name} at {bound}");
     }
@@ -61,8 +70,10 @@ fn lists_are_the_stored_ones() {
 
 #[test]
 fn one_model_alone_reads_a_counter_set_earlier() {
-    let models = models();
-    let found: Vec<&str> =
-        models.iter().filter(|subject| reads_a_counter_set_earlier(&subject.model)).map(|subject| &subject.name[..]).collect();
-    assert_eq!(found, ["boot_logger_checkpoint.txt"]);
+    assert_eq!(with(reads_a_counter_set_earlier), ["boot_logger_checkpoint.txt"]);
+}
+
+#[test]
+fn one_model_alone_copies_a_clock() {
+    assert_eq!(with(copies_a_clock), ["retry_saved.txt"]);
 }

@@ -4,7 +4,7 @@
 mod common;
 
 use common::{model, with_line, MODEL_A, MODEL_B, PAIR};
-use reference::model::{Atom, Edge, Model, Relation, Update};
+use reference::model::{Atom, ClockUpdate, Edge, Model, Relation, Update};
 use reference::text::{read, MAX_TEXT};
 
 /// The number and line of a reading; a refused one gives the blank model.
@@ -233,11 +233,50 @@ fn refusal_3_updates_and_resets() {
             ("reset=v0", 3),
             ("reset=x00", 3),
             ("reset=x0,", 3),
-            ("reset=x0:=0", 3),
             ("reset=x0,-", 3),
             ("reset=0", 3),
         ],
     );
+}
+
+#[test]
+fn refusal_3_copies_of_clocks() {
+    check(
+        PAIR,
+        15,
+        &[
+            ("reset=x0:=x1", 0),
+            ("reset=x0:=x0", 0),
+            ("reset=x0,x1:=x0", 0),
+            ("reset=x0:=x1,x1", 0),
+            ("reset=x0:=x1,x1:=x0", 0),
+            ("reset=x0:=0", 3),
+            ("reset=x0:=1", 3),
+            ("reset=x0:=v0", 3),
+            ("reset=v0:=x0", 3),
+            ("reset=v0:=1", 3),
+            ("reset=x0:=x1+0", 3),
+            ("reset=x0:=x1-1", 3),
+            ("reset=x0=x1", 3),
+            ("reset=x0:x1", 3),
+            ("reset=x0:=", 3),
+            ("reset=x0:=x", 3),
+            ("reset=:=x0", 3),
+            ("reset=x:=x0", 3),
+            ("reset=x0:=x00", 3),
+            ("reset=x00:=x0", 3),
+            ("reset=x0:=x1000", 3),
+            ("reset=x1000:=x0", 3),
+            ("reset=x0:=x1:=x0", 3),
+            ("reset=x0:=x1,", 3),
+            ("reset=x0:=x1,-", 3),
+            ("reset=x0:=-", 3),
+            ("reset=x0:= x1", 3),
+            ("reset=x0:=x1\r", 3),
+            ("reset=x0:=X1", 3),
+        ],
+    );
+    check(PAIR, 14, &[("set=x0:=x1", 3), ("set=v0:=1,x0:=x1", 3)]);
 }
 
 #[test]
@@ -291,6 +330,9 @@ fn refusal_5_declarations() {
     check(PAIR, 13, &[("when=x2<1", 5), ("when=v1<1", 0), ("when=v2<1", 5)]);
     check(PAIR, 14, &[("set=v1:=1", 0), ("set=v2:=1", 5), ("set=v999:=1", 5), ("set=v0:=v2+0", 5), ("set=v0:=v1+0", 0)]);
     check(PAIR, 15, &[("reset=x1", 0), ("reset=x2", 5)]);
+    check(PAIR, 15, &[("reset=x0:=x1", 0), ("reset=x0:=x2", 5), ("reset=x0:=x999", 5), ("reset=x2:=x0", 5), ("reset=x2:=x2", 5)]);
+    check(&with_line(PAIR, 4, "clocks=0"), 15, &[("reset=-", 0), ("reset=x0:=x0", 5)]);
+    check(&with_line(PAIR, 4, "clocks=4"), 15, &[("reset=x3:=x0,x2:=x3", 6), ("reset=x0:=x3,x3:=x2", 0), ("reset=x0:=x4", 5)]);
 }
 
 #[test]
@@ -308,6 +350,19 @@ fn refusal_6_set_twice_or_reset_not_rising() {
         ],
     );
     check(PAIR, 15, &[("reset=x0,x1", 0), ("reset=x1,x0", 6), ("reset=x0,x0", 6), ("reset=x0,x1,x1", 6)]);
+    // The clock set decides, not the clock copied from.
+    check(
+        PAIR,
+        15,
+        &[
+            ("reset=x0:=x1,x1:=x0", 0),
+            ("reset=x1:=x0,x0", 6),
+            ("reset=x0:=x1,x0", 6),
+            ("reset=x0,x0:=x1", 6),
+            ("reset=x0:=x0,x0:=x0", 6),
+            ("reset=x1:=x0,x0:=x1", 6),
+        ],
+    );
 }
 
 #[test]
@@ -318,7 +373,7 @@ fn refusal_7_more_than_four_items() {
     check(PAIR, 13, &[(&format!("when={four}"), 0), (&format!("when={five}"), 7)]);
     // 7 is for inv and when alone.
     check(PAIR, 14, &[("set=v0:=1,v1:=1,v1:=1,v1:=1,v1:=1", 6), ("set=v0:=1,v1:=1,v2:=1,v3:=1,v4:=1", 5)]);
-    check(PAIR, 15, &[("reset=x0,x1,x1,x1,x1", 6), ("reset=x0,x1,x2,x3,x4", 5)]);
+    check(PAIR, 15, &[("reset=x0,x1,x1,x1,x1", 6), ("reset=x0,x1,x2,x3,x4", 5), ("reset=x0,x1:=x0,x1,x1,x1", 6)]);
 }
 
 #[test]
@@ -354,6 +409,7 @@ fn each_number_is_tried_over_the_whole_line() {
         &[("set=v1:=1,v1:=v9+0", 5), ("set=v0:=1,v1:=1,v0:=1,v1:=1,v0:=32", 4), ("set=v1:=1,v0:=1,x", 3), ("set=v9:=1,v9:=1", 5)],
     );
     check(PAIR, 15, &[("reset=x1,x0,x2", 5), ("reset=x1,x0,y", 3)]);
+    check(PAIR, 15, &[("reset=x1:=x0,x0:=x9", 5), ("reset=x1:=x9,x0", 5), ("reset=x1:=x9,x0:=0", 3), ("reset=x1,x0:=x", 3)]);
 }
 
 #[test]
@@ -369,7 +425,7 @@ fn items_fill_the_record() {
     let mut text = with_line(PAIR, 8, "inv=x0<=3,x1>0");
     text = with_line(&text, 13, "when=v1!=2,x1>=4");
     text = with_line(&text, 14, "set=v0:=v1-3,v1:=9");
-    text = with_line(&text, 15, "reset=x1");
+    text = with_line(&text, 15, "reset=x0:=x1,x1");
     let found = model(&text);
     assert_eq!(
         found.invariant[0][..3],
@@ -381,7 +437,7 @@ fn items_fill_the_record() {
         guard: [Atom::counter(1, Relation::NotEqual, 2), Atom::clock(1, Relation::GreaterEqual, 4), Atom::Blank, Atom::Blank],
         updates: [Update::Sum { source: 1, offset: -3 }, Update::Constant(9), Update::Keep, Update::Keep],
         order: [0, 1, 0, 0],
-        resets: [false, true, false, false],
+        clock_updates: [ClockUpdate::Copy(1), ClockUpdate::Reset, ClockUpdate::Unchanged, ClockUpdate::Unchanged],
     };
     assert_eq!(found.edge[0], expected);
 }

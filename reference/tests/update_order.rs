@@ -3,7 +3,7 @@
 
 mod common;
 
-use common::{model, with_line, C2, PAIR};
+use common::{clocks_after, model, with_line, C2, PAIR};
 use reference::assign::{assignment_of, run_of};
 use reference::gen::models::{self, any_model};
 use reference::gen::records::state_in_groups;
@@ -215,9 +215,7 @@ fn together(model: &Model, edge: &Edge, before: State) -> Option<State> {
         }
         after.counters[index] = value as u8;
     }
-    for (clock, reset) in after.clocks.iter_mut().zip(edge.resets) {
-        *clock = if reset { 0 } else { *clock };
-    }
+    after.clocks = clocks_after(edge, &before);
     after.meets_invariant(model).then_some(after)
 }
 
@@ -226,7 +224,7 @@ fn alone(model: &Model, edge: Edge) -> Model {
     let mut alone = Model::blank();
     (alone.locations, alone.counters, alone.counter) = (model.locations, model.counters, model.counter);
     alone.edges = 1;
-    alone.edge[0] = Edge { guard: Edge::BLANK.guard, resets: Edge::BLANK.resets, ..edge };
+    alone.edge[0] = Edge { guard: Edge::BLANK.guard, clock_updates: Edge::BLANK.clock_updates, ..edge };
     alone
 }
 

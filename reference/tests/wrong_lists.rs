@@ -1,13 +1,19 @@
 //! "Ways to get a wrong list": for each, an assignment that only a list with
-//! that fault would let pass is refused, and the walker agrees.
+//! that fault would let pass is refused, and the walker agrees. For a copy of a
+//! clock, whole wrong lists: the comparison of all their assignments with all runs
+//! finds each.
 
 mod common;
 
+use std::collections::BTreeSet;
+
 use common::{model, with_line, MODEL_A, MODEL_B};
 use reference::assign::{assignment_of, run_of};
-use reference::list::clauses;
-use reference::model::Model;
+use reference::list::{clauses, Clause};
+use reference::model::{variables, Model};
 use reference::numbering::{Group, Numbering};
+use reference::search::all_runs;
+use reference::solve::all_solutions;
 use reference::step::walk;
 
 /// Makes `value` the one true member of a group.
@@ -98,4 +104,96 @@ fn a_clock_at_the_ceiling_stays_there() {
     }
     assert_eq!(walk(&stays, &[2, 2, 1, 0, 3]), (0, 0));
     assert_eq!(walk(&stays, &[1, 3]), (28, 2));
+}
+
+/// Two edges: the first resets x0, so that the clocks differ; the second saves x0 in
+/// x1 and resets it.
+const SAVES_LATER: &str = "\
+locations=3
+init=0
+target=2
+clocks=2
+vars=0
+inv=-
+inv=-
+inv=-
+edges=2
+from=0
+to=1
+when=x1>=1
+set=-
+reset=x0
+from=1
+to=2
+when=-
+set=-
+reset=x0,x1:=x0
+";
+/// Enough steps for a delay before each edge.
+const STEPS: u32 = 4;
+
+/// The variable of the edge with the copy in one step, and the values of the clock
+/// copied from and of the clock set, before and after.
+struct Copied {
+    edge: i32,
+    source: [Group; 2],
+    set: [Group; 2],
+}
+
+impl Copied {
+    fn in_step(numbering: &Numbering, t: u32) -> Copied {
+        let clock = |index| [numbering.clock(t - 1, index), numbering.clock(t, index)];
+        Copied { edge: numbering.edge(t, 1), source: clock(0), set: clock(1) }
+    }
+
+    /// For each value: not edge, not the one, the other.
+    fn carried(&self, from: Group, to: Group) -> Vec<Clause> {
+        from.values().map(|value| vec![-self.edge, -from.member(value), to.member(value)]).collect()
+    }
+
+    fn right(&self) -> Vec<Clause> {
+        self.carried(self.source[0], self.set[1])
+    }
+}
+
+/// Clauses in place of those of a copy.
+type Fault = fn(&Copied) -> Vec<Clause>;
+
+const FAULTS: [(&str, Fault); 4] = [
+    ("reads the new value", |copied| copied.carried(copied.source[1], copied.set[1])),
+    ("acts as a reset", |copied| vec![vec![-copied.edge, copied.set[1].member(0)]]),
+    ("acts as unchanged", |copied| copied.carried(copied.set[0], copied.set[1])),
+    ("has its ends swapped", |copied| copied.carried(copied.set[0], copied.source[1])),
+];
+
+/// The list with other clauses for the copy in each step.
+fn list_with(model: &Model, fault: Fault) -> Vec<Clause> {
+    let numbering = Numbering::of(model);
+    let mut list = clauses(model, STEPS as usize).unwrap();
+    for copied in (1..=STEPS).map(|t| Copied::in_step(&numbering, t)) {
+        let right = copied.right();
+        let place = list.windows(right.len()).position(|found| found == right).unwrap();
+        list.splice(place..place + right.len(), fault(&copied));
+    }
+    list
+}
+
+#[test]
+fn copies_read_the_source_before_the_edge() {
+    let saves = model(SAVES_LATER);
+    let runs = all_runs(&saves, STEPS as usize).unwrap();
+    assert!(runs.contains(&vec![1, 3, 1, 4]));
+    let of_runs: BTreeSet<Vec<u8>> = runs.iter().map(|run| assignment_of(&saves, run).unwrap()).collect();
+    let of_list = |list: &[Clause]| -> BTreeSet<Vec<u8>> {
+        let variables = variables(&saves, STEPS as usize) as usize;
+        all_solutions(list, variables, 1_000).unwrap().into_iter().collect()
+    };
+    assert_eq!(of_list(&list_with(&saves, Copied::right)), of_runs);
+    for (name, fault) in FAULTS {
+        let found = of_list(&list_with(&saves, fault));
+        assert_ne!(found, of_runs, "a copy that {name}");
+        for wrong in found.difference(&of_runs) {
+            assert_eq!(refusal(&saves, STEPS as usize, wrong), 26, "a copy that {name}");
+        }
+    }
 }

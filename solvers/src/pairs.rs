@@ -5,7 +5,7 @@ use std::ops::RangeInclusive;
 
 use reference::gen::rng::Rng;
 use reference::gen::runs::walk as random_walk;
-use reference::model::{Atom, Model, Update, NO_ATOMS};
+use reference::model::{Atom, ClockUpdate, Edge, Model, Update, NO_ATOMS};
 use reference::step::walk;
 use reference::subject::Subject;
 use wirdoku::solver::{Solver, Verdict};
@@ -120,7 +120,7 @@ fn shares(tally: &mut Tally, pairs: &[Pair], by_all: usize) {
 type ModelShare = (&'static str, usize, fn(&Model) -> bool);
 
 /// What models must have, and how many at least.
-const MODEL_SHARES: [ModelShare; 9] = [
+const MODEL_SHARES: [ModelShare; 13] = [
     ("with clocks", 150, |m| m.clocks > 0),
     ("with counters", 150, |m| m.counters > 0),
     ("with an invariant", 100, |m| m.invariant.iter().any(|atoms| *atoms != NO_ATOMS)),
@@ -131,7 +131,15 @@ const MODEL_SHARES: [ModelShare; 9] = [
     ("with an update that reads a counter set earlier", 60, |m| {
         m.used_edges().iter().any(|e| e.later_readers().next().is_some())
     }),
-    ("with a reset", 100, |m| m.used_edges().iter().any(|e| e.resets.contains(&true))),
+    ("with a reset", 100, |m| m.used_edges().iter().any(|e| e.clock_updates.contains(&ClockUpdate::Reset))),
+    ("with a copy of another clock", 100, |m| copies(m, |_, clock, source| source != clock)),
+    ("with a copy of a clock to itself", 60, |m| copies(m, |_, clock, source| source == clock)),
+    ("with two clocks that are exchanged", 60, |m| {
+        copies(m, |e, clock, source| source != clock && e.clock_updates[usize::from(source)] == ClockUpdate::Copy(clock))
+    }),
+    ("with a copy of a clock that is reset", 40, |m| {
+        copies(m, |e, _, source| e.clock_updates[usize::from(source)] == ClockUpdate::Reset)
+    }),
 ];
 
 fn guarded(model: &Model, sort: fn(&Atom) -> bool) -> bool {
@@ -140,6 +148,11 @@ fn guarded(model: &Model, sort: fn(&Atom) -> bool) -> bool {
 
 fn updates(model: &Model, sort: fn(&Update) -> bool) -> bool {
     model.used_edges().iter().any(|edge| edge.updates.iter().any(sort))
+}
+
+/// Whether some edge has such a copy; it is given the edge, the clock set and the clock copied from.
+fn copies(model: &Model, sort: fn(&Edge, u8, u8) -> bool) -> bool {
+    model.used_edges().iter().any(|edge| edge.copies().any(|(clock, source)| sort(edge, clock, source)))
 }
 
 /// Whether at most `bound` edges lead from the initial location to the target,

@@ -11,14 +11,14 @@ pub fn sentence(number: u8) -> Option<&'static str> {
         3 => {
             "the value does not have the form that its key asks for: no spaces, numbers of 1 to 3 digits without a leading zero, \
              items parted by commas, `-` alone for none; != is for counters only, an invariant names clocks only, \
-             an offset of 0 is +0"
+             an offset of 0 is +0, an item of reset is a clock or a copy such as x0:=x1"
         }
         4 => {
             "a number is outside its range: locations 1 to 16, clocks and vars 0 to 4, edges 0 to 32, clock constants 0 to 30, \
               counter values and offsets up to 31, an initial value up to its greatest value"
         }
-        5 => "a location, clock or counter is not declared",
-        6 => "a counter is set twice in one edge, or the clocks of reset do not rise from left to right",
+        5 => "a location, clock or counter is not declared; of a copy such as x0:=x1, either clock",
+        6 => "a counter is set twice in one edge, or the clocks that reset sets do not rise from left to right",
         7 => "an invariant or a guard has more than four atoms",
         8 => "something follows the last line that is due",
         9 => "the first line of the size program's input is not `bound=` and a number",

@@ -106,7 +106,6 @@ step bytes: 4 5 4 5 4 6
 /// The second counter gets the raised first one: updates happen in their written order.
 #[test]
 fn the_checkpoint_of_the_raised_counter() {
-    let path = model("boot_logger_checkpoint.txt");
     let expected = "\
 this run of 7 steps reaches the target
 step  choice   location  v0  v1  v2  x0  elapsed
@@ -120,11 +119,34 @@ step  choice   location  v0  v1  v2  x0  elapsed
    7  edge 5          4   0   1   0   3        4
 step bytes: 1 5 3 7 8 9 10
 ";
-    let outcome = wirdoku(&["walk", &path, "1", "5", "3", "7", "8", "9", "10"]);
+    check_run("boot_logger_checkpoint.txt", &["1", "5", "3", "7", "8", "9", "10"], expected);
+}
+
+/// The second clock gets the value of the first from before its reset, and goes on from there.
+#[test]
+fn the_saved_stopwatch_goes_on() {
+    let expected = "\
+this run of 5 steps reaches the target
+step  choice   location  x0  x1  x2  elapsed
+   0  -               0   0   0   0        0
+   1  edge 0          1   0   0   0        0
+   2  delay 3         1   3   3   3        3
+   3  edge 2          2   0   3   3        3
+   4  delay 3         2   3   6   6        6
+   5  edge 3          4   3   6   6        6
+step bytes: 8 3 10 3 11
+";
+    check_run("retry_saved.txt", &["8", "3", "10", "3", "11"], expected);
+}
+
+/// The run is walked to this table, and solvers find a run of that length and no shorter one.
+fn check_run(name: &str, run: &[&str], expected: &str) {
+    let path = model(name);
+    let outcome = wirdoku(&[&["walk", &path[..]][..], run].concat());
     assert_eq!((outcome.status, outcome.out.as_str()), (10, expected), "{:?}", outcome);
     for solver in SOLVERS {
-        for (bound, status) in [("6", 20), ("7", 10)] {
-            let outcome = wirdoku(&["check", &path, "--bound", bound, "--solver", solver, "--quiet"]);
+        for (bound, status) in [(run.len() - 1, 20), (run.len(), 10)] {
+            let outcome = wirdoku(&["check", &path, "--bound", &bound.to_string(), "--solver", solver, "--quiet"]);
             assert_eq!(outcome.status, status, "{:?}", outcome);
         }
     }

@@ -223,6 +223,56 @@ fn updates_happen_in_their_written_order() {
     assert_eq!(library::read(&text("v1:=1,v0:=1,v1:=0")), answer(6, 14));
 }
 
+/// Model A with two clocks, and a guard and reset items of its edge, which stand in lines 11 and 13.
+fn two_clocks(when: &str, reset: &str) -> Vec<u8> {
+    let clocks = model_text("a.txt").replace("clocks=0", "clocks=2").replace("\nwhen=-", &format!("\nwhen={}", when));
+    clocks.replace("\nreset=-", &format!("\nreset={}", reset)).into_bytes()
+}
+
+/// A copy names the clock copied from in the state before the edge, also beside its reset and beside another copy.
+#[test]
+fn copies_of_clocks_read_the_values_before_the_edge() {
+    let state = |location, x0, x1| State { location, counters: [0; 4], clocks: [x0, x1, 0, 0] };
+    let saving = two_clocks("x0>=1", "x0,x1:=x0");
+    assert_eq!(library::step(&saving, state(0, 1, 2), 3), state_answer(0, 0, state(1, 0, 1)));
+    assert_eq!(library::counts(&saving, 2), sizes(0, 0, 32, 110, 390));
+    assert_eq!((library::walk(&saving, &[1, 3]), library::walk(&saving, &[0, 3])), (answer(0, 0), answer(28, 2)));
+    let exchange = two_clocks("-", "x0:=x1,x1:=x0");
+    assert_eq!(library::step(&exchange, state(0, 0, 1), 2), state_answer(0, 0, state(1, 1, 0)));
+    let saved: &[i32] = &[-12, 15, 0, -12, -3, 18, 0, -12, -4, 19, 0, -12, -5, 20, 0];
+    let exchanged: &[i32] = &[-9, -5, 12, 0, -9, -6, 13, 0, -9, -3, 14, 0, -9, -4, 15, 0];
+    for (text, counts, clauses) in [(saving, sizes(0, 0, 20, 62, 215), saved), (exchange, sizes(0, 0, 15, 38, 127), exchanged)] {
+        let mut out = vec![i32::MIN; counts.words];
+        assert_eq!(library::emit(&text, 1, &mut out), counts);
+        assert!(out.windows(clauses.len()).any(|words| words == clauses), "{:?}", clauses);
+    }
+}
+
+#[test]
+fn copies_of_clocks_in_texts() {
+    let cases = [
+        ("x0:=x1", 0),
+        ("x0:=x0", 0),
+        ("x0,x1:=x0", 0),
+        ("x0:=x1,x1:=x0", 0),
+        ("x0:=0", 3),
+        ("x0:=x1+0", 3),
+        ("x0=x1", 3),
+        ("x0:=x1,", 3),
+        ("x0:=x1000", 3),
+        ("x0:=x999", 5),
+        ("x0:=x2", 5),
+        ("x2:=x0", 5),
+        ("x1:=x0,x0:=x9", 5),
+        ("x1:=x0,x0", 6),
+        ("x0:=x1,x0", 6),
+    ];
+    for (reset, number) in cases {
+        let line = if number == 0 { 0 } else { 13 };
+        assert_eq!(library::read(&two_clocks("-", reset)), answer(number, line), "{}", reset);
+    }
+}
+
 #[test]
 fn runs_are_walked() {
     assert_eq!(library::walk(&b(), &[5, 3, 7]), answer(0, 0));

@@ -2,8 +2,8 @@
 
 use super::rng::Rng;
 use crate::model::{
-    Atom, Atoms, Counter, Edge, Model, Order, Relation, Update, MAX_ATOMS, MAX_CLOCKS, MAX_CLOCK_CONSTANT, MAX_COUNTERS,
-    MAX_COUNTER_VALUE, MAX_EDGES, MAX_LOCATIONS, MAX_OFFSET, NO_ATOMS,
+    Atom, Atoms, ClockUpdate, Counter, Edge, Model, Order, Relation, Update, MAX_ATOMS, MAX_CLOCKS, MAX_CLOCK_CONSTANT,
+    MAX_COUNTERS, MAX_COUNTER_VALUE, MAX_EDGES, MAX_LOCATIONS, MAX_OFFSET, NO_ATOMS,
 };
 
 /// How large a random model may grow.
@@ -29,7 +29,7 @@ struct Limits {
 impl Size {
     fn limits(self) -> Limits {
         match self {
-            Size::Tiny => Limits { locations: 3, clocks: 1, counters: 2, edges: 3, atoms: 2, clock_constant: 1, greatest: 2 },
+            Size::Tiny => Limits { locations: 3, clocks: 2, counters: 2, edges: 3, atoms: 2, clock_constant: 1, greatest: 2 },
             Size::Medium => Limits { locations: 6, clocks: 2, counters: 2, edges: 10, atoms: 3, clock_constant: 6, greatest: 7 },
             Size::Full => Limits {
                 locations: MAX_LOCATIONS as u8,
@@ -136,10 +136,26 @@ fn edge(rng: &mut Rng, model: &Model, limits: &Limits) -> Edge {
     }
     edge.order = order(rng, &edge.updates);
     read_earlier(rng, &mut edge);
-    for index in 0..usize::from(model.clocks) {
-        edge.resets[index] = rng.one_in(3);
-    }
+    clock_updates(rng, &mut edge.clock_updates[..usize::from(model.clocks)]);
     edge
+}
+
+/// Updates of the declared clocks; once in six two clocks are exchanged.
+fn clock_updates(rng: &mut Rng, updates: &mut [ClockUpdate]) {
+    let clocks = updates.len();
+    for update in updates.iter_mut() {
+        *update = match rng.below(6) {
+            0 | 1 => ClockUpdate::Reset,
+            2 => ClockUpdate::Copy(rng.below(clocks) as u8),
+            _ => ClockUpdate::Unchanged,
+        };
+    }
+    if clocks > 1 && rng.one_in(6) {
+        let one = rng.below(clocks);
+        let other = (one + 1 + rng.below(clocks - 1)) % clocks;
+        updates[one] = ClockUpdate::Copy(other as u8);
+        updates[other] = ClockUpdate::Copy(one as u8);
+    }
 }
 
 /// The counters that are not kept, in any order; the slots after them are blank.
@@ -191,8 +207,8 @@ fn update(rng: &mut Rng, model: &Model, limits: &Limits) -> Update {
 /// must bear the constant 30 to lift the ceiling to 31, and such an atom fails
 /// for at most 31 of the 32 values. In a guard it costs one clause a step, in an
 /// invariant it would cost one a state, which is one more. Counters and clocks
-/// are kept: one three-literal clause for each value is the most an update or
-/// clock can give.
+/// are kept: one three-literal clause for each value is the most an update of
+/// either can give.
 pub fn largest() -> Model {
     let mut model = Model::blank();
     model.locations = MAX_LOCATIONS as u8;
@@ -209,7 +225,8 @@ pub fn largest() -> Model {
 
 /// A model at every limit that has runs: four atoms in every invariant and
 /// guard, every kind of update, a source read before the edge and after its own
-/// update, all edges from the initial location to itself.
+/// update, a copy of the clock that is reset and a copy of one that is unchanged,
+/// all edges from the initial location to itself.
 pub fn full() -> Model {
     let mut model = largest();
     let at_most = |clock, constant| Atom::clock(clock, Relation::LessEqual, constant);
@@ -225,29 +242,33 @@ pub fn full() -> Model {
         edge.updates[0] = Update::Constant(number);
         edge.updates[1] = Update::Sum { source: 0, offset: number as i8 - 16 };
         edge.order = if index % 2 == 0 { [1, 0, 0, 0] } else { [0, 1, 0, 0] };
-        edge.resets[clock] = true;
+        let [next, second, third] = [1, 2, 3].map(|more| (clock + more) % MAX_CLOCKS);
+        edge.clock_updates[clock] = ClockUpdate::Reset;
+        edge.clock_updates[next] = ClockUpdate::Copy(clock as u8);
+        edge.clock_updates[second] = ClockUpdate::Copy(third as u8);
     }
     model
 }
 
 /// The largest model with the last location throughout, and one atom, one update
-/// of all counters, the last counter first, and one sort of reset.
-pub fn at_the_last_location(atom: Atom, update: Update, reset: bool) -> Model {
+/// of all counters, the last counter first, and the last clock copied to all.
+pub fn at_the_last_location(atom: Atom, update: Update) -> Model {
     let mut model = largest();
     (model.init, model.target) = (15, 15);
     model.counter = [Counter { greatest: MAX_COUNTER_VALUE, initial: MAX_COUNTER_VALUE }; MAX_COUNTERS];
     model.invariant = [[atom; MAX_ATOMS]; MAX_LOCATIONS];
-    let (guard, updates, order, resets) = ([atom; MAX_ATOMS], [update; 4], [3, 0, 1, 2], [reset; 4]);
-    model.edge = [Edge { source: 15, target: 15, guard, updates, order, resets }; MAX_EDGES];
+    let (guard, updates, order, clock_updates) = ([atom; MAX_ATOMS], [update; 4], [3, 0, 1, 2], [ClockUpdate::Copy(3); 4]);
+    model.edge = [Edge { source: 15, target: 15, guard, updates, order, clock_updates }; MAX_EDGES];
     model
 }
 
 /// The model with the longest DIMACS file: the greatest totals, and the last clock,
 /// counter and location named throughout, since their numbers have the most digits;
-/// the last counter is set first, so that the others read it in the later state.
+/// the last counter is set first, so that the others read it in the later state,
+/// and every clock is copied from the last one.
 pub fn longest_file() -> Model {
     let sum = Update::Sum { source: 3, offset: 0 };
-    let mut model = at_the_last_location(Atom::clock(3, Relation::Less, 0), sum, false);
+    let mut model = at_the_last_location(Atom::clock(3, Relation::Less, 0), sum);
     model.edge[0].guard[0] = Atom::clock(3, Relation::Greater, MAX_CLOCK_CONSTANT);
     model
 }
@@ -262,6 +283,16 @@ pub fn model_a() -> Model {
     model
 }
 
+/// Model A with two clocks, of which the edge resets the first, once it is 1 or
+/// more, and saves its value in the second.
+pub fn saving() -> Model {
+    let mut model = model_a();
+    model.clocks = 2;
+    model.edge[0].guard[0] = Atom::clock(0, Relation::GreaterEqual, 1);
+    model.edge[0].clock_updates[..2].copy_from_slice(&[ClockUpdate::Reset, ClockUpdate::Copy(0)]);
+    model
+}
+
 /// Logger model B of the document.
 pub fn model_b() -> Model {
     let mut model = Model::blank();
@@ -273,7 +304,7 @@ pub fn model_b() -> Model {
     model.invariant[1][0] = Atom::clock(0, Relation::LessEqual, 3);
     model.edges = 3;
     model.edge[0] = Edge { target: 1, ..Edge::BLANK };
-    model.edge[0].resets[0] = true;
+    model.edge[0].clock_updates[0] = ClockUpdate::Reset;
     model.edge[1] = Edge { source: 1, target: 2, ..Edge::BLANK };
     model.edge[1].guard[0] = Atom::clock(0, Relation::LessEqual, 2);
     model.edge[1].updates[0] = Update::Sum { source: 0, offset: 1 };

@@ -2,7 +2,7 @@
 
 use super::models::{any_model, order};
 use super::rng::Rng;
-use crate::model::{ceiling, Atom, Atoms, Edge, Model, Order, Relation, Update, MAX_CLOCKS, MAX_COUNTERS};
+use crate::model::{ceiling, Atom, Atoms, ClockUpdate, Edge, Model, Order, Relation, Update, MAX_CLOCKS, MAX_COUNTERS};
 use crate::state::State;
 
 /// A record: well formed once in four, else with one or two fields overwritten
@@ -51,7 +51,7 @@ pub fn damage(rng: &mut Rng, model: &mut Model) {
         }
         _ => {
             let edge = slot(rng, model.edge.len(), model.edges);
-            damage_edge(rng, &mut model.edge[edge]);
+            damage_edge(rng, model.clocks, &mut model.edge[edge]);
         }
     }
 }
@@ -73,8 +73,8 @@ fn slot(rng: &mut Rng, slots: usize, used: u8) -> usize {
     }
 }
 
-fn damage_edge(rng: &mut Rng, edge: &mut Edge) {
-    match rng.below(7) {
+fn damage_edge(rng: &mut Rng, clocks: u8, edge: &mut Edge) {
+    match rng.below(8) {
         0 => edge.source = number(rng),
         1 => edge.target = number(rng),
         2 => damage_atoms(rng, &mut edge.guard),
@@ -85,10 +85,7 @@ fn damage_edge(rng: &mut Rng, edge: &mut Edge) {
             }
         }
         4 | 5 => damage_order(rng, &mut edge.order),
-        _ => {
-            let clock = rng.below(MAX_CLOCKS);
-            edge.resets[clock] = !edge.resets[clock];
-        }
+        _ => edge.clock_updates[slot(rng, MAX_CLOCKS, clocks)] = clock_update(rng),
     }
 }
 
@@ -119,6 +116,15 @@ fn update(rng: &mut Rng) -> Update {
         0 => Update::Keep,
         1 => Update::Constant(number(rng)),
         _ => Update::Sum { source: number(rng), offset: rng.pick(&[-128, -33, -32, -31, -1, 0, 1, 31, 32, 33, 127]) },
+    }
+}
+
+fn clock_update(rng: &mut Rng) -> ClockUpdate {
+    match rng.below(4) {
+        0 => ClockUpdate::Unchanged,
+        1 => ClockUpdate::Reset,
+        2 => ClockUpdate::Copy(rng.below(MAX_CLOCKS) as u8),
+        _ => ClockUpdate::Copy(number(rng)),
     }
 }
 

@@ -4,10 +4,11 @@
 //! Lines: `0 0` begins with the blank model; `1 FIELD N` sets a number at the
 //! head (locations, init, target, clocks, counters, edges); `2 I G N` a counter;
 //! `3 L K ATOM` an atom of an invariant; `4 E FROM TO` an edge's ends; `5 E K ATOM`
-//! an atom of a guard; `6 E K UPDATE` an update; `7 E K R` a reset; `8 E K N` a
-//! slot of the order. An atom is its sort (0 none, 1 clock, 2 counter), index,
-//! relation and constant; an update its sort (0 keep, 1 constant, 2 sum), number
-//! and offset plus 32, where 65 to 68 stand for the offsets -128, -33, 33 and 127.
+//! an atom of a guard; `6 E K UPDATE` an update; `7 E K SORT SOURCE` an update of
+//! a clock; `8 E K N` a slot of the order. An atom is its sort (0 none, 1 clock,
+//! 2 counter), index, relation and constant; an update its sort (0 keep, 1
+//! constant, 2 sum), number and offset plus 32, where 65 to 68 stand for the
+//! offsets -128, -33, 33 and 127; a clock's sort is 0 unchanged, 1 reset, 2 copy.
 //! Questions:
 //! `10` refusal; `11` refusal and ceiling; `12 BOUND` refusal, S, H, N; `13 RUN`
 //! refusal and place; `14 STATE BYTE` refusal and state; `15 BOUND` refusal and
@@ -20,10 +21,11 @@
 use super::rng::Rng;
 use super::{models, records, runs};
 use crate::assign::{decode, encode};
+use crate::flat::clock_update_bytes;
 use crate::list::{emit, totals};
 use crate::model::{
-    ceiling, choice_length, state_length, test_record, test_record_and_bound, variables, Atom, Counter, Edge, Model, Update,
-    MAX_BOUND,
+    ceiling, choice_length, state_length, test_record, test_record_and_bound, variables, Atom, ClockUpdate, Counter, Edge, Model,
+    Update, MAX_BOUND,
 };
 use crate::refusal::number_and_place;
 use crate::step::{step_call, walk};
@@ -267,9 +269,9 @@ fn build_edge(e: usize, edge: &Edge, script: &mut Script) {
         };
         script.tell(&[6, e32, k as u32, sort, u32::from(number), raised]);
     }
-    for (k, reset) in edge.resets.iter().enumerate() {
-        if *reset {
-            script.tell(&[7, e32, k as u32, 1]);
+    for (k, update) in edge.clock_updates.iter().enumerate() {
+        if *update != ClockUpdate::Unchanged {
+            script.tell_bytes(&[7, e32, k as u32], &clock_update_bytes(*update));
         }
     }
     for (k, counter) in edge.order.iter().enumerate() {

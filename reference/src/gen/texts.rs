@@ -12,7 +12,7 @@ const NUMBERS: [&str; 22] = [
 ];
 
 /// Items of every sort, right and wrong.
-const ITEMS: [&str; 26] = [
+const ITEMS: [&str; 32] = [
     "x0<=3",
     "x1>2",
     "x3=30",
@@ -28,6 +28,12 @@ const ITEMS: [&str; 26] = [
     "x1",
     "x3",
     "x9",
+    "x0:=x0",
+    "x0:=x1",
+    "x1:=x0",
+    "x1:=x9",
+    "x0:=0",
+    "x0:=x1+0",
     "v0:=1",
     "v1:=v0+0",
     "v0:=v0-0",
@@ -120,22 +126,24 @@ fn with_number(rng: &mut Rng, text: &[u8]) -> Vec<u8> {
     [&text[..start], number.as_bytes(), &text[start + length..]].concat()
 }
 
-/// The keys of the lines that hold items, with an item of that line.
-const ITEM_LINES: [(&str, &str); 4] = [("inv=", "x0<=2"), ("when=", "x0>=1"), ("set=", "v0:=v0+1"), ("reset=", "x0")];
+/// The keys of the lines that hold items, with items of that line.
+const ITEM_LINES: [(&str, &[&str]); 4] =
+    [("inv=", &["x0<=2"]), ("when=", &["x0>=1"]), ("set=", &["v0:=v0+1"]), ("reset=", &["x0", "x0:=x1", "x1:=x0", "x0:=x0"])];
 
-/// Adds one to five items to a line that holds items: either copies of an item
-/// that fits the line, or any items.
+/// Adds one to five items to a line that holds items: either one item that fits
+/// the line, again and again, or any items.
 fn more_items(rng: &mut Rng, mut lines: Lines) -> Lines {
     let fitting = |line: &[u8]| {
-        let key_of = |(key, _): &&(&str, &str)| line.starts_with(key.as_bytes());
-        ITEM_LINES.iter().find(key_of).map(|(_, item)| *item)
+        let key_of = |(key, _): &&(&str, &[&'static str])| line.starts_with(key.as_bytes());
+        ITEM_LINES.iter().find(key_of).map(|(_, items)| *items)
     };
-    let places: Vec<(usize, &str)> =
-        (0..lines.len()).filter_map(|place| fitting(&lines[place]).map(|item| (place, item))).collect();
+    let places: Vec<(usize, &[&str])> =
+        (0..lines.len()).filter_map(|place| fitting(&lines[place]).map(|items| (place, items))).collect();
     if places.is_empty() {
         return lines;
     }
-    let (place, item) = rng.pick(&places);
+    let (place, items) = rng.pick(&places);
+    let item = rng.pick(items);
     let same = !rng.one_in(3);
     for _ in 0..=rng.below(5) {
         let added = if same { item } else { rng.pick(&ITEMS) };

@@ -1,7 +1,8 @@
 //! What several test files need.
 #![allow(dead_code)]
 
-use reference::model::Model;
+use reference::model::{ClockUpdate, Edge, Model};
+use reference::state::State;
 use reference::text::read;
 
 pub const MODEL_A: &str = "\
@@ -123,6 +124,33 @@ when=-
 set=v0:=v0+1,v1:=v0+0
 reset=-
 ";
+
+/// Model A with two clocks, of which the edge resets the first and saves its value
+/// in the second. Line 11 is `when`, line 13 `reset`.
+pub const SAVES: &str = "\
+locations=2
+init=0
+target=1
+clocks=2
+vars=0
+inv=-
+inv=-
+edges=1
+from=0
+to=1
+when=x0>=1
+set=-
+reset=x0,x1:=x0
+";
+
+/// The clocks after an edge, each from the clocks before it.
+pub fn clocks_after(edge: &Edge, before: &State) -> [u8; 4] {
+    [0, 1, 2, 3].map(|clock| match edge.clock_updates[clock] {
+        ClockUpdate::Unchanged => before.clocks[clock],
+        ClockUpdate::Reset => 0,
+        ClockUpdate::Copy(source) => before.clocks[usize::from(source)],
+    })
+}
 
 /// The model of a text that must be accepted.
 pub fn model(text: &str) -> Model {
