@@ -26,7 +26,7 @@ extern "C" {
 #endif
 
 /* Rises by 1 with every change of what stands in this file or of what a call answers; CHANGELOG.md says what changed. */
-#define WIRDOKU_VERSION 4
+#define WIRDOKU_VERSION 5
 
 /* Refusals, as docs/REFUSALS.md has them. No call of this header answers 20: a text that is read gives a well-formed record. */
 enum wirdoku_refusal {
@@ -35,8 +35,8 @@ enum wirdoku_refusal {
     WIRDOKU_NO_SUCH_LINE = 2,            /* no LF, or not the due key and `=`; also when the text ends before this line */
     WIRDOKU_NOT_OF_FORM = 3,             /* the value is not of its form (docs/FORMAT.md); also `!=` on a clock, a counter in `inv`, an offset `-0`, a CR */
     WIRDOKU_OUT_OF_RANGE = 4,            /* a number is outside its range; also an initial value above its greatest */
-    WIRDOKU_NOT_DECLARED = 5,            /* a location, clock or counter is not declared, however great its number */
-    WIRDOKU_SET_TWICE_OR_NOT_RISING = 6, /* a counter is set twice in one edge, or the clocks that are reset do not rise strictly */
+    WIRDOKU_NOT_DECLARED = 5,            /* a location, clock or counter is not declared, however great its number; also a clock copied from */
+    WIRDOKU_SET_TWICE_OR_NOT_RISING = 6, /* a counter is set twice in one edge, or the clocks that `reset` sets do not rise strictly */
     WIRDOKU_TOO_MANY_ATOMS = 7,          /* more than four atoms */
     WIRDOKU_BYTES_LEFT = 8,              /* bytes are left after the last line */
     WIRDOKU_NO_BOUND_LINE = 9,           /* not `bound=` and a number of the text's form, ended by LF */
@@ -75,7 +75,7 @@ enum wirdoku_refusal {
 #define WIRDOKU_MAX_STEPS 64            /* the bound, and the length of a run */
 #define WIRDOKU_MAX_VARIABLES 21776     /* N, at most: a buffer of so many bytes takes every assignment */
 #define WIRDOKU_MAX_WORDS 6730133       /* a buffer of so many words takes every list; wirdoku_counts tells the words of one */
-#define WIRDOKU_MAX_FILE 34191627       /* a buffer of so many bytes takes every file; wirdoku_dimacs tells the bytes of one, also with 32 */
+#define WIRDOKU_MAX_FILE 34193259       /* a buffer of so many bytes takes every file; wirdoku_dimacs tells the bytes of one, also with 32 */
 
 /* `place`: the line for 2 to 8, the byte's index for 24, the clause's index for 26, the step for 27 and 28, else 0. */
 struct wirdoku_answer {
