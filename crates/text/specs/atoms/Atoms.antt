@@ -30,9 +30,11 @@ relationAt a b =
     (cond (eqb a 61) (One Equal)
     (cond (eqb a 33) (cond (eqb b 61) (Two NotEqual) Absent) Absent)))
 
+-- the relation that the bytes begin with
 abbrev pub relationOf : List ℕ → RelationRead
 relationOf l = relationAt (getD l 0 0) (getD l 1 0)
 
+-- how many bytes a relation has
 abbrev pub width : RelationRead → ℕ
 width Absent = 0
 width (One r) = 1
@@ -51,15 +53,18 @@ clockAtom x NotEqual c = Malformed
 abbrev pub namedAtom : ℕ → ℕ → Relation → ℕ → AtomRead
 namedAtom name i r c = cond (eqb name 120) (clockAtom i r c) (cond (eqb name 118) (CounterAtom i r c) Malformed)
 
+-- the atom, if the relation is one
 abbrev pub relatedAtom : ℕ → ℕ → RelationRead → ℕ → AtomRead
 relatedAtom name i Absent c = Malformed
 relatedAtom name i (One r) c = namedAtom name i r c
 relatedAtom name i (Two r) c = namedAtom name i r c
 
+-- the atom, if its constant is a number
 abbrev pub valuedAtom : ℕ → ℕ → RelationRead → NumberRead → AtomRead
 valuedAtom name i r NoNumber = Malformed
 valuedAtom name i r (Number c) = relatedAtom name i r c
 
+-- the atom, if the clock or counter has a number
 abbrev pub madeAtom : ℕ → NumberRead → RelationRead → NumberRead → AtomRead
 madeAtom name NoNumber r c = Malformed
 madeAtom name (Number i) r c = valuedAtom name i r c
@@ -68,6 +73,7 @@ madeAtom name (Number i) r c = valuedAtom name i r c
 abbrev pub afterName : List ℕ → List ℕ
 afterName l = following (drop 1 l)
 
+-- x or v, its number, a relation, a number
 unfoldable pub atomOf : List ℕ → AtomRead
 atomOf l = madeAtom (getD l 0 0) (leading (drop 1 l)) (relationOf (afterName l)) (numberOf (drop (width (relationOf (afterName l))) (afterName l)))
 
@@ -82,6 +88,7 @@ abbrev pub itemOf : Bool → List ℕ → AtomRead
 itemOf counters l = cond counters (atomOf l) (onClocks (atomOf l))
 
 -- ---- the tests of the line, each over all items
+-- 3: an item is not of its form
 abbrev pub isMalformed : AtomRead → Bool
 isMalformed Malformed = true
 isMalformed (ClockAtom x r c) = false
@@ -93,11 +100,13 @@ isOutside Malformed = false
 isOutside (ClockAtom x r c) = ltb 30 c
 isOutside (CounterAtom v r c) = ltb 31 c
 
+-- 5: a clock or counter is not declared
 abbrev pub isUndeclared : ℕ → ℕ → AtomRead → Bool
 isUndeclared clocks vars Malformed = false
 isUndeclared clocks vars (ClockAtom x r c) = leb clocks x
 isUndeclared clocks vars (CounterAtom v r c) = leb vars v
 
+-- 3, 4, 5, and 7: more than four items
 unfoldable pub atomFaults : ℕ → ℕ → List AtomRead → Faults
 atomFaults clocks vars items = record {
   malformed = anyOf isMalformed items;
@@ -108,14 +117,17 @@ atomFaults clocks vars items = record {
 }
 
 -- ---- the slots: filled from the first, the others blank
+-- the atom that an item stands for
 abbrev pub atomIn : AtomRead → Atom
 atomIn Malformed = Blank
 atomIn (ClockAtom x r c) = OnClock x r c
 atomIn (CounterAtom v r c) = OnCounter v r c
 
+-- its slot
 abbrev pub slotOf : AtomRead → AtomSlot
 slotOf a = record { atom = atomIn a }
 
+-- the slots of all items, and blank ones up to four
 unfoldable pub atomSlots : List AtomRead → List AtomSlot
 atomSlots items = map slotOf items ++ replicate (4 - length items) blankAtom
 
@@ -127,8 +139,10 @@ atomValue clocks vars items = record {
 }
 
 -- ---- the items of an inv and of a when value
+-- inv: atoms on clocks alone
 unfoldable pub invItems : List ℕ → List AtomRead
 invItems v = map (itemOf false) (itemsOf v)
 
+-- when: atoms on clocks and counters
 unfoldable pub whenItems : List ℕ → List AtomRead
 whenItems v = map (itemOf true) (itemsOf v)

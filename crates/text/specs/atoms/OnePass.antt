@@ -16,6 +16,7 @@ use Rattle.text.specs.declared.atoms.AtomRead.the-variants.{Malformed, C
 use Rattle.text.specs.declared.atoms.AtomsRead.{AtomsRead}
 use Rattle.text.specs.atoms.Atoms.{isMalformed, isOutside, isUndeclared}
 
+-- the atom of an item, its numbers narrowed to bytes
 abbrev pub storedAtom : AtomRead → Atom
 storedAtom Malformed = Blank
 storedAtom (ClockAtom x r c) = OnClock (narrowed x) r (narrowed c)
@@ -25,6 +26,7 @@ storedAtom (CounterAtom v r c) = OnCounter (narrowed v) r (narrowed c)
 unfoldable pub pushed : List AtomSlot → ℕ → Atom → List AtomSlot
 pushed atoms k a = cond (ltb k 4) (set atoms k (record { atom = a })) atoms
 
+-- before the first item
 unfoldable pub noAtoms : AtomsRead
 noAtoms = record { faults = noFaults; count = 0; atoms = replicate 4 blankAtom }
 
@@ -42,5 +44,6 @@ absorbed clocks vars s a = record {
   atoms = pushed (s .atoms) (s .count) (storedAtom a);
 }
 
+-- the faults, and the slots where there are none
 unfoldable pub collected : AtomsRead → AtomValue
 collected s = record { faults = s .faults; atoms = cond (eqb (faultNumber (s .faults)) 0) (s .atoms) (replicate 4 blankAtom) }

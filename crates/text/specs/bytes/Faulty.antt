@@ -17,6 +17,7 @@ faultNumber f = cond (f .malformed) 3 (cond (f .crowded) 7 (cond (f .outside) 4 
 unfoldable pub lineNumber : Bool → Faults → ℕ
 lineNumber due f = cond due (faultNumber f) 2
 
+-- a value without faults
 abbrev pub noFaults : Faults
 noFaults = record { malformed = false; crowded = false; outside = false; undeclared = false; unordered = false }
 
@@ -30,6 +31,7 @@ lineTold OutOfRange = 4
 lineTold NotDeclared = 5
 lineTold SetTwiceOrNotRising = 6
 
+-- no test of the line fails
 abbrev pub isNoFault : LineFault → Bool
 isNoFault NoFault = true
 isNoFault NotDue = false

@@ -14,6 +14,7 @@ abbrev pub liesOutside : ℕ → ℕ → NumberRead → Bool
 liesOutside least greatest Malformed = false
 liesOutside least greatest (Number n) = ltb n least || ltb greatest n
 
+-- 3 and 4 of such a number
 unfoldable pub numberFaults : ℕ → ℕ → NumberRead → Faults
 numberFaults least greatest n = record {
   malformed = isMalformed n;
@@ -28,6 +29,7 @@ abbrev pub isUndeclared : ℕ → NumberRead → Bool
 isUndeclared declared Malformed = false
 isUndeclared declared (Number n) = leb declared n
 
+-- 3 and 5 of such a reference
 unfoldable pub referenceFaults : ℕ → NumberRead → Faults
 referenceFaults declared n = record {
   malformed = isMalformed n;
@@ -41,9 +43,11 @@ referenceFaults declared n = record {
 abbrev pub greatestOf : List ℕ → NumberRead
 greatestOf v = numberOf (before 44 v)
 
+-- what stands after the comma
 abbrev pub initialOf : List ℕ → NumberRead
 initialOf v = numberOf (after 44 v)
 
+-- 3 and 4 of a counter
 unfoldable pub counterFaults : NumberRead → NumberRead → Faults
 counterFaults greatest initial = record {
   malformed = isMalformed greatest || isMalformed initial;
@@ -53,5 +57,6 @@ counterFaults greatest initial = record {
   unordered = false;
 }
 
+-- the counter that the two numbers declare
 abbrev pub counterIn : NumberRead → NumberRead → Counter
 counterIn greatest initial = record { greatest = numberIn greatest; initial = numberIn initial }

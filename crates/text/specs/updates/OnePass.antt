@@ -22,11 +22,13 @@ use Rattle.text.specs.updates.Sets.{isMalformed, isOutside, isUndeclared
 abbrev pub storedOffset : Bool → ℕ → ℤ
 storedOffset negative n = cond (ltb 31 n) (pos 0) (offsetOf negative n)
 
+-- the update of an item, its numbers narrowed to bytes
 abbrev pub storedUpdate : SetRead → Update
 storedUpdate Malformed = Keep
 storedUpdate (ToConstant v c) = Constant (narrowed c)
 storedUpdate (ToSum v w negative n) = Sum (narrowed w) (storedOffset negative n)
 
+-- one more update, in slot k, if there is such a slot
 unfoldable pub put : List UpdateSlot → ℕ → Update → List UpdateSlot
 put slots k u = cond (ltb k 4) (set slots k (record { update = u })) slots
 
@@ -38,6 +40,7 @@ isSet slots k = ltb k 4 && not (isKeep (getD slots k blankUpdate .update))
 unfoldable pub listedAt : List ℕ → ℕ → ℕ → List ℕ
 listedAt order n k = cond (ltb n 4) (set order n k) order
 
+-- before the first item
 unfoldable pub noSets : SetsRead
 noSets = record { faults = noFaults; updates = replicate 4 blankUpdate; count = 0; order = replicate 4 0 }
 
@@ -56,6 +59,7 @@ absorbed vars s a = record {
   order = listedAt (s .order) (s .count) (narrowed (counterOf a));
 }
 
+-- the faults, and the slots where there are none
 unfoldable pub collected : SetsRead → SetValue
 collected s = record {
   faults = s .faults;
