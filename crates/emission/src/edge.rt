@@ -114,7 +114,8 @@ fn put_reset(
     let g = 1 + b.vars + i;
     let place = first[g];
     let block = o as u16;
-    let after = (block + b.state as u16 + b.choices as u16 + place) as usize;
+    let later = block + b.state as u16 + b.choices as u16;
+    let after = (later + place) as usize;
     match update {
         ClockUpdate::Unchanged => {
             let unchanged = block + place;

@@ -38,23 +38,23 @@ after-in start =
 cast-block : tie.Need-cast-block
 cast-block c = omega (arith, after-in (c .before .before .before .before))
 
-cast-after : tie.Need-cast-after
-cast-after c = omega (arith, after-in (c .before .before .before .before .before))
+cast-later : tie.Need-cast-later
+cast-later c = omega (arith, after-in (c .before .before .before .before .before))
+
+add-later : tie.Need-add-later
+add-later c = omega (arith, after-in (c .before .before .before .before .before))
+
+cast-later-2 : tie.Need-cast-later-2
+cast-later-2 c = omega (arith, after-in (c .before .before .before .before .before .before))
+
+add-later-2 : tie.Need-add-later-2
+add-later-2 c = omega (arith, after-in (c .before .before .before .before .before .before))
 
 add-after : tie.Need-add-after
-add-after c = omega (arith, after-in (c .before .before .before .before .before))
+add-after c = omega (arith, after-in (c .before .before .before .before .before .before))
 
-cast-after-2 : tie.Need-cast-after-2
-cast-after-2 c = omega (arith, after-in (c .before .before .before .before .before .before))
-
-add-after-2 : tie.Need-add-after-2
-add-after-2 c = omega (arith, after-in (c .before .before .before .before .before .before))
-
-add-after-3 : tie.Need-add-after-3
-add-after-3 c = omega (arith, after-in (c .before .before .before .before .before .before))
-
-cast-after-3 : tie.Need-cast-after-3
-cast-after-3 c = omega (arith, after-in (c .before .before .before .before .before .before))
+cast-after : tie.Need-cast-after
+cast-after c = omega (arith, after-in (c .before .before .before .before .before .before))
 
 enum-told : tie.Need-enum-told
 enum-told c = search needs
@@ -191,7 +191,7 @@ returns-3 c =
 
 pub put-reset-spec : {M : Type 1} → statement M
 put-reset-spec =
-    tie.close (tie.spec add-g add-g-2 mul-place shared-slice-read-place cast-block cast-after add-after cast-after-2 add-after-2 add-after-3 cast-after-3
+    tie.close (tie.spec add-g add-g-2 mul-place shared-slice-read-place cast-block cast-later add-later cast-later-2 add-later-2 add-after cast-after
     enum-told add-unchanged cast-put-kept mul-put-kept shared-slice-read-put-kept cast-put-kept-2 put-kept-requires enum-told-2 put-implication-requires
     enum-known-update add-w cast-w add-w-2 mul-copied shared-slice-read-copied add-copied cast-put-kept-3 mul-put-kept-2 shared-slice-read-put-kept-2
     cast-put-kept-4 put-kept-requires-2 same-length returns same-length-2 returns-2 same-length-3 returns-3)
