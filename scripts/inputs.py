@@ -10,7 +10,7 @@ B = content("models", "logger_b.txt")
 # A with one clock and two counters: its lines, to be changed one at a time.
 WIDE = (
     b"locations=2 init=0 target=1 clocks=1 vars=2 var=3,1 var=31,0 inv=- inv=- edges=1"
-    b" from=0 to=1 when=- set=- reset=-"
+    b" from=0 to=1 label=0 when=- set=- reset=-"
 ).split()
 
 
@@ -34,13 +34,16 @@ def two_clocks(guard, items):
 
 def looping(head, edges, update):
     """A text of a head and so many edges from location 0 to itself, each with one update."""
-    edge = b"from=0 to=0 when=- set=%s reset=-" % update
+    edge = b"from=0 to=0 label=0 when=- set=%s reset=-" % update
     return b"".join(line + b"\n" for line in (head + b" edges=%d" % edges + (b" " + edge) * edges).split())
 
 
 # A clock saved in another beside its reset, and two clocks exchanged.
 SAVED = two_clocks(b"x0>=1", b"x0,x1:=x0")
 EXCHANGED = two_clocks(b"-", b"x0:=x1,x1:=x0")
+
+# B with the greatest label on each edge.
+LABELLED = B.replace(b"label=0\n", b"label=15\n")
 
 # Lists of as many words as the size program lends, and of one more.
 MOST = looping(b"bound=57 locations=1 init=0 target=0 clocks=1 vars=1 var=1,0 inv=x0<=0", 7, b"v0:=31")
@@ -72,12 +75,12 @@ CASES = [
     ("bound line with CR", refused(9), b"bound=1\r\n" + A),
     ("bound 65 after a bad text", refused(2, 1), b"bound=65\n"),
     ("no text", refused(2, 1), b"bound=1\n"),
-    ("no LF at the end", refused(2, 13), b"bound=1\n" + A[:-1]),
-    ("the last line missing", refused(2, 13), b"bound=1\n" + A[: -len(b"reset=-\n")]),
+    ("no LF at the end", refused(2, 14), b"bound=1\n" + A[:-1]),
+    ("the last line missing", refused(2, 14), b"bound=1\n" + A[: -len(b"reset=-\n")]),
     ("CR LF", refused(3, 1), b"bound=1\n" + A.replace(b"\n", b"\r\n")),
-    ("a byte left", refused(8, 14), b"bound=1\n" + A + b"x"),
-    ("an LF left", refused(8, 14), b"bound=1\n" + A + b"\n"),
-    ("8,192 bytes", refused(8, 14), b"bound=1\n" + A + b"\n" * (8192 - len(A))),
+    ("a byte left", refused(8, 15), b"bound=1\n" + A + b"x"),
+    ("an LF left", refused(8, 15), b"bound=1\n" + A + b"\n"),
+    ("8,192 bytes", refused(8, 15), b"bound=1\n" + A + b"\n" * (8192 - len(A))),
     ("8,193 bytes", refused(1), b"bound=1\n" + A + b"\n" * (8193 - len(A))),
     ("100,000 bytes", refused(1), b"bound=1\n" + b"\0" * 100000),
     ("100,000 bytes, no bound line", refused(9), b"\xff" * 100000),
@@ -115,36 +118,36 @@ CASES = [
     ("five atoms, one out of range", refused(7, 8), wide(8, b"inv=x7<31,x0<1,x0<1,x0<1,x0<1")),
     ("five atoms, one malformed", refused(3, 8), wide(8, b"inv=x0<1,x0<1,x0<1,x0<1,x0")),
     ("edges=33", refused(4, 10), wide(10, b"edges=33")),
-    ("edges=32", refused(2, 16), wide(10, b"edges=32")),
+    ("edges=32", refused(2, 17), wide(10, b"edges=32")),
     ("from=2", refused(5, 11), wide(11, b"from=2")),
     ("to=2", refused(5, 12), wide(12, b"to=2")),
-    ("when=v9<40", refused(4, 13), wide(13, b"when=v9<40")),
-    ("when=v9<4", refused(5, 13), wide(13, b"when=v9<4")),
-    ("when=v0!=31", (0, 0, 83, 1145, 3613), wide(13, b"when=v0!=31")),
-    ("when=v0<32", refused(4, 13), wide(13, b"when=v0<32")),
-    ("when=x0>31", refused(4, 13), wide(13, b"when=x0>31")),
-    ("set=v0:=3,v1:=v0-31", (0, 0, 83, 1114, 3484), wide(14, b"set=v0:=3,v1:=v0-31")),
-    ("set=v0:=32", refused(4, 14), wide(14, b"set=v0:=32")),
-    ("set=v0:=v0+32", refused(4, 14), wide(14, b"set=v0:=v0+32")),
-    ("set=v0:=v0-0", refused(3, 14), wide(14, b"set=v0:=v0-0")),
-    ("set=v0:=v9+0", refused(5, 14), wide(14, b"set=v0:=v9+0")),
-    ("set=v1:=1,v0:=v9+0", refused(5, 14), wide(14, b"set=v1:=1,v0:=v9+0")),
-    ("set=v1:=1,v0:=1", (0, 0, 83, 1111, 3475), wide(14, b"set=v1:=1,v0:=1")),
-    ("set=v0:=v0+1,v1:=v0+0", (0, 0, 83, 1117, 3500), wide(14, b"set=v0:=v0+1,v1:=v0+0")),
-    ("set=v1:=v0+0,v0:=v0+1", (0, 0, 83, 1117, 3500), wide(14, b"set=v1:=v0+0,v0:=v0+1")),
-    ("set=v0:=1,v0:=2", refused(6, 14), wide(14, b"set=v0:=1,v0:=2")),
-    ("set=v1:=1,v0:=1,v1:=0", refused(6, 14), wide(14, b"set=v1:=1,v0:=1,v1:=0")),
-    ("set=v1:=1,v1:=v9+0", refused(5, 14), wide(14, b"set=v1:=1,v1:=v9+0")),
-    ("two counters set twice and more, a number out of range", refused(4, 14), wide(14, b"set=v0:=1,v1:=1,v0:=1,v1:=1,v0:=32")),
-    ("set=v1:=1,v0:=1,x", refused(3, 14), wide(14, b"set=v1:=1,v0:=1,x")),
-    ("reset=x1", refused(5, 15), wide(15, b"reset=x1")),
-    ("reset=x0,x0", refused(6, 15), wide(15, b"reset=x0,x0")),
+    ("when=v9<40", refused(4, 14), wide(14, b"when=v9<40")),
+    ("when=v9<4", refused(5, 14), wide(14, b"when=v9<4")),
+    ("when=v0!=31", (0, 0, 83, 1145, 3613), wide(14, b"when=v0!=31")),
+    ("when=v0<32", refused(4, 14), wide(14, b"when=v0<32")),
+    ("when=x0>31", refused(4, 14), wide(14, b"when=x0>31")),
+    ("set=v0:=3,v1:=v0-31", (0, 0, 83, 1114, 3484), wide(15, b"set=v0:=3,v1:=v0-31")),
+    ("set=v0:=32", refused(4, 15), wide(15, b"set=v0:=32")),
+    ("set=v0:=v0+32", refused(4, 15), wide(15, b"set=v0:=v0+32")),
+    ("set=v0:=v0-0", refused(3, 15), wide(15, b"set=v0:=v0-0")),
+    ("set=v0:=v9+0", refused(5, 15), wide(15, b"set=v0:=v9+0")),
+    ("set=v1:=1,v0:=v9+0", refused(5, 15), wide(15, b"set=v1:=1,v0:=v9+0")),
+    ("set=v1:=1,v0:=1", (0, 0, 83, 1111, 3475), wide(15, b"set=v1:=1,v0:=1")),
+    ("set=v0:=v0+1,v1:=v0+0", (0, 0, 83, 1117, 3500), wide(15, b"set=v0:=v0+1,v1:=v0+0")),
+    ("set=v1:=v0+0,v0:=v0+1", (0, 0, 83, 1117, 3500), wide(15, b"set=v1:=v0+0,v0:=v0+1")),
+    ("set=v0:=1,v0:=2", refused(6, 15), wide(15, b"set=v0:=1,v0:=2")),
+    ("set=v1:=1,v0:=1,v1:=0", refused(6, 15), wide(15, b"set=v1:=1,v0:=1,v1:=0")),
+    ("set=v1:=1,v1:=v9+0", refused(5, 15), wide(15, b"set=v1:=1,v1:=v9+0")),
+    ("two counters set twice and more, a number out of range", refused(4, 15), wide(15, b"set=v0:=1,v1:=1,v0:=1,v1:=1,v0:=32")),
+    ("set=v1:=1,v0:=1,x", refused(3, 15), wide(15, b"set=v1:=1,v0:=1,x")),
+    ("reset=x1", refused(5, 16), wide(16, b"reset=x1")),
+    ("reset=x0,x0", refused(6, 16), wide(16, b"reset=x0,x0")),
     ("A with two counters, one raised and then copied", (0, 0, 15, 38, 126), b"bound=1\n" + two_counters(b"v0:=v0+1,v1:=v0+0")),
     ("A with two counters, one copied and then raised", (0, 0, 15, 38, 126), b"bound=1\n" + two_counters(b"v1:=v0+0,v0:=v0+1")),
-    ("reset=-,x0", refused(3, 15), wide(15, b"reset=-,x0")),
-    ("reset=x0:=x0", (0, 0, 83, 1145, 3613), wide(15, b"reset=x0:=x0")),
-    ("reset=x0:=x1, one clock", refused(5, 15), wide(15, b"reset=x0:=x1")),
-    ("reset=x0:=v0", refused(3, 15), wide(15, b"reset=x0:=v0")),
+    ("reset=-,x0", refused(3, 16), wide(16, b"reset=-,x0")),
+    ("reset=x0:=x0", (0, 0, 83, 1145, 3613), wide(16, b"reset=x0:=x0")),
+    ("reset=x0:=x1, one clock", refused(5, 16), wide(16, b"reset=x0:=x1")),
+    ("reset=x0:=v0", refused(3, 16), wide(16, b"reset=x0:=v0")),
     ("a clock saved beside its reset, at 1", (0, 0, 20, 62, 215), b"bound=1\n" + SAVED),
     ("a clock saved beside its reset, at 2", (0, 0, 32, 110, 390), b"bound=2\n" + SAVED),
     ("two clocks exchanged", (0, 0, 15, 38, 127), b"bound=1\n" + EXCHANGED),
@@ -153,15 +156,33 @@ CASES = [
 CASES += [("reset=" + items, numbers, b"bound=1\n" + two_clocks(b"-", items.encode())) for items, numbers in [
     ("x0:=x1", (0, 0, 15, 38, 127)),
     ("x0,x1:=x0", (0, 0, 15, 37, 122)),
-    ("x1:=x0,x0", refused(6, 13)),
-    ("x0:=x1,x0", refused(6, 13)),
-    ("x0:=x2", refused(5, 13)),
-    ("x2:=x0", refused(5, 13)),
-    ("x1:=x0,x0:=x9", refused(5, 13)),
-    ("x0:=x999", refused(5, 13)),
-    ("x0:=x1000", refused(3, 13)),
-    ("x0:=x1,", refused(3, 13)),
-    ("x0:=0", refused(3, 13)),
-    ("x0:=x1+0", refused(3, 13)),
-    ("x0=x1", refused(3, 13)),
+    ("x1:=x0,x0", refused(6, 14)),
+    ("x0:=x1,x0", refused(6, 14)),
+    ("x0:=x2", refused(5, 14)),
+    ("x2:=x0", refused(5, 14)),
+    ("x1:=x0,x0:=x9", refused(5, 14)),
+    ("x0:=x999", refused(5, 14)),
+    ("x0:=x1000", refused(3, 14)),
+    ("x0:=x1,", refused(3, 14)),
+    ("x0:=0", refused(3, 14)),
+    ("x0:=x1+0", refused(3, 14)),
+    ("x0=x1", refused(3, 14)),
 ]]
+# B with these lines in the place of line 14, the label of its first edge.
+CASES += [("B, line 14: " + line, numbers, b"bound=3\n" + B.replace(b"label=0", line.encode(), 1)) for line, numbers in [
+    ("label=15", (0, 0, 68, 424, 1516)),
+    ("label=16", refused(4, 14)),
+    ("label=999", refused(4, 14)),
+    ("label=1000", refused(3, 14)),
+    ("label=015", refused(3, 14)),
+    ("label=-", refused(3, 14)),
+    ("label=", refused(3, 14)),
+    ("label=x1", refused(3, 14)),
+    ("when=-", refused(2, 14)),
+    ("Label=1", refused(2, 14)),
+]]
+CASES += [
+    ("B, every label 15", (0, 0, 68, 424, 1516), b"bound=3\n" + LABELLED),
+    ("B without its second label line", refused(2, 20), b"bound=3\n" + B.replace(b"to=2\nlabel=0\n", b"to=2\n")),
+    ("B without label lines", refused(2, 14), b"bound=3\n" + B.replace(b"label=0\n", b"")),
+]

@@ -143,11 +143,11 @@ struct text with_line(struct text base, size_t line, const char *string) {
 }
 
 struct text two_counters(const char *set) {
-    return with_line(with_line(file_text("models/a.txt"), 5, "vars=2\nvar=1,0\nvar=1,0"), 14, set);
+    return with_line(with_line(file_text("models/a.txt"), 5, "vars=2\nvar=1,0\nvar=1,0"), 15, set);
 }
 
 struct text two_clocks(const char *when, const char *reset) {
-    return with_line(with_line(with_line(file_text("models/a.txt"), 4, "clocks=2"), 11, when), 13, reset);
+    return with_line(with_line(with_line(file_text("models/a.txt"), 4, "clocks=2"), 12, when), 14, reset);
 }
 
 struct text repeated(const char *string, size_t count) {
@@ -173,7 +173,7 @@ struct text declaring(unsigned locations, unsigned clocks, unsigned counters, un
         n += snprintf(made + n, sizeof made - n, "inv=%s\n", atoms);
     n += snprintf(made + n, sizeof made - n, "edges=%u\n", edges);
     for (unsigned i = 0; i < edges; i++)
-        n += snprintf(made + n, sizeof made - n, "from=0\nto=0\nwhen=%s\nset=-\nreset=-\n", atoms);
+        n += snprintf(made + n, sizeof made - n, "from=0\nto=0\nlabel=%u\nwhen=%s\nset=-\nreset=-\n", i % (WIRDOKU_MAX_LABEL + 1), atoms);
     return copied(made, n);
 }
 

@@ -29,15 +29,16 @@ struct text file_text(const char *path);
 struct text joined(struct text first, struct text second);
 /* The text with line `line`, from 1, replaced by a string. */
 struct text with_line(struct text base, size_t line, const char *string);
-/* Model A with two counters of greatest value 1, and a `set` line for its edge, which is line 14. */
+/* Model A with two counters of greatest value 1, and a `set` line for its edge, which is line 15. */
 struct text two_counters(const char *set);
-/* Model A with two clocks, and a `when` and a `reset` line for its edge, which are lines 11 and 13. */
+/* Model A with two clocks, and a `when` and a `reset` line for its edge, which are lines 12 and 14. */
 struct text two_clocks(const char *when, const char *reset);
 /* A string so many times. */
 struct text repeated(const char *string, size_t count);
 /* A text of so many bytes LF. */
 struct text line_feeds(size_t count);
-/* A model that declares so much; counters reach `greatest`, every inv and when line has the value `atoms`, edges lead from 0 to 0. */
+/* A model that declares so much; counters reach `greatest`, every inv and when line has the value `atoms`, edges lead from 0 to 0
+ * and have the labels 0 to 15 in turn. */
 struct text declaring(unsigned locations, unsigned clocks, unsigned counters, unsigned greatest, unsigned edges, const char *atoms);
 
 /* Lent buffers hold a pattern; `kept` tells whether they still do from an index on. */

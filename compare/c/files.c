@@ -86,11 +86,11 @@ static struct text longest_text(void) {
     for (size_t i = 0; i < WIRDOKU_MAX_COUNTERS; i++)
         t = with_line(t, 6 + i, "var=31,31");
     const size_t edges = 6 + WIRDOKU_MAX_COUNTERS + WIRDOKU_MAX_LOCATIONS;
-    t = with_line(t, edges + 3, "when=x3>30,x3<0,x3<0,x3<0");
+    t = with_line(t, edges + 4, "when=x3>30,x3<0,x3<0,x3<0");
     for (size_t i = 0; i < WIRDOKU_MAX_EDGES; i++) {
-        t = with_line(with_line(t, edges + 5 * i + 1, "from=15"), edges + 5 * i + 2, "to=15");
-        t = with_line(t, edges + 5 * i + 4, "set=v3:=v3+0,v0:=v3+0,v1:=v3+0,v2:=v3+0");
-        t = with_line(t, edges + 5 * i + 5, "reset=x0:=x3,x1:=x3,x2:=x3,x3:=x3");
+        t = with_line(with_line(t, edges + 6 * i + 1, "from=15"), edges + 6 * i + 2, "to=15");
+        t = with_line(t, edges + 6 * i + 5, "set=v3:=v3+0,v0:=v3+0,v1:=v3+0,v2:=v3+0");
+        t = with_line(t, edges + 6 * i + 6, "reset=x0:=x3,x1:=x3,x2:=x3,x3:=x3");
     }
     return t;
 }

@@ -144,12 +144,21 @@ static void sharp_sizes(void) {
     struct text most = joined(text_of("bound=57\n"), declaring(1, 1, 1, 1, 7, "-"));
     most = with_line(most, 8, "inv=x0<=0");
     for (size_t edge = 0; edge < 7; edge++)
-        most = with_line(most, 13 + 5 * edge, "set=v0:=31");
+        most = with_line(most, 14 + 6 * edge, "set=v0:=31");
     struct text more = with_line(joined(text_of("bound=50\n"), declaring(3, 1, 0, 0, 6, "-")), 7, "inv=x0<=1");
     check_sizes("size: 16,385 words", wirdoku_size(more.at, more.length, out, 16384), WIRDOKU_WORDS_TOO_SHORT, 0, 0, 0, 16385);
     check("size: 16,385 words, untouched", words_kept(out, 0, 16384));
     check_sizes("size: 16,384 words", wirdoku_size(most.at, most.length, out, 16384), WIRDOKU_ACCEPTED, 0, 803, 5026, 16384);
     check("size: 16,384 words, the last clause", out[16383] == 0 && !words_kept(out, 16383, 16384));
+}
+
+/* The list of B with labels is the list of B. */
+static void labels(struct text b) {
+    struct text labelled = with_line(with_line(with_line(b, 14, "label=15"), 20, "label=1"), 26, "label=9");
+    int32_t *list = lent_words(1516), *other = lent_words(1516);
+    check_sizes("B without labels", wirdoku_emit(b.at, b.length, 3, list, 1516), WIRDOKU_ACCEPTED, 0, 68, 424, 1516);
+    check_sizes("B with labels", wirdoku_emit(labelled.at, labelled.length, 3, other, 1516), WIRDOKU_ACCEPTED, 0, 68, 424, 1516);
+    check("B with labels: its words", memcmp(list, other, 1516 * sizeof *list) == 0);
 }
 
 /* The largest list that the limits allow, in the buffer that takes every list. */
@@ -158,7 +167,7 @@ static void largest(void) {
                               WIRDOKU_MAX_EDGES, "x0<0,x0<0,x0<0,x0<0");
     char guard[64];
     snprintf(guard, sizeof guard, "when=x0>%d,x0<0,x0<0,x0<0", WIRDOKU_MAX_CLOCK_CONSTANT);
-    t = with_line(t, 6 + WIRDOKU_MAX_COUNTERS + WIRDOKU_MAX_LOCATIONS + 3, guard);
+    t = with_line(t, 6 + WIRDOKU_MAX_COUNTERS + WIRDOKU_MAX_LOCATIONS + 4, guard);
     int32_t *out = lent_words(WIRDOKU_MAX_WORDS);
     struct wirdoku_sizes found = wirdoku_emit(t.at, t.length, WIRDOKU_MAX_STEPS, out, WIRDOKU_MAX_WORDS);
     check_sizes("the largest list", found, WIRDOKU_ACCEPTED, 0, WIRDOKU_MAX_VARIABLES, 1876043, 6729941);
@@ -172,6 +181,7 @@ void list_tests(void) {
     lists(a);
     listed_updates();
     copied_clocks();
+    labels(b);
     satisfying(b);
     size_program(a);
     sharp_sizes();

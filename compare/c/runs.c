@@ -37,7 +37,7 @@ static void steps(struct text b) {
 static void all_slots(void) {
     struct text t = text_of("locations=12\ninit=10\ntarget=11\nclocks=4\nvars=4\nvar=9,1\nvar=9,2\nvar=9,3\nvar=9,4\n"
                             "inv=-\ninv=-\ninv=-\ninv=-\ninv=-\ninv=-\ninv=-\ninv=-\ninv=-\ninv=-\ninv=-\ninv=-\nedges=1\n"
-                            "from=10\nto=11\nwhen=x0<=30\nset=v0:=v3+0,v1:=v2+4,v2:=v1-6,v3:=v0-2\nreset=x1,x3\n");
+                            "from=10\nto=11\nlabel=13\nwhen=x0<=30\nset=v0:=v3+0,v1:=v2+4,v2:=v1-6,v3:=v0-2\nreset=x1,x3\n");
     const struct wirdoku_state start = slots_of(10, 0x01020304, 0), before = slots_of(10, 0x01020304, 0x05060708);
     const struct wirdoku_state waited = slots_of(10, 0x01020304, 0x15161718), after = slots_of(11, 0x04070102, 0x05000700);
     check_state("every slot: initial", wirdoku_initial(t.at, t.length), WIRDOKU_ACCEPTED, 0, start);

@@ -5,7 +5,7 @@
 /* The accepted text of docs/REFUSALS.md, whose lines the rows change one at a time. */
 static const char BASE[] =
     "locations=2\ninit=0\ntarget=1\nclocks=2\nvars=2\nvar=3,0\nvar=3,0\ninv=-\ninv=-\nedges=1\n"
-    "from=0\nto=1\nwhen=-\nset=-\nreset=-\n";
+    "from=0\nto=1\nlabel=0\nwhen=-\nset=-\nreset=-\n";
 
 static const struct {
     size_t line;
@@ -14,46 +14,55 @@ static const struct {
 } ROWS[] = {
     {2, "target=1", WIRDOKU_NO_SUCH_LINE},
     {2, "init", WIRDOKU_NO_SUCH_LINE},
+    {13, "when=-", WIRDOKU_NO_SUCH_LINE},
+    {13, "Label=1", WIRDOKU_NO_SUCH_LINE},
     {1, "locations=02", WIRDOKU_NOT_OF_FORM},
     {1, "locations=1000", WIRDOKU_NOT_OF_FORM},
     {8, "inv=v0<3", WIRDOKU_NOT_OF_FORM},
     {8, "inv=x0!=3", WIRDOKU_NOT_OF_FORM},
-    {14, "set=v0:=v1-0", WIRDOKU_NOT_OF_FORM},
-    {15, "reset=-\r", WIRDOKU_NOT_OF_FORM},
-    {15, "reset=x0:=0", WIRDOKU_NOT_OF_FORM},
-    {15, "reset=x0:=x1+0", WIRDOKU_NOT_OF_FORM},
-    {15, "reset=x0=x1", WIRDOKU_NOT_OF_FORM},
-    {15, "reset=x0:=x1000", WIRDOKU_NOT_OF_FORM},
-    {15, "reset=x0:=x1,", WIRDOKU_NOT_OF_FORM},
+    {13, "label=", WIRDOKU_NOT_OF_FORM},
+    {13, "label=-", WIRDOKU_NOT_OF_FORM},
+    {13, "label=015", WIRDOKU_NOT_OF_FORM},
+    {13, "label=1000", WIRDOKU_NOT_OF_FORM},
+    {13, "label=x1", WIRDOKU_NOT_OF_FORM},
+    {15, "set=v0:=v1-0", WIRDOKU_NOT_OF_FORM},
+    {16, "reset=-\r", WIRDOKU_NOT_OF_FORM},
+    {16, "reset=x0:=0", WIRDOKU_NOT_OF_FORM},
+    {16, "reset=x0:=x1+0", WIRDOKU_NOT_OF_FORM},
+    {16, "reset=x0=x1", WIRDOKU_NOT_OF_FORM},
+    {16, "reset=x0:=x1000", WIRDOKU_NOT_OF_FORM},
+    {16, "reset=x0:=x1,", WIRDOKU_NOT_OF_FORM},
     {1, "locations=17", WIRDOKU_OUT_OF_RANGE},
     {7, "var=3,4", WIRDOKU_OUT_OF_RANGE},
     {8, "inv=x0<=31", WIRDOKU_OUT_OF_RANGE},
+    {13, "label=16", WIRDOKU_OUT_OF_RANGE},
+    {13, "label=999", WIRDOKU_OUT_OF_RANGE},
     {3, "target=2", WIRDOKU_NOT_DECLARED},
-    {15, "reset=x2", WIRDOKU_NOT_DECLARED},
-    {15, "reset=x0:=x2", WIRDOKU_NOT_DECLARED},
-    {15, "reset=x2:=x0", WIRDOKU_NOT_DECLARED},
-    {15, "reset=x0:=x999", WIRDOKU_NOT_DECLARED},
-    {14, "set=v0:=v999+0", WIRDOKU_NOT_DECLARED},
-    {14, "set=v1:=1,v0:=1,v1:=0", WIRDOKU_SET_TWICE_OR_NOT_RISING},
-    {15, "reset=x1,x0", WIRDOKU_SET_TWICE_OR_NOT_RISING},
-    {15, "reset=x0,x0", WIRDOKU_SET_TWICE_OR_NOT_RISING},
-    {15, "reset=x1:=x0,x0", WIRDOKU_SET_TWICE_OR_NOT_RISING},
-    {15, "reset=x0:=x1,x0", WIRDOKU_SET_TWICE_OR_NOT_RISING},
-    {13, "when=v0>0,v0>0,v0>0,v0>0,v0>0", WIRDOKU_TOO_MANY_ATOMS},
+    {16, "reset=x2", WIRDOKU_NOT_DECLARED},
+    {16, "reset=x0:=x2", WIRDOKU_NOT_DECLARED},
+    {16, "reset=x2:=x0", WIRDOKU_NOT_DECLARED},
+    {16, "reset=x0:=x999", WIRDOKU_NOT_DECLARED},
+    {15, "set=v0:=v999+0", WIRDOKU_NOT_DECLARED},
+    {15, "set=v1:=1,v0:=1,v1:=0", WIRDOKU_SET_TWICE_OR_NOT_RISING},
+    {16, "reset=x1,x0", WIRDOKU_SET_TWICE_OR_NOT_RISING},
+    {16, "reset=x0,x0", WIRDOKU_SET_TWICE_OR_NOT_RISING},
+    {16, "reset=x1:=x0,x0", WIRDOKU_SET_TWICE_OR_NOT_RISING},
+    {16, "reset=x0:=x1,x0", WIRDOKU_SET_TWICE_OR_NOT_RISING},
+    {14, "when=v0>0,v0>0,v0>0,v0>0,v0>0", WIRDOKU_TOO_MANY_ATOMS},
     {8, "inv=x0<31,v9=1", WIRDOKU_NOT_OF_FORM},
     {8, "inv=x7<31,x0<1,x0<1,x0<1,x0<1", WIRDOKU_TOO_MANY_ATOMS},
     {8, "inv=x7<31", WIRDOKU_OUT_OF_RANGE},
-    {13, "when=v9<40", WIRDOKU_OUT_OF_RANGE},
-    {13, "when=v9<31,x0<31", WIRDOKU_OUT_OF_RANGE},
-    {14, "set=v1:=1,v1:=1,x", WIRDOKU_NOT_OF_FORM},
-    {14, "set=v0:=1,v1:=1,v0:=1,v1:=1,v0:=32", WIRDOKU_OUT_OF_RANGE},
-    {14, "set=v1:=1,v1:=v9+32", WIRDOKU_OUT_OF_RANGE},
-    {14, "set=v1:=1,v1:=v9+0", WIRDOKU_NOT_DECLARED},
-    {14, "set=v0:=1,v1:=1,v0:=1,v1:=1,v0:=1", WIRDOKU_SET_TWICE_OR_NOT_RISING},
-    {15, "reset=x0,x0,x9", WIRDOKU_NOT_DECLARED},
-    {15, "reset=x0,x0,x9,", WIRDOKU_NOT_OF_FORM},
-    {15, "reset=x1:=x0,x0:=x9", WIRDOKU_NOT_DECLARED},
-    {15, "reset=x1:=x9,x0:=0", WIRDOKU_NOT_OF_FORM},
+    {14, "when=v9<40", WIRDOKU_OUT_OF_RANGE},
+    {14, "when=v9<31,x0<31", WIRDOKU_OUT_OF_RANGE},
+    {15, "set=v1:=1,v1:=1,x", WIRDOKU_NOT_OF_FORM},
+    {15, "set=v0:=1,v1:=1,v0:=1,v1:=1,v0:=32", WIRDOKU_OUT_OF_RANGE},
+    {15, "set=v1:=1,v1:=v9+32", WIRDOKU_OUT_OF_RANGE},
+    {15, "set=v1:=1,v1:=v9+0", WIRDOKU_NOT_DECLARED},
+    {15, "set=v0:=1,v1:=1,v0:=1,v1:=1,v0:=1", WIRDOKU_SET_TWICE_OR_NOT_RISING},
+    {16, "reset=x0,x0,x9", WIRDOKU_NOT_DECLARED},
+    {16, "reset=x0,x0,x9,", WIRDOKU_NOT_OF_FORM},
+    {16, "reset=x1:=x0,x0:=x9", WIRDOKU_NOT_DECLARED},
+    {16, "reset=x1:=x9,x0:=0", WIRDOKU_NOT_OF_FORM},
 };
 
 /* Lines of that text that are accepted. */
@@ -61,11 +70,12 @@ static const struct {
     size_t line;
     const char *changed;
 } TAKEN[] = {
-    {14, "set=v1:=1,v0:=1"},
-    {15, "reset=x0:=x1"},
-    {15, "reset=x0:=x0"},
-    {15, "reset=x0,x1:=x0"},
-    {15, "reset=x0:=x1,x1:=x0"},
+    {13, "label=1"},
+    {15, "set=v1:=1,v0:=1"},
+    {16, "reset=x0:=x1"},
+    {16, "reset=x0:=x0"},
+    {16, "reset=x0,x1:=x0"},
+    {16, "reset=x0:=x1,x1:=x0"},
 };
 
 /* Every call with a refused text: its number and line, zeros beside them, the given state, and lent buffers as they were. */
@@ -104,10 +114,10 @@ static void refusals(void) {
         refused(name, with_line(base, ROWS[i].line, ROWS[i].changed), ROWS[i].number, ROWS[i].line);
     }
     struct text cut = {a.at, a.length - 1};
-    refused("no LF at the end", joined(cut, text_of("")), WIRDOKU_NO_SUCH_LINE, 13);
+    refused("no LF at the end", joined(cut, text_of("")), WIRDOKU_NO_SUCH_LINE, 14);
     refused("the empty text", text_of(""), WIRDOKU_NO_SUCH_LINE, 1);
-    refused("an LF left", joined(a, line_feeds(1)), WIRDOKU_BYTES_LEFT, 14);
-    refused("as long as a text may be", joined(a, line_feeds(WIRDOKU_MAX_TEXT - a.length)), WIRDOKU_BYTES_LEFT, 14);
+    refused("an LF left", joined(a, line_feeds(1)), WIRDOKU_BYTES_LEFT, 15);
+    refused("as long as a text may be", joined(a, line_feeds(WIRDOKU_MAX_TEXT - a.length)), WIRDOKU_BYTES_LEFT, 15);
     refused("longer", joined(a, line_feeds(WIRDOKU_MAX_TEXT + 1 - a.length)), WIRDOKU_TEXT_TOO_LONG, 0);
 }
 
@@ -155,11 +165,12 @@ static void at_limit(size_t line, const char *form, unsigned limit) {
 
 static void item_limits(void) {
     at_limit(8, "inv=x0<=%u", WIRDOKU_MAX_CLOCK_CONSTANT);
-    at_limit(13, "when=x1>%u", WIRDOKU_MAX_CLOCK_CONSTANT);
-    at_limit(13, "when=v1!=%u", WIRDOKU_MAX_COUNTER_VALUE);
-    at_limit(14, "set=v0:=%u", WIRDOKU_MAX_COUNTER_VALUE);
-    at_limit(14, "set=v0:=v1+%u", WIRDOKU_MAX_COUNTER_VALUE);
-    at_limit(14, "set=v0:=v1-%u", WIRDOKU_MAX_COUNTER_VALUE);
+    at_limit(13, "label=%u", WIRDOKU_MAX_LABEL);
+    at_limit(14, "when=x1>%u", WIRDOKU_MAX_CLOCK_CONSTANT);
+    at_limit(14, "when=v1!=%u", WIRDOKU_MAX_COUNTER_VALUE);
+    at_limit(15, "set=v0:=%u", WIRDOKU_MAX_COUNTER_VALUE);
+    at_limit(15, "set=v0:=v1+%u", WIRDOKU_MAX_COUNTER_VALUE);
+    at_limit(15, "set=v0:=v1-%u", WIRDOKU_MAX_COUNTER_VALUE);
     char atoms[128];
     for (size_t count = WIRDOKU_MAX_ATOMS; count <= WIRDOKU_MAX_ATOMS + 1; count++) {
         size_t n = 0;

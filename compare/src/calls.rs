@@ -1,21 +1,36 @@
 //! One call each: asked of the library with lent buffers, and compared with the reference.
 
-use wirdoku::library::{self, State, UNSATISFIABLE};
+use wirdoku::library::{self, Answer, State, UNSATISFIABLE};
 
 use crate::expected::{self, List};
 use crate::lent::Lent;
 use crate::tally::Tally;
 
 /// Read, shape and initial state; and the list at bound 1, in which the whole record of an accepted
-/// text is seen.
+/// text is seen but for its labels.
 pub fn reading(tally: &mut Tally, seed: u64, text: &[u8]) {
     let expected = expected::read(text);
-    tally.answer("read", expected, library::read(text));
+    tally.answer(reading_of(text, expected), expected, library::read(text));
     tally.answer("shape", expected::shape(text), library::shape(text));
     tally.answer("initial", expected::initial(text), library::initial(text));
     if expected.number == 0 {
         let needed = List::of_text(text, 1).counts.words;
         list(tally, seed, text, 1, &[needed]);
+    }
+}
+
+/// What a reading is counted as: a refusal where a label is due, and a text accepted with a label other than 0, are counted by
+/// themselves.
+fn reading_of(text: &[u8], expected: Answer) -> &'static str {
+    let mut lines = text.split(|byte| *byte == b'\n');
+    if expected.number == 0 {
+        let labelled = lines.any(|line| line.starts_with(b"label=") && line != b"label=0");
+        return if labelled { "read, labelled" } else { "read" };
+    }
+    let before = expected.place.checked_sub(2).and_then(|place| lines.nth(place));
+    match before {
+        Some(line) if line.starts_with(b"to=") => "read, label due",
+        _ => "read",
     }
 }
 

@@ -25,6 +25,8 @@ pub fn fixed(tally: &mut Tally, _: Seeds) {
     sets(tally);
     copied_clocks(tally);
     resets(tally);
+    labelled(tally);
+    labels(tally);
     greatest_bound(tally);
     limits_of_the_text(tally);
     outputs::worked(tally);
@@ -185,7 +187,7 @@ fn initial_invariant(tally: &mut Tally) {
     tally.case(|| "P10".to_string());
 }
 
-/// Model A with two counters of greatest value 1 and a list of updates, which stands in line 14.
+/// Model A with two counters of greatest value 1 and a list of updates, which stands in line 15.
 fn setting(set: &str) -> Vec<u8> {
     let a = String::from_utf8(written(&model_a())).unwrap_or_default();
     a.replace("vars=0", "vars=2\nvar=1,0\nvar=1,0").replace("\nset=-", &format!("\nset={set}")).into_bytes()
@@ -236,7 +238,7 @@ fn sets(tally: &mut Tally) {
         ("v0:=1,v1:=1,v0:=1,v1:=1,v0:=31", 6),
         ("v1:=1,v0:=1,x", 3),
     ];
-    values(tally, 14, &cases, setting);
+    values(tally, 15, &cases, setting);
 }
 
 /// Values of a line, accepted or refused there.
@@ -249,7 +251,7 @@ fn values(tally: &mut Tally, line: usize, cases: &[(&str, u8)], text: fn(&str) -
     }
 }
 
-/// The model that saves a clock, with other reset items and without its guard; the items stand in line 13.
+/// The model that saves a clock, with other reset items and without its guard; the items stand in line 14.
 fn resetting(reset: &str) -> Vec<u8> {
     let text = String::from_utf8(written(&saving())).unwrap_or_default();
     text.replace("when=x0>=1", "when=-").replace("reset=x0,x1:=x0", &format!("reset={reset}")).into_bytes()
@@ -319,7 +321,60 @@ fn resets(tally: &mut Tally) {
         ("x0:=x1+0", 3),
         ("x0=x1", 3),
     ];
-    values(tally, 13, &cases, resetting);
+    values(tally, 14, &cases, resetting);
+}
+
+/// Model B with another line 14, which is the label of its first edge.
+fn with_first_label(line: &str) -> Vec<u8> {
+    b_text().replacen("label=0", line, 1).into_bytes()
+}
+
+fn b_text() -> String {
+    String::from_utf8(written(&model_b())).unwrap_or_default()
+}
+
+/// Model B with labels: its list and its runs are those without.
+fn labelled(tally: &mut Tally) {
+    tally.same("bytes of A and B", (105, 227), (written(&model_a()).len(), b_text().len()));
+    for (one, every) in [(15, 0), (1, 15), (9, 9)] {
+        let text = b_text().replacen("label=0", &format!("label={one}"), 1).replace("label=0", &format!("label={every}"));
+        list(tally, text.as_bytes(), 3, sizes(0, 68, 424, 1516));
+        let mut lists = [[0; 1516]; 2];
+        library::emit(text.as_bytes(), 3, &mut lists[0]);
+        library::emit(b_text().as_bytes(), 3, &mut lists[1]);
+        tally.same("list of B without labels", true, lists[0] == lists[1]);
+        for (run, expected) in
+            [(&[5, 3, 7][..], ACCEPTED), (&[5, 4, 7], told(28, 2)), (&[5, 3], told(30, 0)), (&[5, 3, 8], told(27, 3))]
+        {
+            tally.answer("walk", expected, library::walk(text.as_bytes(), run));
+        }
+        tally.case(|| format!("B with label {one} and then {every}"));
+    }
+}
+
+/// Label lines: both sides of the limit, every form, lines that are not there.
+fn labels(tally: &mut Tally) {
+    let cases = [
+        ("label=0", 0),
+        ("label=15", 0),
+        ("label=16", 4),
+        ("label=999", 4),
+        ("label=1000", 3),
+        ("label=015", 3),
+        ("label=-", 3),
+        ("label=", 3),
+        ("label=x1", 3),
+        ("when=-", 2),
+        ("Label=1", 2),
+    ];
+    values(tally, 14, &cases, with_first_label);
+    let second = b_text().replace("to=2\nlabel=0\n", "to=2\n");
+    let none = b_text().replace("label=0\n", "");
+    for (text, line) in [(second, 20), (none, 14)] {
+        tally.answer("read", told(2, line), library::read(text.as_bytes()));
+        calls::reading(tally, 5, text.as_bytes());
+        tally.case(|| format!("no label in line {line}"));
+    }
 }
 
 /// 64 is taken and 65 gives 21, in every call with a bound or a run.
@@ -362,7 +417,7 @@ fn limits_of_the_text(tally: &mut Tally) {
         (invariant("x0<=31"), told(4, 8)),
         (invariant("x0<=3,x0<=3,x0<=3,x0<=3"), told(0, 0)),
         (invariant("x0<=3,x0<=3,x0<=3,x0<=3,x0<=3"), told(7, 8)),
-        (longer(8192), told(8, 14)),
+        (longer(8192), told(8, 15)),
         (longer(8193), told(1, 0)),
         (String::new(), told(2, 1)),
     ];

@@ -3,7 +3,7 @@
 use reference::gen::models;
 use reference::gen::rng::Rng;
 use reference::gen::runs::walk;
-use reference::model::{rising_order, Atom, ClockUpdate, Edge, Model, Relation, Update, MAX_BOUND};
+use reference::model::{rising_order, Atom, ClockUpdate, Edge, Model, Relation, Update, MAX_BOUND, MAX_LABEL};
 use wirdoku::library::{self, FileAnswer, Sizes};
 
 use crate::expected::List;
@@ -70,7 +70,7 @@ pub fn model_and_run(seed: u64) -> (Model, Vec<u8>) {
 }
 
 /// A model at every limit whose edges can often be taken: two from each location, with four atoms in
-/// every guard and invariant, an update of each counter, in orders of which most matter, resets and copies.
+/// every guard and invariant, an update of each counter, in orders of which most matter, resets, copies and every label.
 fn busy() -> Model {
     let mut model = models::largest();
     let at_most = |clock| Atom::clock(clock, Relation::LessEqual, 30);
@@ -88,6 +88,7 @@ fn busy_edge(index: u8) -> Edge {
     let mut edge = Edge {
         source: index % 16,
         target: (index + 1 + 2 * (index / 16)) % 16,
+        label: MAX_LABEL - index % 16,
         guard: [
             Atom::clock(one, Relation::LessEqual, 29),
             Atom::clock(other, Relation::GreaterEqual, index / 16),

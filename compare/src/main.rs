@@ -5,6 +5,7 @@ mod assignments;
 mod calls;
 mod expected;
 mod fixed;
+mod labels;
 mod largest;
 mod lent;
 mod lists;

@@ -16,6 +16,8 @@ use crate::{calls, show, values};
 
 pub const DUE: Due = &[
     ("read", &[0, 1, 2, 3, 4, 5, 6, 7, 8]),
+    ("read, label due", &[2, 3, 4]),
+    ("read, labelled", &[0]),
     ("shape", &[0, 1, 2, 3, 4, 5, 6, 7, 8]),
     ("initial", &[0, 1, 2, 3, 4, 5, 6, 7, 8]),
     ("counts", &[0, 1, 2, 3, 4, 5, 6, 7, 8, 21]),
@@ -27,7 +29,7 @@ pub const DUE: Due = &[
     ("run_to_assignment", &[1, 2, 3, 4, 5, 6, 7, 8, 21, 27, 28, 30, 31]),
 ];
 
-pub const VALUES_DUE: Due = &[("read", &[0, 3, 4, 5, 6, 7])];
+pub const VALUES_DUE: Due = &[("read", &[0, 3, 4, 5, 6, 7]), ("read, label due", &[3, 4]), ("read, labelled", &[0])];
 
 pub const INPUTS_DUE: Due = &[("size", &[0, 1, 2, 3, 4, 5, 6, 7, 8, 9, 21, 22])];
 
@@ -129,13 +131,15 @@ pub fn inputs(tally: &mut Tally, seeds: Seeds) {
     }
 }
 
-/// The texts of models A and B, and of one that copies a clock.
+/// The texts of models A and B, B with labels of one and of two digits, and of one that copies a clock.
 fn right_texts() -> [Vec<u8>; 3] {
-    [model_a(), model_b(), saving()].map(|model| written(&model))
+    let mut b = model_b();
+    (b.edge[0].label, b.edge[2].label) = (15, 9);
+    [model_a(), b, saving()].map(|model| written(&model))
 }
 
 /// Places in and after those texts, counted one after the other.
-pub const PLACES: u64 = 412;
+pub const PLACES: u64 = 453;
 
 /// Every text that differs from one of these in one byte at a place (replaced by each of the 256,
 /// inserted or removed) or that is cut off there. The seeds are the places.

@@ -1,5 +1,5 @@
 //! Texts with other values: lines that keep their key and get a value of the key's form, with numbers
-//! at and beyond the limits, too many items, counters set in any order and twice, resets and copies of clocks
+//! at and beyond the limits, labels too, too many items, counters set in any order and twice, resets and copies of clocks
 //! that do not rise, and signs that are wrong. Several faults can stand in one line, so that the order in which a line is
 //! tried is seen.
 
@@ -27,9 +27,9 @@ pub fn text(rng: &mut Rng) -> Vec<u8> {
     lines.concat()
 }
 
-/// The place of a line, half of the time of one with items.
+/// The place of a line, half of the time of one with items or a label.
 fn place(rng: &mut Rng, lines: &[Vec<u8>]) -> usize {
-    let keys = [&b"inv="[..], b"when=", b"set=", b"set=", b"reset=", b"reset="];
+    let keys = [&b"inv="[..], b"when=", b"set=", b"set=", b"reset=", b"reset=", b"label="];
     let key = rng.pick(&keys);
     let places: Vec<usize> = (0..lines.len()).filter(|place| lines[*place].starts_with(key)).collect();
     if places.is_empty() || rng.one_in(2) {

@@ -2,7 +2,7 @@
 //! programs. This form is the reference's own; the document has none.
 //!
 //! In order: locations, init, target, clocks, counters; four times greatest,
-//! initial; sixteen times four atoms; edges; 32 times source, target, four
+//! initial; sixteen times four atoms; edges; 32 times source, target, label, four
 //! atoms, four updates, the order's four slots, four clock updates. An atom is
 //! four bytes: sort (0 blank, 1 clock, 2 counter), index, relation (0 to 5 for
 //! < <= = >= > !=), constant. An update is three bytes: sort (0 keep, 1 constant,
@@ -29,7 +29,7 @@ pub fn bytes(model: &Model) -> Vec<u8> {
 }
 
 fn edge_bytes(edge: &Edge) -> Vec<u8> {
-    let mut bytes = vec![edge.source, edge.target];
+    let mut bytes = vec![edge.source, edge.target, edge.label];
     bytes.extend(atom_bytes(&edge.guard));
     for update in edge.updates {
         bytes.extend(match update {
@@ -108,6 +108,7 @@ impl Source<'_> {
     fn edge(&mut self, edge: &mut Edge) -> Option<()> {
         edge.source = self.byte()?;
         edge.target = self.byte()?;
+        edge.label = self.byte()?;
         self.atoms(&mut edge.guard)?;
         for update in &mut edge.updates {
             *update = self.update()?;

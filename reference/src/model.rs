@@ -19,6 +19,8 @@ pub const MAX_CLOCK_CONSTANT: u8 = 30;
 pub const MAX_COUNTER_VALUE: u8 = 31;
 /// Offsets lie between minus this and this.
 pub const MAX_OFFSET: i8 = 31;
+/// Greatest label of an edge; 0 means private.
+pub const MAX_LABEL: u8 = 15;
 /// Greatest bound, and greatest length of a run.
 pub const MAX_BOUND: usize = 64;
 
@@ -125,6 +127,8 @@ pub enum ClockUpdate {
 pub struct Edge {
     pub source: u8,
     pub target: u8,
+    /// The event's name, or 0: private. No step and no clause reads it.
+    pub label: u8,
     pub guard: Atoms,
     pub updates: [Update; MAX_COUNTERS],
     /// The counters that are not kept, in the order in which their updates
@@ -141,6 +145,7 @@ impl Edge {
     pub const BLANK: Edge = Edge {
         source: 0,
         target: 0,
+        label: 0,
         guard: NO_ATOMS,
         updates: [Update::Keep; MAX_COUNTERS],
         order: [0; MAX_COUNTERS],
@@ -255,8 +260,8 @@ fn unused<T>(slots: &[T], count: u8) -> &[T] {
 /// "A model record is well formed if it meets all limits above, names only what
 /// is declared, fills atom slots from the first, and its unused slots are blank
 /// (number 0, no atom, keep, no reset)." 20 also "unless the order names each
-/// counter not kept exactly once and is blank beyond", and where "the clock
-/// copied from isn't declared".
+/// counter not kept exactly once and is blank beyond", where "the clock copied
+/// from isn't declared" and "when the label is above 15".
 pub fn well_formed(model: &Model) -> bool {
     numbers_well_formed(model) && counters_well_formed(model) && invariants_well_formed(model) && edges_well_formed(model)
 }
@@ -291,6 +296,7 @@ fn edges_well_formed(model: &Model) -> bool {
 fn edge_well_formed(model: &Model, edge: &Edge) -> bool {
     edge.source < model.locations
         && edge.target < model.locations
+        && edge.label <= MAX_LABEL
         && filled_from_the_first(&edge.guard)
         && edge.guard.iter().all(|a| guard_atom_well_formed(model, *a))
         && used(&edge.updates, model.counters).iter().all(|u| update_well_formed(model, *u))

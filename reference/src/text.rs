@@ -9,7 +9,7 @@ use std::ops::RangeInclusive;
 
 use crate::model::{
     test_record, Atom, Atoms, ClockUpdate, Counter, Edge, Model, Order, Relation, Update, MAX_ATOMS, MAX_CLOCKS,
-    MAX_CLOCK_CONSTANT, MAX_COUNTERS, MAX_COUNTER_VALUE, MAX_EDGES, MAX_LOCATIONS, MAX_OFFSET, NO_ATOMS,
+    MAX_CLOCK_CONSTANT, MAX_COUNTERS, MAX_COUNTER_VALUE, MAX_EDGES, MAX_LABEL, MAX_LOCATIONS, MAX_OFFSET, NO_ATOMS,
 };
 use crate::refusal::{
     Refusal, BYTES_LEFT, NOT_DECLARED, OUT_OF_RANGE, SET_TWICE_OR_NOT_RISING, TEXT_TOO_LONG, TOO_MANY_ITEMS, WRONG_BOUND_LINE,
@@ -92,10 +92,11 @@ impl<'a> Reader<'a> {
     fn edge_lines(&mut self, model: &Model) -> Result<Edge, Refusal> {
         let source = self.location_line("from", model)?;
         let target = self.location_line("to", model)?;
+        let label = self.number_line("label", 0..=u32::from(MAX_LABEL))?;
         let guard = self.atoms_line("when", model)?;
         let (updates, order) = self.set_line(model)?;
         let clock_updates = self.reset_line(model)?;
-        Ok(Edge { source, target, guard, updates, order, clock_updates })
+        Ok(Edge { source, target, label, guard, updates, order, clock_updates })
     }
 
     /// The value of the due line, or 2: no LF, or not the due key and `=`.
@@ -415,6 +416,7 @@ pub fn write(model: &Model) -> Result<String, Refusal> {
     for edge in model.used_edges() {
         lines.push(format!("from={}", edge.source));
         lines.push(format!("to={}", edge.target));
+        lines.push(format!("label={}", edge.label));
         lines.push(format!("when={}", written_atoms(&edge.guard)));
         lines.push(format!("set={}", written_updates(edge)));
         lines.push(format!("reset={}", written_clock_updates(&edge.clock_updates)));

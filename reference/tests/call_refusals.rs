@@ -75,10 +75,10 @@ fn edges_block_out_of_range_counters_and_failing_guards() {
     let b = model(MODEL_B);
     assert_eq!(step_call(&b, state(1, 1, 2), 6).0, 28);
     assert_eq!(step_call(&b, state(1, 0, 3), 6).0, 28);
-    let down = model(&with_line(MODEL_B, 20, "set=v0:=v0-1"));
+    let down = model(&with_line(MODEL_B, 22, "set=v0:=v0-1"));
     assert_eq!(step_call(&down, state(1, 0, 2), 6).0, 28);
     assert_eq!(step_call(&down, state(1, 1, 2), 6), (0, state(2, 0, 2)));
-    let constant = model(&with_line(MODEL_B, 20, "set=v0:=31"));
+    let constant = model(&with_line(MODEL_B, 22, "set=v0:=31"));
     assert_eq!(step_call(&constant, state(1, 1, 2), 6).0, 28);
 }
 
@@ -88,7 +88,7 @@ fn edges_ask_for_the_invariant_after_their_resets() {
     assert_eq!(step_call(&entered, state(0, 0, 0), 3).0, 28);
     assert_eq!(step_call(&entered, state(0, 0, 1), 3), (0, state(1, 0, 1)));
     let text = with_line(&with_line(MODEL_A, 4, "clocks=1"), 7, "inv=x0>=1");
-    let reset = model(&with_line(&text, 13, "reset=x0"));
+    let reset = model(&with_line(&text, 14, "reset=x0"));
     assert_eq!(step_call(&reset, state(0, 0, 1), 3).0, 28);
 }
 

@@ -20,8 +20,8 @@ use reference::text::write;
 
 /// SAVES with another guard and other reset items.
 fn with(when: &str, reset: &str) -> Model {
-    let text = with_line(SAVES, 11, &format!("when={when}"));
-    model(&with_line(&text, 13, &format!("reset={reset}")))
+    let text = with_line(SAVES, 12, &format!("when={when}"));
+    model(&with_line(&text, 14, &format!("reset={reset}")))
 }
 
 fn state(location: u8, x0: u8, x1: u8) -> State {
@@ -94,7 +94,7 @@ fn copies_read_beside_every_update_of_their_source() {
 /// A guard is tested before the copies and the target's invariant after them.
 #[test]
 fn guards_come_before_copies_and_invariants_after() {
-    let text = with_line(&with_line(SAVES, 11, "when=x1<=1"), 7, "inv=x1<=1");
+    let text = with_line(&with_line(SAVES, 12, "when=x1<=1"), 7, "inv=x1<=1");
     let tested = model(&text);
     assert_eq!(step_call(&tested, state(0, 1, 1), 3), (0, state(1, 0, 1)));
     assert_eq!(step_call(&tested, state(0, 1, 2), 3), (28, state(0, 1, 2)));
@@ -117,7 +117,7 @@ fn a_wrong_value_of_the_copy_makes_a_clause_false() {
 #[test]
 fn texts_with_copies_are_written_as_they_are_read() {
     for reset in ["x0:=x1", "x0:=x0", "x0,x1:=x0", "x0:=x1,x1", "x0:=x1,x1:=x0", "x1:=x1"] {
-        let text = with_line(SAVES, 13, &format!("reset={reset}"));
+        let text = with_line(SAVES, 14, &format!("reset={reset}"));
         assert_eq!(write(&model(&text)).as_ref(), Ok(&text));
     }
 }

@@ -41,11 +41,11 @@ fn tests_9_then_the_text_then_21() {
     assert_eq!(printed(b"bound=65\nlocations=99\n"), refused(4, 1));
     assert_eq!(printed(b"bound=1\n"), refused(2, 1));
     assert_eq!(printed(format!("bound=65\n{MODEL_B}").as_bytes()), refused(21, 0));
-    assert_eq!(printed(format!("bound=999\n{MODEL_B}\n").as_bytes()), refused(8, 27));
+    assert_eq!(printed(format!("bound=999\n{MODEL_B}\n").as_bytes()), refused(8, 30));
     let cut = MODEL_A.strip_suffix("reset=-\n").unwrap();
-    assert_eq!(printed(format!("bound=1\n{cut}").as_bytes()), refused(2, 13));
+    assert_eq!(printed(format!("bound=1\n{cut}").as_bytes()), refused(2, 14));
     let filler = "\n".repeat(MAX_TEXT - MODEL_A.len());
-    assert_eq!(printed(format!("bound=1\n{MODEL_A}{filler}").as_bytes()), refused(8, 14));
+    assert_eq!(printed(format!("bound=1\n{MODEL_A}{filler}").as_bytes()), refused(8, 15));
     assert_eq!(printed(format!("bound=1\n{MODEL_A}{filler}\n").as_bytes()), refused(1, 0));
 }
 

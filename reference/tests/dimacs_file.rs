@@ -64,7 +64,7 @@ fn numbers_have_as_many_digits_as_they_need() {
 /// range.
 #[test]
 fn a_clause_of_one_literal() {
-    let b = model(&with_line(MODEL_B, 20, "set=v0:=31"));
+    let b = model(&with_line(MODEL_B, 22, "set=v0:=31"));
     let file = file(&b, 1).unwrap();
     assert!(file.contains("\n-18 0\n"));
     assert_eq!(file.lines().filter(|line| line.starts_with('-') && line.split(' ').count() == 2).count(), 1);

@@ -79,6 +79,21 @@ fn damaged_texts_have_wrong_copies() {
     assert!(met.is_superset(&[3, 5, 6].into()), "{met:?}");
 }
 
+/// Texts that are refused where a label is due: 2, 3 and 4, and never 5.
+#[test]
+fn damaged_texts_have_wrong_labels() {
+    let mut met = BTreeSet::new();
+    for seed in 0..2_000 {
+        let text = texts::text(&mut Rng::new(seed));
+        let reading = read(&text);
+        let before: Vec<&[u8]> = text.split(|byte| *byte == b'\n').take((reading.line as usize).saturating_sub(1)).collect();
+        if before.last().map_or(false, |line| line.starts_with(b"to=")) {
+            met.insert(reading.refusal);
+        }
+    }
+    assert_eq!(met, [2, 3, 4].into());
+}
+
 #[test]
 fn size_inputs_meet_every_refusal() {
     let met: BTreeSet<u32> = (0..20_000).map(|seed| sizes(&texts::size_input(&mut Rng::new(seed))).refusal).collect();
@@ -126,6 +141,28 @@ fn damaged_records_have_wrong_copies() {
                 if let Some(first) = wrong.iter().position(|wrong| *wrong) {
                     met[first] += 1;
                 }
+            }
+        }
+    }
+    assert!(met.iter().all(|count| *count >= 20), "{met:?}");
+}
+
+/// Records that are refused for one label alone: above 15, and other than 0 in a slot of
+/// no edge, there above 15 or not.
+#[test]
+fn damaged_records_have_wrong_labels() {
+    let mut met = [0; 3];
+    for seed in 0..5_000 {
+        let model = records::record(&mut Rng::new(seed));
+        let edge = model.edge.map(|edge| Edge { label: 0, ..edge });
+        if well_formed(&model) || !well_formed(&Model { edge, ..model.clone() }) {
+            continue;
+        }
+        for (index, edge) in (0..).zip(&model.edge) {
+            let unused = index >= model.edges;
+            let wrong = [edge.label > 15 && !unused, (1..=15).contains(&edge.label) && unused, edge.label > 15 && unused];
+            for (count, wrong) in met.iter_mut().zip(wrong) {
+                *count += usize::from(wrong);
             }
         }
     }

@@ -167,6 +167,6 @@ fn longest_text() -> Model {
 fn the_longest_text_fits_the_reader() {
     let model = longest_text();
     let text = write(&model).unwrap();
-    assert_eq!(text.len(), 4_608);
+    assert_eq!(text.len(), 4_896);
     assert_eq!(read(text.as_bytes()).model, model);
 }

@@ -80,6 +80,20 @@ fn edges_at_every_byte() {
     }
 }
 
+/// A label is at most 15, and 0 in a slot of no edge.
+#[test]
+fn labels_in_every_slot() {
+    for byte in 0..=255 {
+        assert_eq!(after(|m| m.edge[0].label = byte), byte <= 15);
+        for unused in 1..32 {
+            assert_eq!(after(|m| m.edge[unused].label = byte), byte == 0, "edge {unused}, label {byte}");
+        }
+        let mut full = largest();
+        full.edge[31].label = byte;
+        assert_eq!(well_formed(&full), byte <= 15);
+    }
+}
+
 /// Whether the pair model is well formed if its edge sets these counters to 1 and has
 /// this order.
 fn ordered(counters: &[usize], order: [u8; 4]) -> bool {
@@ -230,6 +244,14 @@ fn every_call_refuses_a_malformed_record_first() {
     let mut record = model(PAIR);
     record.edge[0].clock_updates[0] = ClockUpdate::Copy(2);
     refused_by_every_call(record);
+    for (edge, label) in [(0, 16), (1, 5)] {
+        let mut record = model_b();
+        record.edges = 1;
+        record.edge[1..].fill(Edge::BLANK);
+        assert!(well_formed(&record));
+        record.edge[edge].label = label;
+        refused_by_every_call(record);
+    }
 }
 
 fn refused_by_every_call(record: Model) {

@@ -1,6 +1,7 @@
 //! The lists of shipped models, by their words and a digest. In these models no update
 //! reads a counter that is set earlier in its list and no clock is copied: the lists
-//! depend neither on the order of updates nor on copies.
+//! depend neither on the order of updates nor on copies. Nor do they depend on labels,
+//! which one of the models has.
 
 use std::path::Path;
 
@@ -71,6 +72,13 @@ fn lists_are_the_stored_ones() {
 #[test]
 fn one_model_alone_reads_a_counter_set_earlier() {
     assert_eq!(with(reads_a_counter_set_earlier), ["boot_logger_checkpoint.txt"]);
+}
+
+#[test]
+fn one_model_alone_has_labels() {
+    let labelled = with(|model| model.used_edges().iter().any(|edge| edge.label != 0));
+    assert_eq!(labelled, ["boot_logger_kicked.txt"]);
+    assert!(LISTS.iter().any(|(name, ..)| format!("{name}.txt") == labelled[0]));
 }
 
 #[test]

@@ -55,13 +55,13 @@ fn tests_9_then_the_text_then_21_then_22() {
     assert_eq!(numbers(&format!("bound=65\n{MODEL_B}")), [21, 0, 0, 0, 0]);
     assert_eq!(numbers(&format!("bound=999\n{MODEL_B}")), [21, 0, 0, 0, 0]);
     assert_eq!(numbers(&format!("bound=64\n{MODEL_B}"))[..2], [22, 0]);
-    assert_eq!(numbers(&format!("bound=65\n{MODEL_B}\n")), [8, 27, 0, 0, 0]);
+    assert_eq!(numbers(&format!("bound=65\n{MODEL_B}\n")), [8, 30, 0, 0, 0]);
 }
 
 #[test]
 fn length_counts_the_model_text_alone() {
     let filler = "\n".repeat(MAX_TEXT - MODEL_A.len());
-    assert_eq!(numbers(&format!("bound=1\n{MODEL_A}{filler}")), [8, 14, 0, 0, 0]);
+    assert_eq!(numbers(&format!("bound=1\n{MODEL_A}{filler}")), [8, 15, 0, 0, 0]);
     assert_eq!(numbers(&format!("bound=1\n{MODEL_A}{filler}\n")), [1, 0, 0, 0, 0]);
 }
 

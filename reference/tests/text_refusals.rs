@@ -3,28 +3,9 @@
 
 mod common;
 
-use common::{model, with_line, MODEL_A, MODEL_B, PAIR};
+use common::{check, model, refusal, with_line, MODEL_A, MODEL_B, PAIR};
 use reference::model::{Atom, ClockUpdate, Edge, Model, Relation, Update};
-use reference::text::{read, MAX_TEXT};
-
-/// The number and line of a reading; a refused one gives the blank model.
-fn refusal(text: &[u8]) -> (u32, u32) {
-    let reading = read(text);
-    if reading.refusal != 0 {
-        assert_eq!(reading.model, Model::blank());
-    }
-    (reading.refusal, reading.line)
-}
-
-/// Puts each replacement into a line and compares the refusal numbers. The line
-/// is the one replaced, or 0 for an accepted text.
-fn check(base: &str, line: usize, rows: &[(&str, u32)]) {
-    for (replacement, number) in rows {
-        let expected = if *number == 0 { (0, 0) } else { (*number, line as u32) };
-        let text = with_line(base, line, replacement);
-        assert_eq!(refusal(text.as_bytes()), expected, "line {line}: {replacement:?}");
-    }
-}
+use reference::text::MAX_TEXT;
 
 /// A text with `count` copies of some lines after line `line`.
 fn with_copies(base: &str, line: usize, copies: &str, count: usize) -> String {
@@ -36,7 +17,7 @@ fn with_copies(base: &str, line: usize, copies: &str, count: usize) -> String {
 fn refusal_1_length_of_the_text() {
     let mut text = MODEL_A.as_bytes().to_vec();
     text.resize(MAX_TEXT, b'\n');
-    assert_eq!(refusal(&text), (8, 14));
+    assert_eq!(refusal(&text), (8, 15));
     text.push(b'\n');
     assert_eq!(refusal(&text), (1, 0));
     assert_eq!(refusal(&vec![b'x'; MAX_TEXT]), (2, 1));
@@ -64,9 +45,10 @@ fn refusal_2_key_and_line_end() {
     );
     check(MODEL_A, 6, &[("var=0,0", 2), ("invs=-", 2), ("inv", 2)]);
     check(PAIR, 6, &[("vars=1", 2), ("inv=-", 2)]);
-    check(PAIR, 13, &[("set=-", 2), ("when", 2)]);
+    check(PAIR, 13, &[("when=-", 2), ("label", 2), ("labels=0", 2), ("Label=0", 2), (" label=0", 2), ("", 2)]);
+    check(PAIR, 14, &[("set=-", 2), ("when", 2), ("label=0", 2)]);
     let whole = MODEL_A.as_bytes();
-    assert_eq!(refusal(&whole[..whole.len() - 1]), (2, 13));
+    assert_eq!(refusal(&whole[..whole.len() - 1]), (2, 14));
     // No LF comes before the value is tried.
     assert_eq!(refusal(b"locations=999"), (2, 1));
 }
@@ -122,6 +104,32 @@ fn refusal_3_numbers() {
     );
 }
 
+/// A label is a number: a hyphen, an item or several numbers are not of its form.
+#[test]
+fn refusal_3_labels() {
+    check(
+        PAIR,
+        13,
+        &[
+            ("label=0", 0),
+            ("label=9", 0),
+            ("label=", 3),
+            ("label=-", 3),
+            ("label=00", 3),
+            ("label=01", 3),
+            ("label=1000", 3),
+            ("label=x0", 3),
+            ("label=v0", 3),
+            ("label=1,2", 3),
+            ("label=-1", 3),
+            ("label=+1", 3),
+            ("label=1 ", 3),
+            ("label=1\r", 3),
+            ("label=kick", 3),
+        ],
+    );
+}
+
 #[test]
 fn refusal_3_invariants() {
     check(
@@ -170,7 +178,7 @@ fn refusal_3_invariants() {
 fn refusal_3_guards() {
     check(
         PAIR,
-        13,
+        14,
         &[
             ("when=-", 0),
             ("when=v0!=1", 0),
@@ -193,7 +201,7 @@ fn refusal_3_guards() {
 fn refusal_3_updates_and_resets() {
     check(
         PAIR,
-        14,
+        15,
         &[
             ("set=-", 0),
             ("set=v0:=0", 0),
@@ -223,7 +231,7 @@ fn refusal_3_updates_and_resets() {
     );
     check(
         PAIR,
-        15,
+        16,
         &[
             ("reset=-", 0),
             ("reset=x0", 0),
@@ -243,7 +251,7 @@ fn refusal_3_updates_and_resets() {
 fn refusal_3_copies_of_clocks() {
     check(
         PAIR,
-        15,
+        16,
         &[
             ("reset=x0:=x1", 0),
             ("reset=x0:=x0", 0),
@@ -276,7 +284,7 @@ fn refusal_3_copies_of_clocks() {
             ("reset=x0:=X1", 3),
         ],
     );
-    check(PAIR, 14, &[("set=x0:=x1", 3), ("set=v0:=1,x0:=x1", 3)]);
+    check(PAIR, 15, &[("set=x0:=x1", 3), ("set=v0:=1,x0:=x1", 3)]);
 }
 
 #[test]
@@ -285,16 +293,22 @@ fn refusal_4_ranges() {
     check(MODEL_A, 4, &[("clocks=0", 0), ("clocks=4", 0), ("clocks=5", 4)]);
     check(MODEL_A, 5, &[("vars=5", 4), ("vars=999", 4)]);
     check(MODEL_A, 8, &[("edges=33", 4)]);
+    // Labels name nothing that is declared: 4, never 5.
+    check(
+        MODEL_A,
+        11,
+        &[("label=15", 0), ("label=16", 4), ("label=17", 4), ("label=255", 4), ("label=256", 4), ("label=999", 4)],
+    );
     check(
         PAIR,
         6,
         &[("var=31,31", 0), ("var=0,0", 0), ("var=32,0", 4), ("var=3,4", 4), ("var=0,1", 4), ("var=32,32", 4), ("var=31,32", 4)],
     );
     check(PAIR, 8, &[("inv=x0<=30", 0), ("inv=x0<=31", 4), ("inv=x0<=0,x1<999", 4)]);
-    check(PAIR, 13, &[("when=x0<=30", 0), ("when=x0<=31", 4), ("when=v0<=31", 0), ("when=v0<=32", 4), ("when=v0!=32", 4)]);
+    check(PAIR, 14, &[("when=x0<=30", 0), ("when=x0<=31", 4), ("when=v0<=31", 0), ("when=v0<=32", 4), ("when=v0!=32", 4)]);
     check(
         PAIR,
-        14,
+        15,
         &[
             ("set=v0:=31", 0),
             ("set=v0:=32", 4),
@@ -312,8 +326,8 @@ fn refusal_4_sizes_taken_at_their_greatest() {
     assert_eq!(refusal(locations.as_bytes()), (0, 0));
     let counters = with_line(&with_copies(MODEL_A, 5, "var=31,31\n", 4), 5, "vars=4");
     assert_eq!(refusal(counters.as_bytes()), (0, 0));
-    let edge = "from=0\nto=1\nwhen=-\nset=-\nreset=-\n";
-    let edges = with_line(&with_copies(MODEL_A, 13, edge, 31), 8, "edges=32");
+    let edge = "from=0\nto=1\nlabel=0\nwhen=-\nset=-\nreset=-\n";
+    let edges = with_line(&with_copies(MODEL_A, 14, edge, 31), 8, "edges=32");
     assert_eq!(refusal(edges.as_bytes()), (0, 0));
     let one = "locations=1\ninit=0\ntarget=0\nclocks=0\nvars=0\ninv=-\nedges=0\n";
     assert_eq!(model(one), Model::blank());
@@ -327,19 +341,19 @@ fn refusal_5_declarations() {
     check(MODEL_A, 9, &[("from=1", 0), ("from=2", 5), ("from=999", 5)]);
     check(MODEL_A, 10, &[("to=0", 0), ("to=2", 5)]);
     check(PAIR, 8, &[("inv=x1<1", 0), ("inv=x2<1", 5), ("inv=x0<1,x4<1", 5)]);
-    check(PAIR, 13, &[("when=x2<1", 5), ("when=v1<1", 0), ("when=v2<1", 5)]);
-    check(PAIR, 14, &[("set=v1:=1", 0), ("set=v2:=1", 5), ("set=v999:=1", 5), ("set=v0:=v2+0", 5), ("set=v0:=v1+0", 0)]);
-    check(PAIR, 15, &[("reset=x1", 0), ("reset=x2", 5)]);
-    check(PAIR, 15, &[("reset=x0:=x1", 0), ("reset=x0:=x2", 5), ("reset=x0:=x999", 5), ("reset=x2:=x0", 5), ("reset=x2:=x2", 5)]);
-    check(&with_line(PAIR, 4, "clocks=0"), 15, &[("reset=-", 0), ("reset=x0:=x0", 5)]);
-    check(&with_line(PAIR, 4, "clocks=4"), 15, &[("reset=x3:=x0,x2:=x3", 6), ("reset=x0:=x3,x3:=x2", 0), ("reset=x0:=x4", 5)]);
+    check(PAIR, 14, &[("when=x2<1", 5), ("when=v1<1", 0), ("when=v2<1", 5)]);
+    check(PAIR, 15, &[("set=v1:=1", 0), ("set=v2:=1", 5), ("set=v999:=1", 5), ("set=v0:=v2+0", 5), ("set=v0:=v1+0", 0)]);
+    check(PAIR, 16, &[("reset=x1", 0), ("reset=x2", 5)]);
+    check(PAIR, 16, &[("reset=x0:=x1", 0), ("reset=x0:=x2", 5), ("reset=x0:=x999", 5), ("reset=x2:=x0", 5), ("reset=x2:=x2", 5)]);
+    check(&with_line(PAIR, 4, "clocks=0"), 16, &[("reset=-", 0), ("reset=x0:=x0", 5)]);
+    check(&with_line(PAIR, 4, "clocks=4"), 16, &[("reset=x3:=x0,x2:=x3", 6), ("reset=x0:=x3,x3:=x2", 0), ("reset=x0:=x4", 5)]);
 }
 
 #[test]
 fn refusal_6_set_twice_or_reset_not_rising() {
     check(
         PAIR,
-        14,
+        15,
         &[
             ("set=v0:=1,v1:=1", 0),
             ("set=v1:=1,v0:=1", 0),
@@ -349,11 +363,11 @@ fn refusal_6_set_twice_or_reset_not_rising() {
             ("set=v1:=1,v0:=1,v1:=0", 6),
         ],
     );
-    check(PAIR, 15, &[("reset=x0,x1", 0), ("reset=x1,x0", 6), ("reset=x0,x0", 6), ("reset=x0,x1,x1", 6)]);
+    check(PAIR, 16, &[("reset=x0,x1", 0), ("reset=x1,x0", 6), ("reset=x0,x0", 6), ("reset=x0,x1,x1", 6)]);
     // The clock set decides, not the clock copied from.
     check(
         PAIR,
-        15,
+        16,
         &[
             ("reset=x0:=x1,x1:=x0", 0),
             ("reset=x1:=x0,x0", 6),
@@ -370,17 +384,17 @@ fn refusal_7_more_than_four_items() {
     let four = ["x0<1"; 4].join(",");
     let five = ["x0<1"; 5].join(",");
     check(PAIR, 8, &[(&format!("inv={four}"), 0), (&format!("inv={five}"), 7)]);
-    check(PAIR, 13, &[(&format!("when={four}"), 0), (&format!("when={five}"), 7)]);
+    check(PAIR, 14, &[(&format!("when={four}"), 0), (&format!("when={five}"), 7)]);
     // 7 is for inv and when alone.
-    check(PAIR, 14, &[("set=v0:=1,v1:=1,v1:=1,v1:=1,v1:=1", 6), ("set=v0:=1,v1:=1,v2:=1,v3:=1,v4:=1", 5)]);
-    check(PAIR, 15, &[("reset=x0,x1,x1,x1,x1", 6), ("reset=x0,x1,x2,x3,x4", 5), ("reset=x0,x1:=x0,x1,x1,x1", 6)]);
+    check(PAIR, 15, &[("set=v0:=1,v1:=1,v1:=1,v1:=1,v1:=1", 6), ("set=v0:=1,v1:=1,v2:=1,v3:=1,v4:=1", 5)]);
+    check(PAIR, 16, &[("reset=x0,x1,x1,x1,x1", 6), ("reset=x0,x1,x2,x3,x4", 5), ("reset=x0,x1:=x0,x1,x1,x1", 6)]);
 }
 
 #[test]
 fn refusal_8_bytes_left() {
     for rest in ["\n", "x", "locations=2\n", "\0"] {
-        assert_eq!(refusal(format!("{MODEL_A}{rest}").as_bytes()), (8, 14));
-        assert_eq!(refusal(format!("{MODEL_B}{rest}").as_bytes()), (8, 27));
+        assert_eq!(refusal(format!("{MODEL_A}{rest}").as_bytes()), (8, 15));
+        assert_eq!(refusal(format!("{MODEL_B}{rest}").as_bytes()), (8, 30));
     }
 }
 
@@ -400,32 +414,37 @@ fn each_number_is_tried_over_the_whole_line() {
             ("inv=x0<31,x7<1", 4),
         ],
     );
-    check(PAIR, 13, &[("when=v9<40", 4), ("when=v9<1,x0<31", 4), ("when=v9<1", 5)]);
-    check(PAIR, 14, &[("set=v1:=1,v0:=v9+0", 5), ("set=v1:=1,v0:=v0+32", 4), ("set=v9:=1,v0:=32", 4), ("set=v9:=32,v0:=1,x", 3)]);
+    check(PAIR, 14, &[("when=v9<40", 4), ("when=v9<1,x0<31", 4), ("when=v9<1", 5)]);
+    check(PAIR, 15, &[("set=v1:=1,v0:=v9+0", 5), ("set=v1:=1,v0:=v0+32", 4), ("set=v9:=1,v0:=32", 4), ("set=v9:=32,v0:=1,x", 3)]);
     // 3, 4 and 5 before 6.
     check(
         PAIR,
-        14,
+        15,
         &[("set=v1:=1,v1:=v9+0", 5), ("set=v0:=1,v1:=1,v0:=1,v1:=1,v0:=32", 4), ("set=v1:=1,v0:=1,x", 3), ("set=v9:=1,v9:=1", 5)],
     );
-    check(PAIR, 15, &[("reset=x1,x0,x2", 5), ("reset=x1,x0,y", 3)]);
-    check(PAIR, 15, &[("reset=x1:=x0,x0:=x9", 5), ("reset=x1:=x9,x0", 5), ("reset=x1:=x9,x0:=0", 3), ("reset=x1,x0:=x", 3)]);
+    check(PAIR, 16, &[("reset=x1,x0,x2", 5), ("reset=x1,x0,y", 3)]);
+    check(PAIR, 16, &[("reset=x1:=x0,x0:=x9", 5), ("reset=x1:=x9,x0", 5), ("reset=x1:=x9,x0:=0", 3), ("reset=x1,x0:=x", 3)]);
 }
 
 #[test]
 fn the_first_bad_line_is_the_one_named() {
     let text = with_line(&with_line(PAIR, 8, "inv=x9<1"), 7, "var=3,4");
     assert_eq!(refusal(text.as_bytes()), (4, 7));
-    let text = with_line(&with_line(PAIR, 14, "set=v1:=1,v1:=1"), 15, "reset=");
-    assert_eq!(refusal(text.as_bytes()), (6, 14));
+    let text = with_line(&with_line(PAIR, 15, "set=v1:=1,v1:=1"), 16, "reset=");
+    assert_eq!(refusal(text.as_bytes()), (6, 15));
+    let text = with_line(&with_line(PAIR, 13, "label=16"), 14, "when=");
+    assert_eq!(refusal(text.as_bytes()), (4, 13));
+    let text = with_line(&with_line(PAIR, 13, "label=16"), 12, "to=2");
+    assert_eq!(refusal(text.as_bytes()), (5, 12));
 }
 
 #[test]
 fn items_fill_the_record() {
     let mut text = with_line(PAIR, 8, "inv=x0<=3,x1>0");
-    text = with_line(&text, 13, "when=v1!=2,x1>=4");
-    text = with_line(&text, 14, "set=v0:=v1-3,v1:=9");
-    text = with_line(&text, 15, "reset=x0:=x1,x1");
+    text = with_line(&text, 13, "label=7");
+    text = with_line(&text, 14, "when=v1!=2,x1>=4");
+    text = with_line(&text, 15, "set=v0:=v1-3,v1:=9");
+    text = with_line(&text, 16, "reset=x0:=x1,x1");
     let found = model(&text);
     assert_eq!(
         found.invariant[0][..3],
@@ -434,6 +453,7 @@ fn items_fill_the_record() {
     let expected = Edge {
         source: 0,
         target: 1,
+        label: 7,
         guard: [Atom::counter(1, Relation::NotEqual, 2), Atom::clock(1, Relation::GreaterEqual, 4), Atom::Blank, Atom::Blank],
         updates: [Update::Sum { source: 1, offset: -3 }, Update::Constant(9), Update::Keep, Update::Keep],
         order: [0, 1, 0, 0],
@@ -444,9 +464,9 @@ fn items_fill_the_record() {
 
 #[test]
 fn plus_zero_is_an_update_and_not_keep() {
-    let found = model(&with_line(PAIR, 14, "set=v0:=v0+0"));
+    let found = model(&with_line(PAIR, 15, "set=v0:=v0+0"));
     assert_eq!(found.edge[0].updates[0], Update::Sum { source: 0, offset: 0 });
     assert_eq!(found.edge[0].updates[1], Update::Keep);
-    let listed = model(&with_line(PAIR, 14, "set=v1:=v1+0,v0:=v0+0"));
+    let listed = model(&with_line(PAIR, 15, "set=v1:=v1+0,v0:=v0+0"));
     assert_eq!((listed.edge[0].order, listed.edge[0].listed()), ([1, 0, 0, 0], &[1, 0][..]));
 }

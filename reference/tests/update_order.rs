@@ -19,7 +19,7 @@ use reference::text::write;
 
 /// C2 with another list of updates.
 fn setting(set: &str) -> Model {
-    model(&with_line(C2, 14, &format!("set={set}")))
+    model(&with_line(C2, 15, &format!("set={set}")))
 }
 
 fn state(location: u8, v0: u8, v1: u8) -> State {
@@ -71,7 +71,7 @@ fn two_copies_are_no_exchange() {
     let falling = setting("v1:=v0+0,v0:=v1+0");
     assert_eq!(step_call(&falling, state(0, 0, 1), 2), (0, state(1, 0, 0)));
     // With a third counter that keeps one of the values the two are exchanged.
-    let text = with_line(&with_line(C2, 5, "vars=3\nvar=1,0"), 15, "set=v2:=v0+0,v0:=v1+0,v1:=v2+0");
+    let text = with_line(&with_line(C2, 5, "vars=3\nvar=1,0"), 16, "set=v2:=v0+0,v0:=v1+0,v1:=v2+0");
     let exchange = model(&text);
     let before = State { location: 0, counters: [0, 1, 0, 0], clocks: [0; 4] };
     let after = State { location: 1, counters: [1, 0, 0, 0], clocks: [0; 4] };
@@ -108,7 +108,7 @@ fn plus_zero_is_listed() {
 #[test]
 fn texts_are_written_in_the_listed_order() {
     for set in ["v0:=1,v1:=v0+0", "v1:=v0+0,v0:=1", "v1:=v1-1", "-"] {
-        let text = with_line(PAIR, 14, &format!("set={set}"));
+        let text = with_line(PAIR, 15, &format!("set={set}"));
         assert_eq!(write(&model(&text)).as_ref(), Ok(&text));
     }
 }

@@ -30,7 +30,7 @@ fn refusal(model: &Model, bound: usize, assignment: &[u8]) -> u32 {
 /// Model A with one clock and these lines for the invariants and the edge.
 fn clocked(inv_0: &str, inv_1: &str, when: &str, reset: &str) -> Model {
     let mut text = with_line(MODEL_A, 4, "clocks=1");
-    for (line, value) in [(6, inv_0), (7, inv_1), (11, when), (13, reset)] {
+    for (line, value) in [(6, inv_0), (7, inv_1), (12, when), (14, reset)] {
         text = with_line(&text, line, value);
     }
     model(&text)
@@ -53,7 +53,7 @@ fn counters_that_an_edge_does_not_set_stay() {
 
 #[test]
 fn two_edges_never_fire_at_once() {
-    let twice = "from=0\nto=1\nwhen=-\nset=-\nreset=-\n";
+    let twice = "from=0\nto=1\nlabel=0\nwhen=-\nset=-\nreset=-\n";
     let text = with_line(MODEL_A, 8, "edges=2") + twice;
     let both = model(&text);
     let numbering = Numbering::of(&both);
@@ -120,11 +120,13 @@ inv=-
 edges=2
 from=0
 to=1
+label=0
 when=x1>=1
 set=-
 reset=x0
 from=1
 to=2
+label=0
 when=-
 set=-
 reset=x0,x1:=x0

@@ -120,7 +120,7 @@ fn shares(tally: &mut Tally, pairs: &[Pair], by_all: usize) {
 type ModelShare = (&'static str, usize, fn(&Model) -> bool);
 
 /// What models must have, and how many at least.
-const MODEL_SHARES: [ModelShare; 13] = [
+const MODEL_SHARES: [ModelShare; 15] = [
     ("with clocks", 150, |m| m.clocks > 0),
     ("with counters", 150, |m| m.counters > 0),
     ("with an invariant", 100, |m| m.invariant.iter().any(|atoms| *atoms != NO_ATOMS)),
@@ -140,6 +140,8 @@ const MODEL_SHARES: [ModelShare; 13] = [
     ("with a copy of a clock that is reset", 40, |m| {
         copies(m, |e, _, source| e.clock_updates[usize::from(source)] == ClockUpdate::Reset)
     }),
+    ("with a label other than 0", 150, labelled),
+    ("with a private edge beside one that is not", 100, |m| labelled(m) && m.used_edges().iter().any(|e| e.label == 0)),
 ];
 
 fn guarded(model: &Model, sort: fn(&Atom) -> bool) -> bool {
@@ -148,6 +150,10 @@ fn guarded(model: &Model, sort: fn(&Atom) -> bool) -> bool {
 
 fn updates(model: &Model, sort: fn(&Update) -> bool) -> bool {
     model.used_edges().iter().any(|edge| edge.updates.iter().any(sort))
+}
+
+fn labelled(model: &Model) -> bool {
+    model.used_edges().iter().any(|edge| edge.label != 0)
 }
 
 /// Whether some edge has such a copy; it is given the edge, the clock set and the clock copied from.

@@ -27,7 +27,8 @@ usage:
 
 MODEL is a file with a model text, or - for standard input. NAME is cadical, minisat or picosat; without
 --solver the first of them that is on the path is run. A step byte is d for a delay of d ticks (0 to the
-ceiling M) and M+1+e for edge e. In a trace a clock that shows M is printed as M+, since it means M or more.
+ceiling M) and M+1+e for edge e. In a trace a clock that shows M is printed as M+, since it means M or more,
+and an edge whose label is not 0 is printed with it.
 
 exit status:
   0   size, dimacs, explain, help: done

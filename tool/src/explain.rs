@@ -14,8 +14,8 @@ pub fn sentence(number: u8) -> Option<&'static str> {
              an offset of 0 is +0, an item of reset is a clock or a copy such as x0:=x1"
         }
         4 => {
-            "a number is outside its range: locations 1 to 16, clocks and vars 0 to 4, edges 0 to 32, clock constants 0 to 30, \
-              counter values and offsets up to 31, an initial value up to its greatest value"
+            "a number is outside its range: locations 1 to 16, clocks and vars 0 to 4, edges 0 to 32, labels 0 to 15, \
+             clock constants 0 to 30, counter values and offsets up to 31, an initial value up to its greatest value"
         }
         5 => "a location, clock or counter is not declared; of a copy such as x0:=x1, either clock",
         6 => "a counter is set twice in one edge, or the clocks that reset sets do not rise from left to right",
@@ -138,7 +138,7 @@ fn hints(text: &[u8], number: u8, line: usize) -> Vec<String> {
 /// The key that is due in a line, if all lines before it are in order.
 fn due_key(text: &[u8], line: usize) -> Option<&'static str> {
     const HEAD: [&str; 5] = ["locations", "init", "target", "clocks", "vars"];
-    const EDGE: [&str; 5] = ["from", "to", "when", "set", "reset"];
+    const EDGE: [&str; 6] = ["from", "to", "label", "when", "set", "reset"];
     let place = line.checked_sub(1)?;
     if place < HEAD.len() {
         return Some(HEAD[place]);
@@ -218,8 +218,8 @@ mod tests {
     #[test]
     fn the_due_key_follows_the_declared_numbers() {
         let text = b"locations=3\ninit=0\ntarget=0\nclocks=0\nvars=2\n";
-        let keys: Vec<_> = (1..=18).map(|line| due_key(text, line).unwrap()).collect();
-        let expected = "locations init target clocks vars var var inv inv inv edges from to when set reset from to";
+        let keys: Vec<_> = (1..=19).map(|line| due_key(text, line).unwrap()).collect();
+        let expected = "locations init target clocks vars var var inv inv inv edges from to label when set reset from to";
         assert_eq!(keys.join(" "), expected);
         assert_eq!(due_key(b"locations=3\n", 6), None);
         assert_eq!(due_key(text, 0), None);

@@ -1,18 +1,21 @@
-//! The states that a run passes, as a table. The states come from the proved step call.
+//! The states that a run passes, as a table. The states come from the proved step call; the labels of edges are read from the text,
+//! which the proved reader has accepted.
 
 use crate::library::{self, Shape, State};
 
-/// A row: the choice that led here (none in the first row), the state, and the ticks that have passed.
+/// A row: the choice that led here (none in the first row), its edge's label (0 if it is a delay), the state, and the ticks that have
+/// passed.
 #[derive(Clone, Copy, Debug, PartialEq, Eq)]
 pub struct Row {
     pub choice: Option<u8>,
+    pub label: u8,
     pub state: State,
     pub elapsed: usize,
 }
 
 /// The rows of a run from the initial state up to its end, or up to its first step that is refused.
 pub fn rows(text: &[u8], shape: &Shape, run: &[u8]) -> Vec<Row> {
-    let mut row = Row { choice: None, state: library::initial(text).state, elapsed: 0 };
+    let mut row = Row { choice: None, label: 0, state: library::initial(text).state, elapsed: 0 };
     let mut rows = vec![row];
     for byte in run {
         let answer = library::step(text, row.state, *byte);
@@ -20,18 +23,34 @@ pub fn rows(text: &[u8], shape: &Shape, run: &[u8]) -> Vec<Row> {
             break;
         }
         // A delay of d is d ticks, at the ceiling too: only what clocks show is cut there.
-        let ticks = if usize::from(*byte) <= shape.ceiling { usize::from(*byte) } else { 0 };
-        row = Row { choice: Some(*byte), state: answer.state, elapsed: row.elapsed + ticks };
+        let (label, ticks) = match edge(shape.ceiling, *byte) {
+            None => (0, usize::from(*byte)),
+            Some(edge) => (label(text, edge), 0),
+        };
+        row = Row { choice: Some(*byte), label, state: answer.state, elapsed: row.elapsed + ticks };
         rows.push(row);
     }
     rows
 }
 
-/// What a step byte stands for.
-pub fn choice(ceiling: usize, byte: u8) -> String {
-    match usize::from(byte).checked_sub(ceiling + 1) {
-        None => format!("delay {}", byte),
-        Some(edge) => format!("edge {}", edge),
+/// The edge that a step byte stands for; none for a delay.
+fn edge(ceiling: usize, byte: u8) -> Option<usize> {
+    usize::from(byte).checked_sub(ceiling + 1)
+}
+
+/// The label of an edge in a text that is accepted: it has a `label=` line for each edge, in their order.
+fn label(text: &[u8], edge: usize) -> u8 {
+    let mut values = text.split(|byte| *byte == b'\n').filter_map(|line| line.strip_prefix(b"label="));
+    let value = values.nth(edge).and_then(|value| std::str::from_utf8(value).ok());
+    value.and_then(|number| number.parse().ok()).unwrap_or(0)
+}
+
+/// What a step byte stands for, with the label of an edge that is not private.
+fn choice(ceiling: usize, byte: u8, label: u8) -> String {
+    match (edge(ceiling, byte), label) {
+        (None, _) => format!("delay {}", byte),
+        (Some(edge), 0) => format!("edge {}", edge),
+        (Some(edge), label) => format!("edge {}, label {}", edge, label),
     }
 }
 
@@ -53,7 +72,7 @@ fn headings(shape: &Shape) -> Vec<String> {
 }
 
 fn cells(shape: &Shape, step: usize, row: &Row) -> Vec<String> {
-    let choice = row.choice.map_or("-".to_string(), |byte| choice(shape.ceiling, byte));
+    let choice = row.choice.map_or("-".to_string(), |byte| choice(shape.ceiling, byte, row.label));
     let mut line = vec![step.to_string(), choice, row.state.location.to_string()];
     let counters = row.state.counters.iter().take(usize::from(shape.counters));
     line.extend(counters.map(|value| value.to_string()));
@@ -84,7 +103,7 @@ fn joined(line: &[String], widths: &[usize]) -> String {
 
 #[cfg(test)]
 mod tests {
-    use super::{choice, table, Row};
+    use super::{choice, label, table, Row};
     use crate::library::{Shape, State};
 
     fn shape(counters: u8, clocks: u8, ceiling: usize) -> Shape {
@@ -92,15 +111,32 @@ mod tests {
     }
 
     fn row(choice: Option<u8>, location: u8, counters: [u8; 4], clocks: [u8; 4], elapsed: usize) -> Row {
-        Row { choice, state: State { location, counters, clocks }, elapsed }
+        Row { choice, label: 0, state: State { location, counters, clocks }, elapsed }
     }
 
     #[test]
     fn step_bytes_are_delays_up_to_the_ceiling_and_then_edges() {
-        assert_eq!(choice(4, 0), "delay 0");
-        assert_eq!(choice(4, 4), "delay 4");
-        assert_eq!(choice(4, 5), "edge 0");
-        assert_eq!(choice(31, 63), "edge 31");
+        assert_eq!(choice(4, 0, 0), "delay 0");
+        assert_eq!(choice(4, 4, 0), "delay 4");
+        assert_eq!(choice(4, 5, 0), "edge 0");
+        assert_eq!(choice(31, 63, 0), "edge 31");
+    }
+
+    #[test]
+    fn labels_other_than_0_stand_beside_their_edges() {
+        assert_eq!(choice(4, 5, 1), "edge 0, label 1");
+        assert_eq!(choice(31, 63, 15), "edge 31, label 15");
+        let rows = [row(None, 0, [0; 4], [0; 4], 0), Row { label: 9, ..row(Some(2), 1, [0; 4], [0; 4], 0) }];
+        let expected = "step  choice           location  elapsed\n\
+                        \u{20}  0  -                       0        0\n\
+                        \u{20}  1  edge 0, label 9         1        0\n";
+        assert_eq!(table(&shape(0, 0, 1), &rows), expected);
+    }
+
+    #[test]
+    fn each_edge_has_the_label_of_its_own_line() {
+        let text = b"edges=3\nfrom=0\nto=0\nlabel=15\nwhen=-\nfrom=1\nto=1\nlabel=0\nwhen=-\nfrom=2\nto=2\nlabel=7\n";
+        assert_eq!([0, 1, 2, 3].map(|edge| label(text, edge)), [15, 0, 7, 0]);
     }
 
     #[test]

@@ -23,12 +23,12 @@ bound 3: 68 variables, 424 clauses, satisfiable
 
 /// A clock that must show more than 3, so the ceiling is 4; then two rounds that count v0 up to 2.
 const SLOW: &str = "locations=2\ninit=0\ntarget=1\nclocks=1\nvars=1\nvar=2,0\ninv=-\ninv=-\nedges=2\n\
-                    from=0\nto=0\nwhen=x0>3\nset=v0:=v0+1\nreset=x0\n\
-                    from=0\nto=1\nwhen=x0>3,v0=2\nset=-\nreset=-\n";
+                    from=0\nto=0\nlabel=0\nwhen=x0>3\nset=v0:=v0+1\nreset=x0\n\
+                    from=0\nto=1\nlabel=0\nwhen=x0>3,v0=2\nset=-\nreset=-\n";
 
 /// The target cannot be reached: its one edge needs a value that no edge sets.
 const CLOSED: &str = "locations=2\ninit=0\ntarget=1\nclocks=0\nvars=1\nvar=3,0\ninv=-\ninv=-\nedges=1\n\
-                      from=0\nto=1\nwhen=v0>=1\nset=-\nreset=-\n";
+                      from=0\nto=1\nlabel=0\nwhen=v0>=1\nset=-\nreset=-\n";
 
 #[test]
 fn the_shortest_run_of_the_logger() {
@@ -137,6 +137,54 @@ step  choice   location  x0  x1  x2  elapsed
 step bytes: 8 3 10 3 11
 ";
     check_run("retry_saved.txt", &["8", "3", "10", "3", "11"], expected);
+}
+
+/// Labels other than 0 stand beside their edges. What solvers are given is the list of the text without them.
+#[test]
+fn labels_stand_beside_their_edges() {
+    let expected = "\
+a run of 3 steps reaches the target
+step  choice            location  v0  x0  elapsed
+   0  -                        0   0   0        0
+   1  edge 0, label 15         1   0   0        0
+   2  delay 3                  1   0   3        3
+   3  edge 2, label 2          3   0   3        3
+step bytes: 5 3 7
+";
+    let text = model_text("logger_b.txt").replace("to=1\nlabel=0", "to=1\nlabel=15").replace("to=3\nlabel=0", "to=3\nlabel=2");
+    for solver in SOLVERS {
+        let outcome = wirdoku_with_input(&["check", "-", "--solver", solver], text.as_bytes());
+        assert_eq!(
+            (outcome.status, outcome.out.as_str(), outcome.err.as_str()),
+            (10, expected, LOGGER_PROGRESS),
+            "{:?}",
+            outcome
+        );
+    }
+}
+
+/// The labels of the shipped model, beside edges that are private.
+#[test]
+fn kicks_and_a_watchdog_that_fires() {
+    let expected = "\
+step  choice           location  v0  v1  x0  x1  elapsed
+   0  -                       1   0   0   0   0        0
+   1  delay 1                 1   0   0   1   1        1
+   2  edge 1, label 1         2   1   0   0   0        1
+   3  delay 3                 2   1   0   3   3        4
+   4  edge 2                  0   1   1   3   0        4
+   5  delay 4                 0   1   1   7   4        8
+   6  edge 0                  1   1   1   7   0        8
+   7  delay 1                 1   1   1   8   1        9
+   8  edge 5, label 2         5   1   1   8   1        9
+   9  edge 7, label 3         1   0   0   0   0        9
+step bytes: 1 11 3 12 4 10 1 15 17
+";
+    let path = model("boot_logger_kicked.txt");
+    let outcome = wirdoku(&["walk", &path, "1", "11", "3", "12", "4", "10", "1", "15", "17"]);
+    let (verdict, table) = outcome.out.split_once('\n').unwrap();
+    assert!(verdict.starts_with("no run into the target: refusal 30: "), "{}", verdict);
+    assert_eq!((outcome.status, table), (20, expected));
 }
 
 /// The run is walked to this table, and solvers find a run of that length and no shorter one.

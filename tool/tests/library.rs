@@ -82,7 +82,7 @@ fn texts_are_read() {
     assert_eq!(library::read(b""), answer(2, 1));
     assert_eq!(library::read(&[b'\n'; 8193]), answer(1, 0));
     let text = [&b()[..], b"\n"].concat();
-    assert_eq!(library::read(&text), answer(8, 27));
+    assert_eq!(library::read(&text), answer(8, 30));
 }
 
 #[test]
@@ -194,7 +194,7 @@ fn steps_from_states() {
 #[test]
 fn all_slots_of_a_state_arrive() {
     let text = b"locations=2\ninit=0\ntarget=1\nclocks=4\nvars=4\nvar=9,1\nvar=9,2\nvar=9,3\nvar=9,4\ninv=-\ninv=-\nedges=1\n\
-                 from=0\nto=1\nwhen=x0<=30\nset=v0:=v3+0,v1:=v2+4,v2:=v1-6,v3:=v0-2\nreset=x1,x3\n";
+                 from=0\nto=1\nlabel=6\nwhen=x0<=30\nset=v0:=v3+0,v1:=v2+4,v2:=v1-6,v3:=v0-2\nreset=x1,x3\n";
     let start = State { location: 0, counters: [1, 2, 3, 4], clocks: [0; 4] };
     assert_eq!(library::initial(text), state_answer(0, 0, start));
     let before = State { clocks: [5, 6, 7, 8], ..start };
@@ -220,10 +220,10 @@ fn updates_happen_in_their_written_order() {
         assert_eq!(library::emit(&text, 1, &mut out), sizes(0, 0, 15, 38, 126), "{}", set);
         assert!(out.windows(8).any(|words| words == clauses), "{}", set);
     }
-    assert_eq!(library::read(&text("v1:=1,v0:=1,v1:=0")), answer(6, 14));
+    assert_eq!(library::read(&text("v1:=1,v0:=1,v1:=0")), answer(6, 15));
 }
 
-/// Model A with two clocks, and a guard and reset items of its edge, which stand in lines 11 and 13.
+/// Model A with two clocks, and a guard and reset items of its edge, which stand in lines 12 and 14.
 fn two_clocks(when: &str, reset: &str) -> Vec<u8> {
     let clocks = model_text("a.txt").replace("clocks=0", "clocks=2").replace("\nwhen=-", &format!("\nwhen={}", when));
     clocks.replace("\nreset=-", &format!("\nreset={}", reset)).into_bytes()
@@ -268,8 +268,57 @@ fn copies_of_clocks_in_texts() {
         ("x0:=x1,x0", 6),
     ];
     for (reset, number) in cases {
-        let line = if number == 0 { 0 } else { 13 };
+        let line = if number == 0 { 0 } else { 14 };
         assert_eq!(library::read(&two_clocks("-", reset)), answer(number, line), "{}", reset);
+    }
+}
+
+/// The first label line of model B is line 14, the second line 20.
+#[test]
+fn labels_in_texts() {
+    let cases = [
+        ("label=15", 0),
+        ("label=16", 4),
+        ("label=999", 4),
+        ("label=1000", 3),
+        ("label=015", 3),
+        ("label=-", 3),
+        ("label=", 3),
+        ("label=x1", 3),
+        ("when=-", 2),
+        ("Label=1", 2),
+    ];
+    for (label, number) in cases {
+        let line = if number == 0 { 0 } else { 14 };
+        let text = model_text("logger_b.txt").replacen("label=0", label, 1);
+        assert_eq!(library::read(text.as_bytes()), answer(number, line), "{}", label);
+    }
+    let second_missing = model_text("logger_b.txt").replace("to=2\nlabel=0\n", "to=2\n");
+    assert_eq!(library::read(second_missing.as_bytes()), answer(2, 20));
+    let without_labels = model_text("logger_b.txt").replace("label=0\n", "");
+    assert_eq!(library::read(without_labels.as_bytes()), answer(2, 14));
+}
+
+#[test]
+fn lists_and_runs_do_not_depend_on_labels() {
+    let private = b();
+    let labelled = model_text("logger_b.txt").replace("label=0", "label=15").into_bytes();
+    assert_ne!(labelled, private);
+    assert_eq!(library::shape(&labelled), library::shape(&private));
+    let [list, other] = [&private, &labelled].map(|text| {
+        let mut words = vec![i32::MIN; 1516];
+        assert_eq!(library::emit(text, 3, &mut words), sizes(0, 0, 68, 424, 1516));
+        words
+    });
+    assert_eq!(list, other);
+    let [file, other] = [&private, &labelled].map(|text| {
+        let mut bytes = vec![UNTOUCHED; 4_824];
+        assert_eq!(library::dimacs(text, 3, &mut bytes), file_answer(0, 0, 4_824));
+        bytes
+    });
+    assert_eq!(file, other);
+    for run in [&[5, 3, 7][..], &[5, 4, 7], &[5, 3], &[5, 3, 8]] {
+        assert_eq!(library::walk(&labelled, run), library::walk(&private, run), "{:?}", run);
     }
 }
 

@@ -31,31 +31,36 @@ const fn case(old: &'static str, new: &'static str, number: u8, line: usize, sho
     Case { old, new, number, line, shown }
 }
 
-const CASES: [Case; 24] = [
+const CASES: [Case; 29] = [
     case("locations=4\n", "places=4\n", 2, 1, "places=4\n    due here: locations="),
     case("var=1,0\n", "", 2, 6, "inv=-\n    due here: var="),
     case("edges=3", "edge=3", 2, 11, "edge=3\n    due here: edges="),
-    case("set=v0:=v0+1\n", "", 2, 20, "reset=-\n    due here: set="),
-    case("when=x0>=3\nset=-\nreset=-\n", "when=x0>=3\n", 2, 25, "(the text ends before this line)\n    due here: set="),
-    case("set=-\nreset=-\n", "set=-\nreset=-", 2, 26, "reset=-\n    due here: reset=\n    the line has no LF at its end"),
+    case("set=v0:=v0+1\n", "", 2, 22, "reset=-\n    due here: set="),
+    case("when=x0>=3\nset=-\nreset=-\n", "when=x0>=3\n", 2, 28, "(the text ends before this line)\n    due here: set="),
+    case("set=-\nreset=-\n", "set=-\nreset=-", 2, 29, "reset=-\n    due here: reset=\n    the line has no LF at its end"),
+    case("to=3\nlabel=0\n", "to=3\n", 2, 26, "when=x0>=3\n    due here: label="),
+    case("to=1\nlabel=0\n", "to=1\nLabel=1\n", 2, 14, "Label=1\n    due here: label="),
     case("init=0", "init=00", 3, 2, "init=00"),
     case("init=0", "init= 0", 3, 2, "init= 0"),
     case("init=0", "init=\t\u{e9}\"", 3, 2, "init=\\t\\xc3\\xa9\""),
     case("inv=x0<=3", "inv=x0!=3", 3, 8, "inv=x0!=3"),
     case("inv=x0<=3", "inv=v0<=1", 3, 8, "inv=v0<=1"),
-    case("reset=x0", "reset=x0:=0", 3, 16, "reset=x0:=0"),
+    case("reset=x0", "reset=x0:=0", 3, 17, "reset=x0:=0"),
+    case("to=2\nlabel=0\n", "to=2\nlabel=-\n", 3, 20, "label=-"),
+    case("to=2\nlabel=0\n", "to=2\nlabel=015\n", 3, 20, "label=015"),
     case("locations=4", "locations=17", 4, 1, "locations=17"),
     case("inv=x0<=3", "inv=x0<=31", 4, 8, "inv=x0<=31"),
     case("var=1,0", "var=1,2", 4, 6, "var=1,2"),
+    case("to=1\nlabel=0\n", "to=1\nlabel=16\n", 4, 14, "label=16"),
     case("target=3", "target=4", 5, 3, "target=4"),
-    case("when=x0>=3", "when=x1>=3", 5, 24, "when=x1>=3"),
-    case("reset=x0", "reset=x0:=x1", 5, 16, "reset=x0:=x1"),
-    case("reset=x0", "reset=x1:=x0", 5, 16, "reset=x1:=x0"),
-    case("set=v0:=v0+1", "set=v0:=v0+1,v0:=1", 6, 20, "set=v0:=v0+1,v0:=1"),
-    case("reset=x0", "reset=x0,x0", 6, 16, "reset=x0,x0"),
-    case("reset=x0", "reset=x0:=x0,x0", 6, 16, "reset=x0:=x0,x0"),
+    case("when=x0>=3", "when=x1>=3", 5, 27, "when=x1>=3"),
+    case("reset=x0", "reset=x0:=x1", 5, 17, "reset=x0:=x1"),
+    case("reset=x0", "reset=x1:=x0", 5, 17, "reset=x1:=x0"),
+    case("set=v0:=v0+1", "set=v0:=v0+1,v0:=1", 6, 22, "set=v0:=v0+1,v0:=1"),
+    case("reset=x0", "reset=x0,x0", 6, 17, "reset=x0,x0"),
+    case("reset=x0", "reset=x0:=x0,x0", 6, 17, "reset=x0:=x0,x0"),
     case("inv=x0<=3", "inv=x0<=3,x0<=3,x0<=3,x0<=3,x0<=3", 7, 8, "inv=x0<=3,x0<=3,x0<=3,x0<=3,x0<=3"),
-    case("when=x0>=3\nset=-\nreset=-\n", "when=x0>=3\nset=-\nreset=-\n\n", 8, 27, "(an empty line)"),
+    case("when=x0>=3\nset=-\nreset=-\n", "when=x0>=3\nset=-\nreset=-\n\n", 8, 30, "(an empty line)"),
 ];
 
 #[test]

@@ -1,8 +1,8 @@
 -- What is claimed of the calls, the page to read first: demands 2 and 3 and the corollary on the shortest run, of the words that emission leaves in the lent
 -- buffer, of any solver's assignment to them, and of what the conversions and the walker answer and leave; that the DIMACS file has those words; the same of
 -- the calls for C on a text; what a solver's output says of the list; that updates happen in their written order; that copies of clocks read the values
--- before the edge; that 16 bits are enough for a number; and the rows. specs/Words.antt, Calls.antt, Files.antt, Texts.antt, Outputs.antt and Cases.antt say
--- what the statements mean; each proof is cited.
+-- before the edge; that labels change no answer; that 16 bits are enough for a number; and the rows. specs/Words.antt, Calls.antt, Files.antt, Texts.antt,
+-- Outputs.antt, Answers.antt and Cases.antt say what the statements mean; each proof is cited.
 use mathlib.Core.Path.{_≡_}
 use mathlib.Core.Logic.{_↔_}
 use mathlib.Core.List.{List, [], _∷_, _++_}
@@ -18,7 +18,7 @@ use Rattle.model.specs.declared.Edge.{Edge}
 use Rattle.model.specs.declared.Model.{Model}
 use Rattle.model.specs.declared.State.{State}
 use Rattle.model.specs.Indexed.{each}
-use Rattle.model.specs.Record.{updateAt, resetAt}
+use Rattle.model.specs.Record.{updateAt, resetAt, edgeAt}
 use Rattle.model.specs.Automaton.{variables, value, counter, clock, listed, updated, edgeStep}
 use Rattle.model.specs.Form.{wellFormed}
 use Rattle.model.proofs.FormLaws.{WellFormed, WellFormedEdge}
@@ -33,7 +33,9 @@ use Rattle.dimacs.specs.DimacsCall.{FileReport}
 use Rattle.dimacs.specs.File.{file}
 use Rattle.list.proofs.SourcesBefore
 use Rattle.list.proofs.SourcesBefore.{itemsFromBefore}
-use Rattle.list.specs.SelfCopies.{SelfCopies}
+use Rattle.list.specs.SelfCopies.{selfModel, SelfCopies}
+use Rattle.list.specs.Labels.{unlabelled}
+use Rattle.list.proofs.LabelLaws
 use Rattle.list.proofs.SelfCopyLaws
 use Rattle.parts.specs.Numbering.{SixteenBits}
 use Rattle.parts.proofs.SixteenBits as SixteenLaws
@@ -57,11 +59,13 @@ use Rattle.claims.specs.Calls.{EmittedWords, EmittedDemand2, EmittedDema
 use Rattle.claims.specs.Files.{Filed, bytesLeft, FiledBytes}
 use Rattle.claims.specs.Texts.{textModel, textCalls, IsRead, Never20, RowTexts}
 use Rattle.claims.specs.Outputs.{SaysSatisfiable, EmittedOutput}
+use Rattle.claims.specs.Answers.{answers, LabelsAlone}
 use Rattle.claims.specs.Cases.{allRowsHold}
 use Rattle.claims.proofs.Within
 use Rattle.claims.proofs.Accepted
 use Rattle.claims.proofs.CallProofs
 use Rattle.claims.proofs.Copies
+use Rattle.claims.proofs.SameAnswers
 use Rattle.claims.proofs.Files
 use Rattle.claims.proofs.Texts
 use Rattle.claims.proofs.Outputs
@@ -240,6 +244,31 @@ copy-beside-reset = Copies.copy-beside-reset
 -- the same list.
 pub self-copies : (m : Model) → T (wellFormed m) → SelfCopies m
 self-copies = SelfCopyLaws.self-copies
+
+-- So every call that takes a record answers both alike.
+pub self-copies-answered : (m : Model) → T (wellFormed m) → answers (selfModel m) ≡ answers m
+self-copies-answered = SameAnswers.self-copies
+
+-- ---- labels change no answer
+-- The record without labels is well formed, and another one than a record with labels: if they are the same, every label is 0.
+pub unlabelled-formed : (m : Model) → T (wellFormed m) → T (wellFormed (unlabelled m))
+unlabelled-formed = LabelLaws.unlabelled-formed
+
+pub unlabelled-differs : (m : Model) (e : ℕ) → e < 32 → unlabelled m ≡ m → edgeAt m e .label ≡ 0
+unlabelled-differs = LabelLaws.unlabelled-differs
+
+-- A well-formed record and the record without labels have the same runs and the same list, and from every call that takes a record the same answers, refusals
+-- and buffers.
+pub unlabelled-answered : (m : Model) → T (wellFormed m) → answers (unlabelled m) ≡ answers m
+unlabelled-answered = SameAnswers.unlabelled-same
+
+-- And so have any two well-formed records that differ in labels alone.
+pub labels-alone : (m n : Model) → T (wellFormed m) → T (wellFormed n) → LabelsAlone m n → answers m ≡ answers n
+labels-alone = SameAnswers.labels-alone
+
+-- So do the records of any two texts that are read, if they differ in labels alone; the calls for C are those on the record read (`text-calls`).
+pub text-labels-alone : (t u : List ℕ) → IsRead t → IsRead u → LabelsAlone (textModel t) (textModel u) → answers (textModel t) ≡ answers (textModel u)
+text-labels-alone = SameAnswers.text-labels-alone
 
 -- ---- sixteen bits are enough for a number
 -- For every well-formed record, step up to 64 and declared member: the number is that of the list's variable, at most 21,776, and no value on the way to

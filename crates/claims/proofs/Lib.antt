@@ -3,6 +3,8 @@ pub mod Within
 pub mod Accepted
 pub mod CallProofs
 pub mod Copies
+pub mod SamePieces
+pub mod SameAnswers
 pub mod Files
 pub mod Texts
 pub mod Outputs

@@ -19,7 +19,7 @@ use Rattle.emission.specs.EmitCall.{emitReport, emitLeft}
 use Rattle.parts.specs.Numbering.{variableNumber, stateNumbers, choiceNumbers, numbersInOrder}
 use Rattle.samples.specs.Models.{modelA, waitingA, modelB, fullModel}
 use Rattle.claims.specs.RowModels.{clockRelations, counterRelations, counterUpdates, twoOfEach, raisedThenCopied, copiedThenRaised, twoOrders}
-use Rattle.claims.specs.RowModels.{resetAndCopied, clocksSwapped}
+use Rattle.claims.specs.RowModels.{resetAndCopied, clocksSwapped, labelledA}
 use Rattle.claims.specs.RowWords.{clockRelationsWords, counterRelationsWords, counterUpdatesWords, twoOfEachWords}
 use Rattle.claims.specs.RowWords.{raisedThenCopiedWords, copiedThenRaisedWords, twoOrdersWords, resetAndCopiedWords, clocksSwappedWords}
 use Rattle.claims.specs.Cases.{holds, rows, allRowsHold}
@@ -27,12 +27,12 @@ use Rattle.claims.specs.Cases.{holds, rows, allRowsHold}
 pub all-rows : T allRowsHold
 unfolding modelA waitingA modelB fullModel variableNumber stateNumbers choiceNumbers numbersInOrder clockRelations counterRelations counterUpdates twoOfEach
     raisedThenCopied copiedThenRaised twoOrders clockRelationsWords counterRelationsWords counterUpdatesWords twoOfEachWords raisedThenCopiedWords
-    copiedThenRaisedWords twoOrdersWords resetAndCopied clocksSwapped resetAndCopiedWords clocksSwappedWords flatMap each listBelow allBelow maxBelow sumBelow
-    firstBelow greatestConstant ceiling stateSize choices variables allHold invariantHolds initialState delayed delayStep listed applied updated placeIn
-    setEarlier afterEdge edgeAllowed edgeStep step walk start isRun wellFormed headFormed eachFormed filledFromFirst atomsFormed updatesFormed orderFormed
-    resetsFormed edgeFormed countersFormed invariantsFormed edgesFormed countersInGroup clocksInGroup stateFormed stepReport groupItems invariantItems
-    stateItems initialItems startItems choiceItems delayItems delaysItems sourceItems targetItems guardItems updatesItems resetsItems edgeItems edgesItems
-    stepItems endItems bodyItems items clauseWords wordsOf one members pairs groupClauses clauses words satisfied trueBefore firstFalse placeOfTrue runOf
-    stateBytes stepsBytes assignmentOf walkSteps walkReport encodeReport encodeLeft firstWrongByte decodeReport decodeLeft emitReport emitLeft holds rows
-    allRowsHold
+    copiedThenRaisedWords twoOrdersWords resetAndCopied clocksSwapped labelledA resetAndCopiedWords clocksSwappedWords flatMap each listBelow allBelow
+    maxBelow sumBelow firstBelow greatestConstant ceiling stateSize choices variables allHold invariantHolds initialState delayed delayStep listed applied
+    updated placeIn setEarlier afterEdge edgeAllowed edgeStep step walk start isRun wellFormed headFormed eachFormed filledFromFirst atomsFormed updatesFormed
+    orderFormed resetsFormed edgeFormed countersFormed invariantsFormed edgesFormed countersInGroup clocksInGroup stateFormed stepReport groupItems
+    invariantItems stateItems initialItems startItems choiceItems delayItems delaysItems sourceItems targetItems guardItems updatesItems resetsItems edgeItems
+    edgesItems stepItems endItems bodyItems items clauseWords wordsOf one members pairs groupClauses clauses words satisfied trueBefore firstFalse placeOfTrue
+    runOf stateBytes stepsBytes assignmentOf walkSteps walkReport encodeReport encodeLeft firstWrongByte decodeReport decodeLeft emitReport emitLeft holds
+    rows allRowsHold
 all-rows = tt

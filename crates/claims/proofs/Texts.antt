@@ -38,10 +38,10 @@ use Rattle.text.specs.updates.Sets.{sumOf, setTo, setOf, timesSet, setTwice, se
 use Rattle.text.specs.resets.Resets.{sourceOf, clockSet, resetOf, resetFaults, resetSlots, resetItems}
 use Rattle.text.specs.line.Values.{numberFaults, referenceFaults, counterFaults}
 use Rattle.text.specs.lines.Store.{withLocations, withInitial, withTarget, withClocks, withVars, withUsed, withCounter, withInvariant, withEdge, withSource}
-use Rattle.text.specs.lines.Store.{withEdgeTarget, withGuard, withUpdates, withResets}
+use Rattle.text.specs.lines.Store.{withEdgeTarget, withLabel, withGuard, withUpdates, withResets}
 use Rattle.text.specs.lines.Progress.{Progress, unread, advanced, refused, tried, readLine}
 use Rattle.text.specs.lines.Lines.{locationsLine, initLine, targetLine, clocksLine, varsLine, varLine, invLine, edgesLine, fromLine, toLine, whenLine, setLine}
-use Rattle.text.specs.lines.Lines.{resetLine}
+use Rattle.text.specs.lines.Lines.{labelLine, resetLine}
 use Rattle.text.specs.lines.Sequence.{inTurn, readHead, readCounters, readInvariants, readEdge, readEdges, readLines}
 use Rattle.text.specs.Text.{readRefused, readAccepted, readEnded, readReport, ifRead}
 use Rattle.text.specs.Bound.{BoundReport, boundReport, boundRefused, boundIn}
@@ -189,8 +189,9 @@ head-small t =
     read-small _ _ _ _ (read-small _ _ _ _ (read-small _ _ _ _ (read-small _ _ _ _ (read-small _ _ _ (unread t) (omega arith)))))
 
 edge-small : (e : ℕ) (p : Progress) → Small p → Small (readEdge e p)
-unfolding readEdge fromLine toLine whenLine setLine resetLine
-edge-small e p s = read-small _ _ _ _ (read-small _ _ _ _ (read-small _ _ _ _ (read-small _ _ _ _ (read-small _ _ _ p s))))
+unfolding readEdge fromLine toLine labelLine whenLine setLine resetLine
+edge-small e p s =
+    read-small _ _ _ _ (read-small _ _ _ _ (read-small _ _ _ _ (read-small _ _ _ _ (read-small _ _ _ _ (read-small _ _ _ p s)))))
 
 lines-small : (t : List ℕ) → Small (readLines t)
 unfolding readLines readCounters readInvariants readEdges varLine invLine edgesLine
@@ -386,9 +387,10 @@ pub row-texts : RowTexts
 unfolding listBelow allBelow firstAt startsWith isDue valueOf numberOf digitsOf splitOn isHyphen itemsOf faultNumber lineNumber anyOf risesFrom relationAt
     atomOf atomFaults atomSlots invItems whenItems sumOf setTo setOf timesSet setTwice setFaults updateSlots orderSlots setItems sourceOf clockSet resetOf
     resetFaults resetSlots resetItems numberFaults referenceFaults counterFaults withLocations withInitial withTarget withClocks withVars withUsed withCounter
-    withInvariant withEdge withSource withEdgeTarget withGuard withUpdates withResets readLine locationsLine initLine targetLine clocksLine varsLine varLine
-    invLine edgesLine fromLine toLine whenLine setLine resetLine inTurn readHead readCounters readInvariants readEdge readEdges readLines readEnded readReport
-    blankModel clockRelations counterRelations counterUpdates twoOfEach raisedThenCopied copiedThenRaised twoOrders resetAndCopied clocksSwapped
+    withInvariant withEdge withSource withEdgeTarget withLabel withGuard withUpdates withResets readLine locationsLine initLine targetLine clocksLine varsLine
+    varLine invLine edgesLine fromLine toLine labelLine whenLine setLine resetLine inTurn readHead readCounters readInvariants readEdge readEdges readLines
+    readEnded readReport blankModel clockRelations counterRelations counterUpdates twoOfEach raisedThenCopied copiedThenRaised twoOrders resetAndCopied
+    clocksSwapped
 row-texts = record {
   clock-relations = refl;
   counter-relations = refl;

@@ -1,7 +1,7 @@
 -- The cases that document 01 marks P, and rows that pin the definitions: a list of rows over the worked models, the small models and the model at every
 -- limit.
 -- proofs/Claims.antt has the one claim that covers all rows.
-use mathlib.Core.Bool.{Bool, true, false, _&&_, cond}
+use mathlib.Core.Bool.{Bool, true, false, not, _&&_, cond}
 use mathlib.Core.List.{List, [], _∷_, map}
 use Prim.Native.Nat.{ℕ, zero, suc}
 use lib.Dec.{eqb}
@@ -25,14 +25,15 @@ use Rattle.decode.specs.DecodeCall.{decodeReport, decodeLeft}
 use Rattle.emission.specs.EmitCall.{EmitReport, emitReport, emitLeft}
 use Rattle.samples.specs.Models.{modelA, waitingA, modelB, fullModel}
 use Rattle.claims.specs.RowModels.{clockRelations, counterRelations, counterUpdates, twoOfEach, raisedThenCopied, copiedThenRaised, twoOrders}
-use Rattle.claims.specs.RowModels.{resetAndCopied, clocksSwapped}
+use Rattle.claims.specs.RowModels.{resetAndCopied, clocksSwapped, labelledA}
 use Rattle.claims.specs.RowWords.{neg, end, clockRelationsWords, counterRelationsWords, counterUpdatesWords, twoOfEachWords}
 use Rattle.claims.specs.RowWords.{raisedThenCopiedWords, copiedThenRaisedWords, twoOrdersWords, resetAndCopiedWords, clocksSwappedWords}
 
 -- ---- what a row may say
 pub data Fact : Type 0 where
-  -- the records are well formed
+  -- the records are well formed; they are refused with 20
   areFormed : List Model → Fact
+  areRefused : List Model → Fact
   -- emission for k is accepted in a buffer of so many words, and tells so many variables, clauses and words
   countsAre : Model → ℕ → ℕ → ℕ → ℕ → Fact
   -- M, S and H
@@ -101,6 +102,7 @@ keepIf p (x ∷ xs) = cond (p x) (x ∷ keepIf p xs) (keepIf p xs)
 -- The fact holds.
 unfoldable pub holds : Fact → Bool
 holds (areFormed ms) = allOf wellFormed ms
+holds (areRefused ms) = allOf (λ m. not (wellFormed m)) ms
 holds (countsAre m k v c w) = equalCounts (emitReport m k w) v c w
 holds (totalsAre m top s h) = eqb (ceiling m) top && eqb (stateSize m) s && eqb (choices m) h
 holds (variablesAre m k n) = eqb (variables m k) n
@@ -176,6 +178,9 @@ rows =
     P 0 (countsAre clocksSwapped 1 15 38 127) ∷
     P 0 (wordsAre clocksSwapped 1 clocksSwappedWords) ∷
     P 0 (stepIs clocksSwapped 0 (1 ∷ 0 ∷ 0 ∷ 0 ∷ []) 2 1 (0 ∷ 1 ∷ 0 ∷ 0 ∷ [])) ∷
+    P 0 (areFormed (labelledA 15 0 ∷ [])) ∷
+    P 0 (areRefused (labelledA 16 0 ∷ labelledA 255 0 ∷ labelledA 0 5 ∷ labelledA 15 1 ∷ [])) ∷
+    P 0 (countsAre (labelledA 15 0) 1 7 16 51) ∷
     P 0 (numbersAre modelA 1 (1 ∷ 2 ∷ 3 ∷ 4 ∷ 5 ∷ 6 ∷ 7 ∷ [])) ∷
     P 0 (stateNumberIs modelB 1 (counter 0) 1 25) ∷
     P 0 (choiceNumberIs modelB 2 7 57) ∷

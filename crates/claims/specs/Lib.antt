@@ -5,4 +5,5 @@ pub mod RowModels
 pub mod RowWords
 pub mod Texts
 pub mod Outputs
+pub mod Answers
 pub mod Cases

@@ -1,9 +1,8 @@
 -- The calls for C on a model text: what they answer and leave, as the calls of which the demands are said; that none of them answers 20; what the texts
 -- of the small models are read as. What is used of the crates that read a text and of the crate of the calls for C is imported here.
 use mathlib.Core.Path.{_≡_}
-use mathlib.Core.List.{List, [], _∷_, _++_}
+use mathlib.Core.List.{List}
 use Prim.Native.Nat.{ℕ}
-use Prim.Native.String.{String}
 use lib.ListN.{length}
 use Rattle.model.specs.declared.Model.{Model}
 use Rattle.model.specs.declared.State.{State}
@@ -15,7 +14,7 @@ use Rattle.encode.specs.EncodeCall.{encodeReport, encodeLeft}
 use Rattle.decode.specs.DecodeCall.{decodeReport, decodeLeft}
 use Rattle.counts.specs.CountsCall.{listReport}
 use Rattle.emission.specs.EmitCall.{EmitReport, emitReported}
-use Rattle.text.specs.bytes.Ascii.{ascii}
+use Rattle.text.specs.bytes.Ascii.{textOf}
 use Rattle.text.specs.Text.{readReport, readAccepted, ifRead}
 use Rattle.sizing.specs.SizeCall.{SizeReport, refusedSizes, textSizes, textLeft, sizeReport}
 use Rattle.dimacs.specs.DimacsCall.{FileReport, fileReport, fileReported, fileLeft}
@@ -80,11 +79,6 @@ pub record Never20 : Type 0 where
   pub run-to-assignment : (t r : List ℕ) (room : ℕ) → Not20 (ifRead (readReport t) (λ m. encodeReport m r room) refusal .number)
 
 -- ---- the small models
--- Lines, each ended by LF.
-abbrev textOf : List String → List ℕ
-textOf [] = []
-textOf (l ∷ ls) = ascii l ++ (10 ∷ textOf ls)
-
 -- Each text is read as its record.
 pub record RowTexts : Type 0 where
   pub clock-relations : readReport (textOf clockRelationsText) ≡ readAccepted clockRelations

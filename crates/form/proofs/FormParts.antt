@@ -22,11 +22,11 @@ pub slot-is : (e : Edge) (k : ℕ) {a b c d f : Bool} → let x = counterIn (e .
     → eqb (placeIn (e .order) x) k ≡ d → eqb x 0 ≡ f → cond a (b && not c && d) f ≡ orderSlotFormed e k
 slot-is e k p q r s t = λ i. cond (sym p i) (sym q i && not (sym r i) && sym s i) (sym t i)
 
-pub edge-is : (locations clocks vars : ℕ) (e : Edge) {a b c f h g : Bool} → ltb (e .source) locations ≡ a → ltb (e .target) locations ≡ b
-    → atomsFormed clocks vars (e .guard) ≡ c → updatesFormed vars (e .updates) ≡ f → orderFormed e ≡ h → resetsFormed clocks (e .resets) ≡ g
-    → a && b && c && f && h && g ≡ edgeFormed locations clocks vars e
+pub edge-is : (locations clocks vars : ℕ) (e : Edge) {a b l c f h g : Bool} → ltb (e .source) locations ≡ a → ltb (e .target) locations ≡ b
+    → leb (e .label) 15 ≡ l → atomsFormed clocks vars (e .guard) ≡ c → updatesFormed vars (e .updates) ≡ f → orderFormed e ≡ h
+    → resetsFormed clocks (e .resets) ≡ g → a && b && l && c && f && h && g ≡ edgeFormed locations clocks vars e
 unfolding edgeFormed
-edge-is locations clocks vars e p q r t u v = λ i. (sym p) i && (sym q) i && (sym r) i && (sym t) i && (sym u) i && (sym v) i
+edge-is locations clocks vars e p q s r t u v = λ i. (sym p) i && (sym q) i && (sym s) i && (sym r) i && (sym t) i && (sym u) i && (sym v) i
 
 pub head-is : (m : Model) {a b c d e f g : Bool} → leb 1 (m .locations) ≡ a → leb (m .locations) 16 ≡ b → ltb (m .initial) (m .locations) ≡ c
     → ltb (m .target) (m .locations) ≡ d → leb (m .clocks) 4 ≡ e → leb (m .vars) 4 ≡ f → leb (m .used) 32 ≡ g → a && b && c && d && e && f && g ≡ headFormed m

@@ -16,7 +16,7 @@ ghost use mathlib.Core.Bool.{cond};
 ghost use Prim.Native.Nat.{_<_};
 ghost use lib.Dec.{ltb};
 ghost use Rattle.model.specs.Automaton.{listed};
-ghost use Rattle.model.specs.Form.{isNotEqual, atomFormed, isBlank, noGap, eachFormed, filledFromFirst, atomsFormed, counterFormed, isBlankCounter, counterSlotFormed, countersFormed, invariantsFormed, updateFormed, clockUpdateFormed, isUnchanged, updateSlotFormed, updatesFormed, orderSlotFormed, orderFormed, resetSlotFormed, resetsFormed, edgeFormed, edgesFormed, headFormed, wellFormed, slotInGroup, countersInGroup, clocksInGroup, stateFormed};
+ghost use Rattle.model.specs.Form.{isNotEqual, atomFormed, isBlank, noGap, eachFormed, filledFromFirst, atomsFormed, counterFormed, isBlankCounter, counterSlotFormed, countersFormed, invariantsFormed, updateFormed, clockUpdateFormed, isUnchanged, updateSlotFormed, updatesFormed, orderSlotFormed, orderFormed, resetSlotFormed, resetsFormed, edgeFormed, isBlankEdge, edgesFormed, headFormed, wellFormed, slotInGroup, countersInGroup, clocksInGroup, stateFormed};
 
 fn is_not_equal(r: Relation) -> bool
     ensures { λ b. ⌜ b ≡ isNotEqual r ⌝ }
@@ -300,6 +300,9 @@ fn edge_formed(e: Edge, locations: u8, clocks: u8, vars: u8) -> bool
     if e.target >= locations {
         return false;
     }
+    if e.label > Model::LABEL {
+        return false;
+    }
     let guard = e.guard;
     if !atoms_formed(guard, clocks, vars) {
         return false;
@@ -315,13 +318,23 @@ fn edge_formed(e: Edge, locations: u8, clocks: u8, vars: u8) -> bool
     resets_formed(resets, clocks)
 }
 
+// Label 0, and what is formed where nothing but location 0 is declared.
+fn is_blank_edge(e: Edge) -> bool
+    ensures { λ r. ⌜ r ≡ isBlankEdge e ⌝ }
+{
+    if e.label != 0 {
+        return false;
+    }
+    edge_formed(e, 1, 0, 0)
+}
+
 fn edge_slot_formed(edge: Edge, e: usize, used: u8, locations: u8, clocks: u8, vars: u8) -> bool
-    ensures { λ r. ⌜ r ≡ cond (ltb e used) (edgeFormed locations clocks vars edge) (edgeFormed 1 0 0 edge) ⌝ }
+    ensures { λ r. ⌜ r ≡ cond (ltb e used) (edgeFormed locations clocks vars edge) (isBlankEdge edge) ⌝ }
 {
     if e < used as usize {
         edge_formed(edge, locations, clocks, vars)
     } else {
-        edge_formed(edge, 1, 0, 0)
+        is_blank_edge(edge)
     }
 }
 

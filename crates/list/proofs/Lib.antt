@@ -13,6 +13,8 @@ pub mod Within
 pub mod Raised
 pub mod SourcesBefore
 pub mod OtherEdgesLaws
+pub mod MappedEdges
 pub mod SelfCopyLaws
+pub mod LabelLaws
 pub mod Searching
 pub mod Claims

@@ -30,7 +30,7 @@ use Rattle.list.specs.OtherEdges.{withEdges}
 use Rattle.list.proofs.ListLaws.{each-cong}
 
 module _ (width : ℕ → ℕ) (m : Model) (es : List Edge) (top : ceiling (withEdges m es) ≡ ceiling m) where
-  choices-same : choices (withEdges m es) ≡ choices m
+  pub choices-same : choices (withEdges m es) ≡ choices m
   unfolding choices
   choices-same = rw top refl
 
@@ -39,7 +39,7 @@ module _ (width : ℕ → ℕ) (m : Model) (es : List Edge) (top : ceiling (with
   unfolding groupItems
   groups-same o = rw top refl
 
-  initial-same : initialItems width (withEdges m es) ≡ initialItems width m
+  pub initial-same : initialItems width (withEdges m es) ≡ initialItems width m
   unfolding initialItems
   initial-same = rw top refl
 
@@ -48,7 +48,8 @@ module _ (width : ℕ → ℕ) (m : Model) (es : List Edge) (top : ceiling (with
   exclude-same o ms (OnClock x relation constant) = rw top (each-cong (ceiling m + 1) _ _ (λ v l. rw top refl))
   exclude-same o ms (OnCounter x relation constant) = refl
 
-  atoms-same : (o : ℕ) (ms : List Member) (atoms : List AtomSlot) → excludeAllFailing width (withEdges m es) o ms atoms ≡ excludeAllFailing width m o ms atoms
+  pub atoms-same : (o : ℕ) (ms : List Member) (atoms : List AtomSlot)
+      → excludeAllFailing width (withEdges m es) o ms atoms ≡ excludeAllFailing width m o ms atoms
   atoms-same o ms atoms = each-cong 4 _ _ (λ k l. exclude-same o ms (atomAt atoms k))
 
   invariants-same : (o : ℕ) → invariantItems width (withEdges m es) o ≡ invariantItems width m o
@@ -60,11 +61,11 @@ module _ (width : ℕ → ℕ) (m : Model) (es : List Edge) (top : ceiling (with
   state-same o = ap₂ (λ (a b : List Item). a ++ b) (groups-same o) (invariants-same o)
 
   -- ---- a step
-  choice-same : (o : ℕ) → choiceItems width (withEdges m es) o ≡ choiceItems width m o
+  pub choice-same : (o : ℕ) → choiceItems width (withEdges m es) o ≡ choiceItems width m o
   unfolding choiceItems
   choice-same o = rw (choices-same, top) refl
 
-  delay-same : (o d : ℕ) → delayItems width (withEdges m es) o d ≡ delayItems width m o d
+  pub delay-same : (o d : ℕ) → delayItems width (withEdges m es) o d ≡ delayItems width m o d
   unfolding delayItems
   delay-same o d = rw (choices-same, top) refl
 
@@ -88,7 +89,7 @@ module _ (width : ℕ → ℕ) (m : Model) (es : List Edge) (top : ceiling (with
     unfolding guardItems
     guard-same e = rw (choices-same, top) (atoms-same o _ (e .guard))
 
-    edge-same : (e : Edge) → edgeItems width (withEdges m es) o c e ≡ edgeItems width m o c e
+    pub edge-same : (e : Edge) → edgeItems width (withEdges m es) o c e ≡ edgeItems width m o c e
     unfolding edgeItems sourceItems targetItems updatesItems resetsItems
     edge-same e = rw (
       guard-same e,

@@ -5,3 +5,4 @@ pub mod Assignments
 pub mod Demands
 pub mod OtherEdges
 pub mod SelfCopies
+pub mod Labels

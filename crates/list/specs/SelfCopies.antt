@@ -15,7 +15,7 @@ use Rattle.model.specs.Automaton.{step}
 use Rattle.model.specs.Form.{wellFormed}
 use Rattle.list.specs.Items.{items}
 use Rattle.list.specs.Clauses.{words}
-use Rattle.list.specs.OtherEdges.{withEdges}
+use Rattle.list.specs.OtherEdges.{edgeWith, mapEdges}
 
 -- The update of clock i; a copy of the clock itself becomes unchanged.
 abbrev pub selfUnchanged : ℕ → ClockUpdate → ClockUpdate
@@ -29,18 +29,11 @@ selfSlot e i = record { update = selfUnchanged i (resetAt e i) }
 
 -- The edge with every slot so changed.
 unfoldable pub selfEdge : Edge → Edge
-selfEdge e = record {
-  source = e .source;
-  target = e .target;
-  guard = e .guard;
-  updates = e .updates;
-  order = e .order;
-  resets = listBelow (selfSlot e) 4;
-}
+selfEdge e = edgeWith e (e .label) (listBelow (selfSlot e) 4)
 
 -- The record with every edge so changed.
 unfoldable pub selfModel : Model → Model
-selfModel m = withEdges m (listBelow (λ e. selfEdge (edgeAt m e)) 32)
+selfModel m = mapEdges selfEdge m
 
 -- A self-copy is the same step and the same clauses in another record. The record so changed
 pub record SelfCopies (m : Model) : Type 0 where

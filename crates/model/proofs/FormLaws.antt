@@ -23,8 +23,8 @@ use Rattle.model.specs.Automaton.{clockConstant, greatestConstant, ceili
 use Rattle.model.specs.Automaton.{variables, totals}
 use Rattle.model.specs.Bounds.{KnownTotals}
 use Rattle.model.specs.Form.{isNotEqual, atomFormed, eachFormed, filledFromFirst, atomsFormed, updateFormed, clockUpdateFormed, isUnchanged}
-use Rattle.model.specs.Form.{updateSlotFormed, updatesFormed, orderSlotFormed, orderFormed, resetSlotFormed, resetsFormed, edgeFormed, counterFormed}
-use Rattle.model.specs.Form.{isBlankCounter, counterSlotFormed, countersFormed}
+use Rattle.model.specs.Form.{updateSlotFormed, updatesFormed, orderSlotFormed, orderFormed, resetSlotFormed, resetsFormed, edgeFormed, isBlankEdge}
+use Rattle.model.specs.Form.{counterFormed, isBlankCounter, counterSlotFormed, countersFormed}
 use Rattle.model.specs.Form.{invariantSlotFormed, invariantsFormed, edgeSlotFormed, edgesFormed, headFormed, wellFormed}
 use Rattle.model.proofs.IndexedLaws.{and-T, eq-T, cond-T, cond-F, not-lt, all-below, max-below, max-at, sum-below}
 use Rattle.model.proofs.OrderLaws.{Ordered, listed-le}
@@ -82,7 +82,7 @@ and₅ a b c d e h = let g = and-T (a && b && c && d) e .0 h in let f = and₄ a
 and₆ : (a b c d e f : Bool) → T (a && b && c && d && e && f) → T a × T b × T c × T d × T e × T f
 and₆ a b c d e f h = let x = and-T (a && b && c && d && e) f .0 h in let v = and₅ a b c d e (x .0) in (v .0, v .1, v .2, v .3, v .4, x .1)
 
-and₇ : (a b c d e f g : Bool) → T (a && b && c && d && e && f && g) → T a × T b × T c × T d × T e × T f × T g
+pub and₇ : (a b c d e f g : Bool) → T (a && b && c && d && e && f && g) → T a × T b × T c × T d × T e × T f × T g
 and₇ a b c d e f g h =
     let y = and-T (a && b && c && d && e && f) g .0 h in let v = and₆ a b c d e f (y .0) in (v .0, v .1, v .2, v .3, v .4, v .5, y .1)
 
@@ -133,19 +133,20 @@ unfolding greatestConstant
 atoms-constant clocks vars atoms h = max-below _ 4 30 (λ k l. atom-constant clocks vars (atomAt atoms k) (atoms-at clocks vars atoms h k l))
 
 pub edge-parts : (locations clocks vars : ℕ) (e : Edge) → T (edgeFormed locations clocks vars e)
-    → (e .source < locations) × (e .target < locations) × T (atomsFormed clocks vars (e .guard))
+    → (e .source < locations) × (e .target < locations) × (e .label ≤ 15) × T (atomsFormed clocks vars (e .guard))
     × ((k : ℕ) → k < 4 → T (updateSlotFormed vars (updateAt e k) k)) × ((k : ℕ) → k < 4 → T (orderSlotFormed e k))
     × ((k : ℕ) → k < 4 → T (resetSlotFormed clocks (resetAt e k) k))
 unfolding edgeFormed updatesFormed orderFormed resetsFormed
 edge-parts locations clocks vars e h =
-    let g = and₆ (ltb (e .source) locations) (ltb (e .target) locations) (atomsFormed clocks vars (e .guard)) (updatesFormed vars (e .updates))
-    (orderFormed e) (resetsFormed clocks (e .resets)) h in (
+    let g = and₇ (ltb (e .source) locations) (ltb (e .target) locations) (leb (e .label) 15) (atomsFormed clocks vars (e .guard))
+    (updatesFormed vars (e .updates)) (orderFormed e) (resetsFormed clocks (e .resets)) h in (
       ltb→lt (e .source) locations (g .0),
       ltb→lt (e .target) locations (g .1),
-      g .2,
-      all-below (λ k. updateSlotFormed vars (updateAt e k) k) 4 .0 (g .3),
-      all-below (orderSlotFormed e) 4 .0 (g .4),
-      all-below (λ k. resetSlotFormed clocks (resetAt e k) k) 4 .0 (g .5),
+      leb→le (e .label) 15 (g .2),
+      g .3,
+      all-below (λ k. updateSlotFormed vars (updateAt e k) k) 4 .0 (g .4),
+      all-below (orderSlotFormed e) 4 .0 (g .5),
+      all-below (λ k. resetSlotFormed clocks (resetAt e k) k) 4 .0 (g .6),
     )
 
 -- the slots of the order that are used
@@ -174,25 +175,25 @@ edge-formed m le le′ e h =
       target-ok = g .1;
       guard-ok =
           λ k l. atom-declared m (m .clocks) (m .vars) (omega arith) (omega arith) (atomAt (e .guard) k)
-          (atoms-at (m .clocks) (m .vars) (e .guard) (g .2) k l);
+          (atoms-at (m .clocks) (m .vars) (e .guard) (g .3) k l);
       sets-ok =
-          λ i l. update-declared m (updateAt e i) (yes i (m .vars) (updateFormed (m .vars) (updateAt e i)) (isKeep (updateAt e i)) (g .3 i (omega arith)) l);
-      sets-rest = λ i p l. keep-is (updateAt e i) (no i (m .vars) (updateFormed (m .vars) (updateAt e i)) (isKeep (updateAt e i)) (g .3 i l) p);
-      order-ok = order-slot e (g .4);
+          λ i l. update-declared m (updateAt e i) (yes i (m .vars) (updateFormed (m .vars) (updateAt e i)) (isKeep (updateAt e i)) (g .4 i (omega arith)) l);
+      sets-rest = λ i p l. keep-is (updateAt e i) (no i (m .vars) (updateFormed (m .vars) (updateAt e i)) (isKeep (updateAt e i)) (g .4 i l) p);
+      order-ok = order-slot e (g .5);
       resets-ok =
           λ i l. reset-declared m (resetAt e i)
-          (yes i (m .clocks) (clockUpdateFormed (m .clocks) (resetAt e i)) (isUnchanged (resetAt e i)) (g .5 i (omega arith)) l);
+          (yes i (m .clocks) (clockUpdateFormed (m .clocks) (resetAt e i)) (isUnchanged (resetAt e i)) (g .6 i (omega arith)) l);
       resets-rest =
-          λ i p l. hold-is (resetAt e i) (no i (m .clocks) (clockUpdateFormed (m .clocks) (resetAt e i)) (isUnchanged (resetAt e i)) (g .5 i l) p);
+          λ i p l. hold-is (resetAt e i) (no i (m .clocks) (clockUpdateFormed (m .clocks) (resetAt e i)) (isUnchanged (resetAt e i)) (g .6 i l) p);
     }
 
 invariant-slot-constant : (b : Bool) (c : ℕ) (atoms : List AtomSlot) → T (cond b (atomsFormed c 0 atoms) (atomsFormed 0 0 atoms)) → greatestConstant atoms ≤ 30
 invariant-slot-constant true c atoms h = atoms-constant c 0 atoms h
 invariant-slot-constant false c atoms h = atoms-constant 0 0 atoms h
 
-edge-slot-constant : (b : Bool) (l c v : ℕ) (e : Edge) → T (cond b (edgeFormed l c v e) (edgeFormed 1 0 0 e)) → greatestConstant (e .guard) ≤ 30
-edge-slot-constant true l c v e h = atoms-constant c v (e .guard) (edge-parts l c v e h .2)
-edge-slot-constant false l c v e h = atoms-constant 0 0 (e .guard) (edge-parts 1 0 0 e h .2)
+edge-slot-constant : (b : Bool) (l c v : ℕ) (e : Edge) → T (cond b (edgeFormed l c v e) (isBlankEdge e)) → greatestConstant (e .guard) ≤ 30
+edge-slot-constant true l c v e h = atoms-constant c v (e .guard) (edge-parts l c v e h .3)
+edge-slot-constant false l c v e h = atoms-constant 0 0 (e .guard) (edge-parts 1 0 0 e (and-T (eqb (e .label) 0) (edgeFormed 1 0 0 e) .0 h .1) .3)
 
 ceiling-31 :
     (m : Model) → maxBelow (λ i. greatestConstant (invariantAt m i)) 16 ≤ 30 → maxBelow (λ i. greatestConstant (edgeAt m i .guard)) 32 ≤ 30 → ceiling m ≤ 31
@@ -232,7 +233,7 @@ formed m h =
           (yes l (m .locations) (atomsFormed (m .clocks) 0 (invariantAt m l)) (atomsFormed 0 0 (invariantAt m l)) (v l (omega arith)) p) k q);
       edge-ok =
           λ i l. edge-formed m v4 c4 (edgeAt m i)
-          (yes i (m .used) (edgeFormed (m .locations) (m .clocks) (m .vars) (edgeAt m i)) (edgeFormed 1 0 0 (edgeAt m i)) (e i (omega arith)) l);
+          (yes i (m .used) (edgeFormed (m .locations) (m .clocks) (m .vars) (edgeAt m i)) (isBlankEdge (edgeAt m i)) (e i (omega arith)) l);
       ceiling-le =
           ceiling-31 m (max-below _ 16 30 (λ i l. invariant-slot-constant (ltb i (m .locations)) (m .clocks) (invariantAt m i) (v i l)))
           (max-below _ 32 30 (λ i l. edge-slot-constant (ltb i (m .used)) (m .locations) (m .clocks) (m .vars) (edgeAt m i) (e i l)));

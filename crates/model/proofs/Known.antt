@@ -22,4 +22,4 @@ lengths m vs g = record {
 }
 
 pub updates-long : (e : Edge) (vs : List Val) → Is EdgeT.the-row e vs → length (e .updates) ≡ 4
-updates-long e vs g = sym (length-map (e .updates) _) ∙ g .1 .1 .1 .1 .1 .0 .1 .0 .1
+updates-long e vs g = sym (length-map (e .updates) _) ∙ g .1 .1 .1 .1 .1 .1 .0 .1 .0 .1

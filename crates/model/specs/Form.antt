@@ -1,4 +1,4 @@
--- Well-formed records and states: within all limits, naming only what is declared, atom slots filled from the first, unused slots blank (number 0, no atom, keep, no reset and no copy), the order names each counter that is set once.
+-- Well-formed records and states: within all limits, naming only what is declared, atom slots filled from the first, unused slots blank (number 0, label 0, no atom, keep, no reset and no copy), the order names each counter that is set once.
 use Prim.Native.Nat.{ℕ, _+_}
 use mathlib.Core.List.{List}
 use mathlib.Core.Bool.{Bool, true, false, not, _&&_, cond}
@@ -134,15 +134,19 @@ resetSlotFormed clocks u i = cond (ltb i clocks) (clockUpdateFormed clocks u) (i
 unfoldable pub resetsFormed : ℕ → List ClockSlot → Bool
 resetsFormed clocks slots = allBelow (λ i. resetSlotFormed clocks (getD slots i blankReset .update) i) 4
 
--- an edge names only declared locations, clocks and counters, and is within the limits
+-- an edge names only declared locations, clocks and counters, and is within the limits; its label is 0 to 15
 unfoldable pub edgeFormed : ℕ → ℕ → ℕ → Edge → Bool
 edgeFormed locations clocks vars e =
-    ltb (e .source) locations && ltb (e .target) locations && atomsFormed clocks vars (e .guard) && updatesFormed vars (e .updates) && orderFormed e &&
-    resetsFormed clocks (e .resets)
+    ltb (e .source) locations && ltb (e .target) locations && leb (e .label) 15 && atomsFormed clocks vars (e .guard) && updatesFormed vars (e .updates) &&
+    orderFormed e && resetsFormed clocks (e .resets)
 
--- an unused slot is what is formed in the blank model: location 0, no atom, keep, a blank order, clocks unchanged
+-- the slot is blank: label 0, and formed where nothing but location 0 is declared, so location 0 twice, no atom, keep, a blank order, clocks unchanged
+abbrev pub isBlankEdge : Edge → Bool
+isBlankEdge e = eqb (e .label) 0 && edgeFormed 1 0 0 e
+
+-- a used slot holds a formed edge; an unused slot is blank
 abbrev pub edgeSlotFormed : Model → ℕ → Bool
-edgeSlotFormed m e = cond (ltb e (m .used)) (edgeFormed (m .locations) (m .clocks) (m .vars) (edgeAt m e)) (edgeFormed 1 0 0 (edgeAt m e))
+edgeSlotFormed m e = cond (ltb e (m .used)) (edgeFormed (m .locations) (m .clocks) (m .vars) (edgeAt m e)) (isBlankEdge (edgeAt m e))
 
 -- every edge slot
 unfoldable pub edgesFormed : Model → Bool

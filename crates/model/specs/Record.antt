@@ -37,9 +37,9 @@ blankCounter = record { greatest = 0; initial = 0 }
 abbrev pub blankInvariant : Invariant
 blankInvariant = record { atoms = replicate 4 blankAtom }
 
--- numbers 0, and blank slots
+-- numbers 0, so location 0 twice and private, and blank slots
 abbrev pub blankEdge : Edge
-blankEdge = record { source = 0; target = 0; guard = replicate 4 blankAtom; updates = replicate 4 blankUpdate; order = replicate 4 0; resets = replicate 4 blankReset }
+blankEdge = record { source = 0; target = 0; label = 0; guard = replicate 4 blankAtom; updates = replicate 4 blankUpdate; order = replicate 4 0; resets = replicate 4 blankReset }
 
 -- the blank model: one location, initial and target 0
 unfoldable pub blankModel : Model
@@ -62,7 +62,7 @@ pastInvariant = record { atoms = [] }
 
 -- the same for edges
 abbrev pub pastEdge : Edge
-pastEdge = record { source = 0; target = 0; guard = []; updates = []; order = []; resets = [] }
+pastEdge = record { source = 0; target = 0; label = 0; guard = []; updates = []; order = []; resets = [] }
 
 -- the atom in slot k of an invariant or a guard
 abbrev pub atomAt : List AtomSlot → ℕ → Atom

@@ -69,11 +69,12 @@ pub struct Invariant {
     pub atoms: [AtomSlot; Model::ATOMS],
 }
 
-// An edge. Slot i of `updates` is for counter i, slot i of `resets` for clock i. `order` has the counters that are set, in the
-// order in which their updates happen; the slots after them are 0.
+// An edge. `label` names its event; 0 is private. Slot i of `updates` is for counter i, slot i of `resets` for clock i. `order` has
+// the counters that are set, in the order in which their updates happen; the slots after them are 0.
 pub struct Edge {
     pub source: u8,
     pub target: u8,
+    pub label: u8,
     pub guard: [AtomSlot; Model::ATOMS],
     pub updates: [UpdateSlot; Model::COUNTERS],
     pub order: [u8; Model::COUNTERS],
@@ -142,6 +143,9 @@ impl Model {
     // The greatest value of a counter, constant for one, and size of an offset.
     pub const COUNTER_VALUE: u8 = 31;
 
+    // The greatest label of an edge.
+    pub const LABEL: u8 = 15;
+
     // One location, initial and target 0, and nothing else.
     pub fn blank() -> Self
         ensures { λ r. ⌜ r ≡ blankModel ⌝ }
@@ -159,6 +163,7 @@ impl Model {
         let edge = Edge {
             source: 0,
             target: 0,
+            label: 0,
             guard: [atom; Model::ATOMS],
             updates: [update; Model::COUNTERS],
             order: [0u8; Model::COUNTERS],

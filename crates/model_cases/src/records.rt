@@ -241,6 +241,16 @@ fn with_order(mut m: Model, e: usize, k: usize, counter: u8) -> Model
     m
 }
 
+// 9 e label
+fn with_label(mut m: Model, e: usize, label: u8) -> Model
+    requires { ⌜ e < 32 ⌝ }
+{
+    let mut edge = m.edges[e];
+    edge.label = label;
+    m.edges[e] = edge;
+    m
+}
+
 // The record after one change; `v` holds the numbers of the line.
 pub(crate) fn changed(m: Model, v: [u8; 80]) -> Model {
     let op = v[0];
@@ -255,6 +265,7 @@ pub(crate) fn changed(m: Model, v: [u8; 80]) -> Model {
         5 => with_guard(m, i, k, atom(v[3], v[4], v[5], v[6])),
         6 => with_update(m, i, k, update(v[3], v[4], v[5])),
         7 => with_reset(m, i, k, reset(v[3], v[4])),
-        _ => with_order(m, i, k, v[3]),
+        8 => with_order(m, i, k, v[3]),
+        _ => with_label(m, i, v[2]),
     }
 }

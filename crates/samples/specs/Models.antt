@@ -26,9 +26,9 @@ noAtoms = replicate 4 blankAtom
 abbrev pub holding : List AtomSlot → Invariant
 holding atoms = record { atoms = atoms }
 
--- an edge that sets counter 0 and clock 0 only; its order names counter 0 or is blank
+-- a private edge that sets counter 0 and clock 0 only; its order names counter 0 or is blank
 abbrev pub edge : ℕ → ℕ → List AtomSlot → Update → ClockUpdate → Edge
-edge source target guard update reset = record { source = source; target = target; guard = guard; updates = record { update = update } ∷ replicate 3 blankUpdate; order = replicate 4 0; resets = record { update = reset } ∷ replicate 3 blankReset }
+edge source target guard update reset = record { source = source; target = target; label = 0; guard = guard; updates = record { update = update } ∷ replicate 3 blankUpdate; order = replicate 4 0; resets = record { update = reset } ∷ replicate 3 blankReset }
 
 -- model A: two locations, and one edge from 0 to 1 with nothing in when, set and reset
 unfoldable pub modelA : Model
@@ -78,7 +78,7 @@ modelB = record {
 
 -- an edge at every limit
 abbrev pub fullEdge : Edge
-fullEdge = record { source = 15; target = 15; guard = replicate 4 (record { atom = OnCounter 3 Equal 31 }); updates = replicate 4 (record { update = Constant 31 }); order = 3 ∷ 0 ∷ 1 ∷ 2 ∷ []; resets = replicate 4 (record { update = Reset }) }
+fullEdge = record { source = 15; target = 15; label = 15; guard = replicate 4 (record { atom = OnCounter 3 Equal 31 }); updates = replicate 4 (record { update = Constant 31 }); order = 3 ∷ 0 ∷ 1 ∷ 2 ∷ []; resets = replicate 4 (record { update = Reset }) }
 
 -- a model at every limit: 16 locations, 4 clocks, 4 counters of 0 to 31, 32 edges, 4 atoms wherever atoms stand, constants 30 and 31
 unfoldable pub fullModel : Model

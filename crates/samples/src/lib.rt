@@ -28,7 +28,7 @@ pub fn on_clock(clock: u8, relation: Relation, constant: u8) -> [AtomSlot; Model
     atoms
 }
 
-// An edge that sets counter 0 and clock 0 only.
+// A private edge that sets counter 0 and clock 0 only.
 pub fn edge_of(
     source: u8,
     target: u8,
@@ -49,6 +49,7 @@ pub fn edge_of(
     Edge {
         source,
         target,
+        label: 0,
         guard,
         updates,
         order: [0u8; Model::COUNTERS],
@@ -109,7 +110,7 @@ pub fn model_b() -> Model
     m
 }
 
-// Source, target and atoms, updates and resets at their limits.
+// Source, target, label and atoms, updates and resets at their limits.
 fn full_edge() -> Edge
     ensures { λ r. ⌜ r ≡ fullEdge ⌝ }
 {
@@ -129,6 +130,7 @@ fn full_edge() -> Edge
     Edge {
         source: 15,
         target: 15,
+        label: Model::LABEL,
         guard: [test; Model::ATOMS],
         updates: [update; Model::COUNTERS],
         order: [3u8, 0, 1, 2],

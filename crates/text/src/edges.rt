@@ -9,8 +9,8 @@ use model::ClockSlot;
 use model::Model;
 use model::UpdateSlot;
 ghost use mathlib.Core.Path.{_≡_};
-ghost use Rattle.text.specs.lines.Store.{withSource, withEdgeTarget, withGuard, withUpdates, withResets};
-ghost use Rattle.text.specs.lines.Lines.{fromLine, toLine, whenLine, setLine, resetLine};
+ghost use Rattle.text.specs.lines.Store.{withSource, withEdgeTarget, withLabel, withGuard, withUpdates, withResets};
+ghost use Rattle.text.specs.lines.Lines.{fromLine, toLine, labelLine, whenLine, setLine, resetLine};
 ghost use Rattle.text.specs.lines.Sequence.{readEdge, readEdges};
 ghost use Rattle.text.specs.lines.Readings.{Placed, Reads};
 
@@ -33,6 +33,18 @@ fn with_edge_target(m: Model, e: usize, n: u8) -> Model
     if e < Model::EDGES {
         let mut edge = next.edges[e];
         edge.target = n;
+        next.edges[e] = edge;
+    }
+    next
+}
+
+fn with_label(m: Model, e: usize, n: u8) -> Model
+    ensures { λ r. ⌜ r ≡ withLabel m e n ⌝ }
+{
+    let mut next = m;
+    if e < Model::EDGES {
+        let mut edge = next.edges[e];
+        edge.label = n;
         next.edges[e] = edge;
     }
     next
@@ -106,6 +118,19 @@ fn to_line(text: &[u8], e: usize, r: Reading) -> Reading
     r.settled(d, f, next)
 }
 
+fn label_line(text: &[u8], e: usize, r: Reading) -> Reading
+    requires { ⌜ Placed (now text) r ⌝ }
+    ensures { λ q. ⌜ Reads (labelLine e) (now (text .entry)) r q ⌝ }
+{
+    let at = r.at;
+    let m = r.model;
+    let n = line::number_due(text, at, b"label=", 0, Model::LABEL as u16);
+    let d = n.due;
+    let f = n.faults;
+    let next = with_label(m, e, n.value);
+    r.settled(d, f, next)
+}
+
 fn when_line(text: &[u8], e: usize, r: Reading) -> Reading
     requires { ⌜ Placed (now text) r ⌝ }
     ensures { λ q. ⌜ Reads (whenLine e) (now (text .entry)) r q ⌝ }
@@ -161,9 +186,10 @@ fn read_edge(text: &[u8], e: usize, r: Reading) -> Reading
 {
     let a = from_line(text, e, r);
     let b = to_line(text, e, a);
-    let c = when_line(text, e, b);
-    let d = set_line(text, e, c);
-    reset_line(text, e, d)
+    let c = label_line(text, e, b);
+    let d = when_line(text, e, c);
+    let f = set_line(text, e, d);
+    reset_line(text, e, f)
 }
 
 // All lines of the edges that are used.

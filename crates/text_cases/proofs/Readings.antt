@@ -7,17 +7,17 @@ use Rattle.text.specs.updates.Sets.{sumOf, setTo, setOf, timesSet, setTwice, se
 use Rattle.text.specs.resets.Resets.{sourceOf, clockSet, resetOf, resetFaults, resetSlots, resetItems}
 use Rattle.text.specs.line.Values.{numberFaults, referenceFaults, counterFaults}
 use Rattle.text.specs.lines.Store.{withLocations, withInitial, withTarget, withClocks, withVars, withUsed, withCounter, withInvariant, withEdge, withSource}
-use Rattle.text.specs.lines.Store.{withEdgeTarget, withGuard, withUpdates, withResets}
+use Rattle.text.specs.lines.Store.{withEdgeTarget, withLabel, withGuard, withUpdates, withResets}
 use Rattle.text.specs.lines.Progress.{readLine}
-use Rattle.text.specs.lines.Lines.{locationsLine, initLine, targetLine, clocksLine, varsLine, varLine, invLine, edgesLine, fromLine, toLine, whenLine, setLine}
-use Rattle.text.specs.lines.Lines.{resetLine}
+use Rattle.text.specs.lines.Lines.{locationsLine, initLine, targetLine, clocksLine, varsLine, varLine, invLine, edgesLine, fromLine, toLine, labelLine}
+use Rattle.text.specs.lines.Lines.{whenLine, setLine, resetLine}
 use Rattle.text.specs.lines.Sequence.{inTurn, readHead, readCounters, readInvariants, readEdge, readEdges, readLines}
 use Rattle.text.specs.Text.{readEnded, readReport}
 use Rattle.text.specs.Bound.{boundReport}
 use Rattle.samples.specs.Models.{modelA, modelB}
 use Rattle.model.specs.Indexed.{listBelow, allBelow}
 use Rattle.model.specs.Record.{blankModel}
-use Rattle.text_cases.specs.Cases.{EachRead, EachBound, accepted, refused, bounds}
+use Rattle.text_cases.specs.Cases.{Lengths, EachRead, EachBound, accepted, refused, bounds}
 
 infixr 5 _&_
 _&_ : {A B : Type 0} → A → B → A × B
@@ -27,15 +27,15 @@ texts-read : EachRead accepted × EachRead refused
 unfolding accepted refused firstAt startsWith isDue valueOf numberOf digitsOf splitOn isHyphen itemsOf faultNumber lineNumber anyOf risesFrom relationAt
     atomOf atomFaults atomSlots invItems whenItems sumOf setTo setOf timesSet setTwice setFaults updateSlots orderSlots setItems sourceOf clockSet resetOf
     resetFaults resetSlots resetItems numberFaults referenceFaults counterFaults withLocations withInitial withTarget withClocks withVars withUsed
-    withCounter withInvariant withEdge withSource withEdgeTarget withGuard withUpdates withResets readLine locationsLine initLine targetLine clocksLine
-    varsLine varLine invLine edgesLine fromLine toLine whenLine setLine resetLine inTurn readHead readCounters readInvariants readEdge readEdges readLines
-    readEnded readReport listBelow allBelow modelA modelB blankModel
+    withCounter withInvariant withEdge withSource withEdgeTarget withLabel withGuard withUpdates withResets readLine locationsLine initLine targetLine
+    clocksLine varsLine varLine invLine edgesLine fromLine toLine labelLine whenLine setLine resetLine inTurn readHead readCounters readInvariants readEdge
+    readEdges readLines readEnded readReport listBelow allBelow modelA modelB blankModel
 texts-read = (
-  refl & refl & refl & refl & refl & refl & refl & refl & refl & refl & refl & tt,
+  refl & refl & refl & refl & refl & refl & refl & refl & refl & refl & refl & refl & refl & tt,
   refl & refl & refl & refl & refl & refl & refl & refl & refl & refl & refl & refl & refl & refl & refl & refl & refl & refl & refl & refl & refl &
       refl & refl & refl & refl & refl & refl & refl & refl & refl & refl & refl & refl & refl & refl & refl & refl & refl & refl & refl & refl & refl &
       refl & refl & refl & refl & refl & refl & refl & refl & refl & refl & refl & refl & refl & refl & refl & refl & refl & refl & refl & refl & refl &
-      tt,
+      refl & refl & refl & refl & refl & refl & refl & refl & refl & refl & refl & refl & tt,
 )
 
 pub accepted-read : EachRead accepted
@@ -47,3 +47,6 @@ refused-read = texts-read .1
 pub bounds-read : EachBound bounds
 unfolding bounds firstAt startsWith isDue valueOf numberOf digitsOf splitOn isHyphen itemsOf boundReport
 bounds-read = refl & refl & refl & refl & refl & tt
+
+pub lengths-are : Lengths
+lengths-are = (refl, refl)

@@ -26,7 +26,7 @@ extern "C" {
 #endif
 
 /* Rises by 1 with every change of what stands in this file or of what a call answers; CHANGELOG.md says what changed. */
-#define WIRDOKU_VERSION 5
+#define WIRDOKU_VERSION 6
 
 /* Refusals, as docs/REFUSALS.md has them. No call of this header answers 20: a text that is read gives a well-formed record. */
 enum wirdoku_refusal {
@@ -69,6 +69,7 @@ enum wirdoku_refusal {
 #define WIRDOKU_MAX_CLOCKS 4
 #define WIRDOKU_MAX_COUNTERS 4
 #define WIRDOKU_MAX_EDGES 32
+#define WIRDOKU_MAX_LABEL 15            /* the label of an edge; 0 means private */
 #define WIRDOKU_MAX_ATOMS 4             /* atoms of an invariant, and of a guard */
 #define WIRDOKU_MAX_CLOCK_CONSTANT 30   /* a constant that a clock is compared with */
 #define WIRDOKU_MAX_COUNTER_VALUE 31    /* a counter's value, a constant that it is compared with or set to, an offset in both directions */

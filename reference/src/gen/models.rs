@@ -3,7 +3,7 @@
 use super::rng::Rng;
 use crate::model::{
     Atom, Atoms, ClockUpdate, Counter, Edge, Model, Order, Relation, Update, MAX_ATOMS, MAX_CLOCKS, MAX_CLOCK_CONSTANT,
-    MAX_COUNTERS, MAX_COUNTER_VALUE, MAX_EDGES, MAX_LOCATIONS, MAX_OFFSET, NO_ATOMS,
+    MAX_COUNTERS, MAX_COUNTER_VALUE, MAX_EDGES, MAX_LABEL, MAX_LOCATIONS, MAX_OFFSET, NO_ATOMS,
 };
 
 /// How large a random model may grow.
@@ -130,6 +130,7 @@ fn edge(rng: &mut Rng, model: &Model, limits: &Limits) -> Edge {
     let mut edge = Edge::BLANK;
     edge.source = rng.below(usize::from(model.locations)) as u8;
     edge.target = rng.below(usize::from(model.locations)) as u8;
+    edge.label = label(rng);
     edge.guard = guard(rng, model, limits);
     for index in 0..usize::from(model.counters) {
         edge.updates[index] = update(rng, model, limits);
@@ -138,6 +139,15 @@ fn edge(rng: &mut Rng, model: &Model, limits: &Limits) -> Edge {
     read_earlier(rng, &mut edge);
     clock_updates(rng, &mut edge.clock_updates[..usize::from(model.clocks)]);
     edge
+}
+
+/// A label, every second one private.
+fn label(rng: &mut Rng) -> u8 {
+    if rng.one_in(2) {
+        0
+    } else {
+        rng.between(1, MAX_LABEL)
+    }
 }
 
 /// Updates of the declared clocks; once in six two clocks are exchanged.
@@ -201,6 +211,15 @@ fn update(rng: &mut Rng, model: &Model, limits: &Limits) -> Update {
     }
 }
 
+/// The model with a new label on each edge.
+pub fn relabelled(rng: &mut Rng, model: &Model) -> Model {
+    let mut other = model.clone();
+    for edge in &mut other.edge[..usize::from(model.edges)] {
+        edge.label = label(rng);
+    }
+    other
+}
+
 /// The model with the greatest totals: 16 locations, four counters of 32
 /// values, four clocks, 32 edges. Every atom fails for every value (`x0<0`), so
 /// that each gives the most clauses, except one guard atom: some clock atom
@@ -208,7 +227,7 @@ fn update(rng: &mut Rng, model: &Model, limits: &Limits) -> Update {
 /// for at most 31 of the 32 values. In a guard it costs one clause a step, in an
 /// invariant it would cost one a state, which is one more. Counters and clocks
 /// are kept: one three-literal clause for each value is the most an update of
-/// either can give.
+/// either can give. Every label is the greatest.
 pub fn largest() -> Model {
     let mut model = Model::blank();
     model.locations = MAX_LOCATIONS as u8;
@@ -218,7 +237,7 @@ pub fn largest() -> Model {
     let never = Atom::clock(0, Relation::Less, 0);
     model.invariant = [[never; MAX_ATOMS]; MAX_LOCATIONS];
     model.edges = MAX_EDGES as u8;
-    model.edge = [Edge { guard: [never; MAX_ATOMS], ..Edge::BLANK }; MAX_EDGES];
+    model.edge = [Edge { label: MAX_LABEL, guard: [never; MAX_ATOMS], ..Edge::BLANK }; MAX_EDGES];
     model.edge[0].guard[0] = Atom::clock(0, Relation::Greater, MAX_CLOCK_CONSTANT);
     model
 }
@@ -226,13 +245,14 @@ pub fn largest() -> Model {
 /// A model at every limit that has runs: four atoms in every invariant and
 /// guard, every kind of update, a source read before the edge and after its own
 /// update, a copy of the clock that is reset and a copy of one that is unchanged,
-/// all edges from the initial location to itself.
+/// every label, all edges from the initial location to itself.
 pub fn full() -> Model {
     let mut model = largest();
     let at_most = |clock, constant| Atom::clock(clock, Relation::LessEqual, constant);
     model.invariant = [[0, 1, 2, 3].map(|clock| at_most(clock, 30)); MAX_LOCATIONS];
     for (index, edge) in model.edge.iter_mut().enumerate() {
         let (number, clock) = (index as u8, index % MAX_CLOCKS);
+        edge.label = number % (MAX_LABEL + 1);
         edge.guard = [
             at_most(clock as u8, 15),
             at_most(3 - clock as u8, 29),
@@ -257,8 +277,9 @@ pub fn at_the_last_location(atom: Atom, update: Update) -> Model {
     (model.init, model.target) = (15, 15);
     model.counter = [Counter { greatest: MAX_COUNTER_VALUE, initial: MAX_COUNTER_VALUE }; MAX_COUNTERS];
     model.invariant = [[atom; MAX_ATOMS]; MAX_LOCATIONS];
-    let (guard, updates, order, clock_updates) = ([atom; MAX_ATOMS], [update; 4], [3, 0, 1, 2], [ClockUpdate::Copy(3); 4]);
-    model.edge = [Edge { source: 15, target: 15, guard, updates, order, clock_updates }; MAX_EDGES];
+    let (label, guard, updates, order) = (MAX_LABEL, [atom; MAX_ATOMS], [update; 4], [3, 0, 1, 2]);
+    let clock_updates = [ClockUpdate::Copy(3); MAX_CLOCKS];
+    model.edge = [Edge { source: 15, target: 15, label, guard, updates, order, clock_updates }; MAX_EDGES];
     model
 }
 

@@ -36,7 +36,7 @@ fn number(rng: &mut Rng) -> u8 {
 
 /// Overwrites one field, used or not.
 pub fn damage(rng: &mut Rng, model: &mut Model) {
-    match rng.below(12) {
+    match rng.below(14) {
         0 => model.locations = number(rng),
         1 => model.init = number(rng),
         2 => model.target = number(rng),
@@ -74,17 +74,18 @@ fn slot(rng: &mut Rng, slots: usize, used: u8) -> usize {
 }
 
 fn damage_edge(rng: &mut Rng, clocks: u8, edge: &mut Edge) {
-    match rng.below(8) {
+    match rng.below(10) {
         0 => edge.source = number(rng),
         1 => edge.target = number(rng),
-        2 => damage_atoms(rng, &mut edge.guard),
-        3 => {
+        2 | 3 => edge.label = number(rng),
+        4 => damage_atoms(rng, &mut edge.guard),
+        5 => {
             edge.updates[rng.below(MAX_COUNTERS)] = update(rng);
             if !rng.one_in(4) {
                 edge.order = order(rng, &edge.updates);
             }
         }
-        4 | 5 => damage_order(rng, &mut edge.order),
+        6 | 7 => damage_order(rng, &mut edge.order),
         _ => edge.clock_updates[slot(rng, MAX_CLOCKS, clocks)] = clock_update(rng),
     }
 }

@@ -5,10 +5,11 @@
 //! head (locations, init, target, clocks, counters, edges); `2 I G N` a counter;
 //! `3 L K ATOM` an atom of an invariant; `4 E FROM TO` an edge's ends; `5 E K ATOM`
 //! an atom of a guard; `6 E K UPDATE` an update; `7 E K SORT SOURCE` an update of
-//! a clock; `8 E K N` a slot of the order. An atom is its sort (0 none, 1 clock,
-//! 2 counter), index, relation and constant; an update its sort (0 keep, 1
-//! constant, 2 sum), number and offset plus 32, where 65 to 68 stand for the
-//! offsets -128, -33, 33 and 127; a clock's sort is 0 unchanged, 1 reset, 2 copy.
+//! a clock; `8 E K N` a slot of the order; `9 E N` an edge's label. An atom is its
+//! sort (0 none, 1 clock, 2 counter), index, relation and constant; an update its
+//! sort (0 keep, 1 constant, 2 sum), number and offset plus 32, where 65 to 68
+//! stand for the offsets -128, -33, 33 and 127; a clock's sort is 0 unchanged,
+//! 1 reset, 2 copy.
 //! Questions:
 //! `10` refusal; `11` refusal and ceiling; `12 BOUND` refusal, S, H, N; `13 RUN`
 //! refusal and place; `14 STATE BYTE` refusal and state; `15 BOUND` refusal and
@@ -278,5 +279,8 @@ fn build_edge(e: usize, edge: &Edge, script: &mut Script) {
         if *counter != 0 {
             script.tell(&[8, e32, k as u32, u32::from(*counter)]);
         }
+    }
+    if edge.label != 0 {
+        script.tell(&[9, e32, u32::from(edge.label)]);
     }
 }

@@ -47,6 +47,26 @@ const ITEMS: [&str; 32] = [
     "x00",
 ];
 
+/// What may stand in a label line's place, right and wrong.
+const LABELS: [&str; 16] = [
+    "label=0",
+    "label=15",
+    "label=16",
+    "label=17",
+    "label=999",
+    "label=1000",
+    "label=00",
+    "label=015",
+    "label=-",
+    "label=",
+    "label=x1",
+    "label=1,2",
+    "label",
+    "Label=1",
+    "labels=1",
+    "when=-",
+];
+
 /// Bytes that stand in texts, and some that never do.
 const BYTES: &[u8] = b"0123456789xv<>=!:+-,\n\r afilnotw\0\xff";
 
@@ -87,7 +107,7 @@ fn bound_line(rng: &mut Rng) -> Vec<u8> {
 /// One random damage.
 fn damaged(rng: &mut Rng, mut text: Vec<u8>) -> Vec<u8> {
     let place = rng.below(text.len());
-    match rng.below(16) {
+    match rng.below(17) {
         0 if !text.is_empty() => {
             text.remove(place);
         }
@@ -100,6 +120,7 @@ fn damaged(rng: &mut Rng, mut text: Vec<u8>) -> Vec<u8> {
         8..=11 => text = with_lines(rng, &text, more_items),
         12 => text = with_lines(rng, &text, other_value),
         13 | 14 => text = with_lines(rng, &text, moved_item),
+        15 => text = with_lines(rng, &text, other_label),
         _ => text = with_lines(rng, &text, moved_line),
     }
     text
@@ -201,5 +222,20 @@ fn other_value(rng: &mut Rng, mut lines: Lines) -> Lines {
     line.extend(value.bytes());
     line.push(b'\n');
     lines[place] = line;
+    lines
+}
+
+/// Puts something else in the place of a label line, once in four nothing.
+fn other_label(rng: &mut Rng, mut lines: Lines) -> Lines {
+    let places: Vec<usize> = (0..lines.len()).filter(|place| lines[*place].starts_with(b"label=")).collect();
+    if places.is_empty() {
+        return lines;
+    }
+    let place = rng.pick(&places);
+    if rng.one_in(4) {
+        lines.remove(place);
+    } else {
+        lines[place] = format!("{}\n", rng.pick(&LABELS)).into_bytes();
+    }
     lines
 }

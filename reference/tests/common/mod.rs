@@ -5,6 +5,7 @@ use reference::model::{ClockUpdate, Edge, Model};
 use reference::state::State;
 use reference::text::read;
 
+/// Model A, 14 lines. Line 11 is `label`.
 pub const MODEL_A: &str = "\
 locations=2
 init=0
@@ -16,12 +17,13 @@ inv=-
 edges=1
 from=0
 to=1
+label=0
 when=-
 set=-
 reset=-
 ";
 
-/// Logger model B, 26 lines.
+/// Logger model B, 29 lines. Lines 14, 20 and 26 are `label`.
 pub const MODEL_B: &str = "\
 locations=4
 init=0
@@ -36,16 +38,19 @@ inv=-
 edges=3
 from=0
 to=1
+label=0
 when=-
 set=-
 reset=x0
 from=1
 to=2
+label=0
 when=x0<=2
 set=v0:=v0+1
 reset=-
 from=1
 to=3
+label=0
 when=x0>=3
 set=-
 reset=-
@@ -64,29 +69,33 @@ inv=-
 edges=4
 from=0
 to=1
+label=0
 when=-
 set=-
 reset=x0
 from=1
 to=0
+label=0
 when=x0>3
 set=-
 reset=-
 from=1
 to=2
+label=0
 when=x0<=3
 set=-
 reset=-
 from=2
 to=0
+label=0
 when=-
 set=-
 reset=-
 ";
 
 /// Two of everything, for tests of references and orders. Lines: 4 clocks,
-/// 5 vars, 6 and 7 var, 8 and 9 inv, 10 edges, 11 from, 12 to, 13 when, 14 set,
-/// 15 reset.
+/// 5 vars, 6 and 7 var, 8 and 9 inv, 10 edges, 11 from, 12 to, 13 label, 14 when,
+/// 15 set, 16 reset.
 pub const PAIR: &str = "\
 locations=2
 init=0
@@ -100,13 +109,14 @@ inv=-
 edges=1
 from=0
 to=1
+label=0
 when=-
 set=-
 reset=-
 ";
 
 /// Model A with two counters, of which the edge raises the first and then copies it.
-/// Line 14 is `set`.
+/// Line 15 is `set`.
 pub const C2: &str = "\
 locations=2
 init=0
@@ -120,13 +130,14 @@ inv=-
 edges=1
 from=0
 to=1
+label=0
 when=-
 set=v0:=v0+1,v1:=v0+0
 reset=-
 ";
 
 /// Model A with two clocks, of which the edge resets the first and saves its value
-/// in the second. Line 11 is `when`, line 13 `reset`.
+/// in the second. Line 12 is `when`, line 14 `reset`.
 pub const SAVES: &str = "\
 locations=2
 init=0
@@ -138,6 +149,7 @@ inv=-
 edges=1
 from=0
 to=1
+label=0
 when=x0>=1
 set=-
 reset=x0,x1:=x0
@@ -164,6 +176,25 @@ pub fn with_line(text: &str, line: usize, replacement: &str) -> String {
     let mut lines: Vec<&str> = text.lines().collect();
     lines[line - 1] = replacement;
     lines.iter().map(|line| format!("{line}\n")).collect()
+}
+
+/// The number and line of a reading; a refused one gives the blank model.
+pub fn refusal(text: &[u8]) -> (u32, u32) {
+    let reading = read(text);
+    if reading.refusal != 0 {
+        assert_eq!(reading.model, Model::blank());
+    }
+    (reading.refusal, reading.line)
+}
+
+/// Puts each replacement into a line and compares the refusal numbers. The line
+/// is the one replaced, or 0 for an accepted text.
+pub fn check(base: &str, line: usize, rows: &[(&str, u32)]) {
+    for (replacement, number) in rows {
+        let expected = if *number == 0 { (0, 0) } else { (*number, line as u32) };
+        let text = with_line(base, line, replacement);
+        assert_eq!(refusal(text.as_bytes()), expected, "line {line}: {replacement:?}");
+    }
 }
 
 /// 64-bit FNV-1a of some words, four bytes each, the lowest first.

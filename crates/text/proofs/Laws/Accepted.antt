@@ -27,15 +27,15 @@ use Rattle.text.proofs.resets.ResetsFormed.{reset-formed}
 use Rattle.text.specs.line.Values.{numberFaults, referenceFaults, greatestOf, initialOf, counterFaults, counterIn}
 use Rattle.text.proofs.line.DueLaws.{number-inside, reference-declared, counter-inside}
 use Rattle.text.specs.lines.Store.{withLocations, withUsed, withCounter, withInvariant}
-use Rattle.text.specs.lines.Store.{withEdge, withSource, withEdgeTarget, withGuard, withUpdates, withResets}
+use Rattle.text.specs.lines.Store.{withEdge, withSource, withEdgeTarget, withLabel, withGuard, withUpdates, withResets}
 use Rattle.text.specs.lines.Progress.{Progress, unread}
 use Rattle.text.specs.lines.Lines.{locationsLine, initLine, targetLine, clocksLine, varsLine, varLine, invLine, edgesLine}
-use Rattle.text.specs.lines.Lines.{fromLine, toLine, whenLine, setLine, resetLine}
+use Rattle.text.specs.lines.Lines.{fromLine, toLine, labelLine, whenLine, setLine, resetLine}
 use Rattle.text.specs.lines.Sequence.{inTurn, readHead, readCounters, readInvariants, readEdge, readEdges, readLines}
 use Rattle.text.specs.Text.{ReadReport, readRefused, readAccepted, readEnded, readReport}
 use Rattle.text.proofs.Laws.Keeping.{Good, line-keeps, turns-keep}
 use Rattle.text.proofs.Laws.Partial.{Partial, whole, with-locations, with-initial, with-target, with-clocks, with-vars, with-used, with-counter}
-use Rattle.text.proofs.Laws.Partial.{with-invariant, with-count, with-source, with-edge-target, with-guard, with-updates, with-resets}
+use Rattle.text.proofs.Laws.Partial.{with-invariant, with-count, with-source, with-edge-target, with-label, with-guard, with-updates, with-resets}
 
 -- ---- the head
 head-keeps : (t : List ℕ) → Good (Partial 0 0 0) (readHead (unread t))
@@ -106,25 +106,53 @@ EdgesRead used e m = Partial (m .vars) (m .locations) e m × (m .used ≡ used)
 slot-there : (used e : ℕ) → e < used → {m : Model} {k : ℕ} → EdgesRead used k m → e < 32
 slot-there used e l p = omega (arith, p .1, p .0 .head .used-most)
 
-edge-keeps : (used e : ℕ) → e < used → (p : Progress) → Good (EdgesRead used e) p → Good (EdgesRead used (e + 1)) (readEdge e p)
-unfolding readEdge fromLine toLine whenLine setLine resetLine withSource withEdgeTarget withGuard withUpdates withResets withEdge
-edge-keeps used e l p good =
-    let Read = EdgesRead used (e + 1) in
-    line-keeps Read Read _ _ _ (λ m v q h. (with-resets (q .0) (slot-there used e l q) _ (reset-formed (m .clocks) (resetItems v) h), q .1)) _
-    (line-keeps Read Read _ _ _ updated _
-    (line-keeps Read Read _ _ _ (λ m v q h. (with-guard (q .0) (slot-there used e l q) _ (when-formed (m .clocks) (m .vars) v h), q .1)) _
-    (line-keeps Read Read _ _ _ (λ m v q h. (with-edge-target (q .0) (slot-there used e l q) _ (reference-declared (m .locations) (numberOf v) h), q .1)) _
-    (line-keeps (EdgesRead used e) Read _ _ _ first p good))))
-  where
-    first : (m : Model) (v : List ℕ) → EdgesRead used e m → faultNumber (referenceFaults (m .locations) (numberOf v)) ≡ 0
-        → EdgesRead used (e + 1) (withSource m e (numberIn (numberOf v)))
-    first m v q h = let s = slot-there used e l q in (with-source (with-count (q .0) s) s _ (reference-declared (m .locations) (numberOf v) h), q .1)
+-- each line of edge e; with its first line the edge counts as read
+module _ (used e : ℕ) (l : e < used) where
+  abbrev Read : Model → Type 0
+  Read = EdgesRead used (e + 1)
 
-    updated : (m : Model) (v : List ℕ) → EdgesRead used (e + 1) m → faultNumber (setFaults (m .vars) (setItems v)) ≡ 0
-        → EdgesRead used (e + 1) (withUpdates m e (updateSlots (setItems v)) (orderSlots (setItems v)))
-    updated m v q h =
-        let items = setItems v in
-        (with-updates (q .0) (slot-there used e l q) _ _ (set-formed (m .vars) items h) (order-formed (m .vars) items (q .0 .head .vars-most) h), q .1)
+  from-keeps : (p : Progress) → Good (EdgesRead used e) p → Good Read (fromLine e p)
+  unfolding fromLine withSource withEdge
+  from-keeps = line-keeps (EdgesRead used e) Read _ _ _ first
+    where
+      first : (m : Model) (v : List ℕ) → EdgesRead used e m → faultNumber (referenceFaults (m .locations) (numberOf v)) ≡ 0
+          → Read (withSource m e (numberIn (numberOf v)))
+      first m v q h = let s = slot-there used e l q in (with-source (with-count (q .0) s) s _ (reference-declared (m .locations) (numberOf v) h), q .1)
+
+  to-keeps : (p : Progress) → Good Read p → Good Read (toLine e p)
+  unfolding toLine withEdgeTarget withEdge
+  to-keeps =
+      line-keeps Read Read _ _ _
+      (λ m v q h. (with-edge-target (q .0) (slot-there used e l q) _ (reference-declared (m .locations) (numberOf v) h), q .1))
+
+  label-keeps : (p : Progress) → Good Read p → Good Read (labelLine e p)
+  unfolding labelLine withLabel withEdge
+  label-keeps =
+      line-keeps Read Read _ _ _ (λ m v q h. (with-label (q .0) (slot-there used e l q) _ (number-inside 0 15 (numberOf v) h .1), q .1))
+
+  when-keeps : (p : Progress) → Good Read p → Good Read (whenLine e p)
+  unfolding whenLine withGuard withEdge
+  when-keeps =
+      line-keeps Read Read _ _ _ (λ m v q h. (with-guard (q .0) (slot-there used e l q) _ (when-formed (m .clocks) (m .vars) v h), q .1))
+
+  set-keeps : (p : Progress) → Good Read p → Good Read (setLine e p)
+  unfolding setLine withUpdates withEdge
+  set-keeps = line-keeps Read Read _ _ _ updated
+    where
+      updated : (m : Model) (v : List ℕ) → Read m → faultNumber (setFaults (m .vars) (setItems v)) ≡ 0
+          → Read (withUpdates m e (updateSlots (setItems v)) (orderSlots (setItems v)))
+      updated m v q h =
+          let items = setItems v in
+          (with-updates (q .0) (slot-there used e l q) _ _ (set-formed (m .vars) items h) (order-formed (m .vars) items (q .0 .head .vars-most) h), q .1)
+
+  reset-keeps : (p : Progress) → Good Read p → Good Read (resetLine e p)
+  unfolding resetLine withResets withEdge
+  reset-keeps =
+      line-keeps Read Read _ _ _ (λ m v q h. (with-resets (q .0) (slot-there used e l q) _ (reset-formed (m .clocks) (resetItems v) h), q .1))
+
+  edge-keeps : (p : Progress) → Good (EdgesRead used e) p → Good Read (readEdge e p)
+  unfolding readEdge
+  edge-keeps p good = reset-keeps _ (set-keeps _ (when-keeps _ (label-keeps _ (to-keeps _ (from-keeps p good)))))
 
 all-edges-keep : (p : Progress) → Good Declared p → Good (λ m. Partial (m .vars) (m .locations) (m .used) m) (readEdges p)
 unfolding readEdges

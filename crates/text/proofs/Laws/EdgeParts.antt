@@ -26,6 +26,7 @@ use Rattle.model.proofs.IndexedLaws.{and-T, all-below}
 pub record EdgeParts (locations clocks vars : ℕ) (e : Edge) : Type 0 where
   pub source-ok : T (ltb (e .source) locations)
   pub target-ok : T (ltb (e .target) locations)
+  pub label-ok : T (leb (e .label) 15)
   pub guard-ok : T (atomsFormed clocks vars (e .guard))
   pub updates-ok : T (updatesFormed vars (e .updates))
   pub order-ok : T (orderFormed e)
@@ -35,8 +36,11 @@ module _ (locations clocks vars : ℕ) (e : Edge) where
   abbrev located : Bool
   located = ltb (e .source) locations && ltb (e .target) locations
 
+  abbrev labelled : Bool
+  labelled = located && leb (e .label) 15
+
   abbrev guarded : Bool
-  guarded = located && atomsFormed clocks vars (e .guard)
+  guarded = labelled && atomsFormed clocks vars (e .guard)
 
   abbrev updated : Bool
   updated = guarded && updatesFormed vars (e .updates)
@@ -50,15 +54,17 @@ module _ (locations clocks vars : ℕ) (e : Edge) where
       let x = and-T ordered (resetsFormed clocks (e .resets)) .0 h in
       let o = and-T updated (orderFormed e) .0 (x .0) in
       let y = and-T guarded (updatesFormed vars (e .updates)) .0 (o .0) in
-      let z = and-T located (atomsFormed clocks vars (e .guard)) .0 (y .0) in
-      let w = and-T (ltb (e .source) locations) (ltb (e .target) locations) .0 (z .0) in
-      record { source-ok = w .0; target-ok = w .1; guard-ok = z .1; updates-ok = y .1; order-ok = o .1; resets-ok = x .1 }
+      let z = and-T labelled (atomsFormed clocks vars (e .guard)) .0 (y .0) in
+      let l = and-T located (leb (e .label) 15) .0 (z .0) in
+      let w = and-T (ltb (e .source) locations) (ltb (e .target) locations) .0 (l .0) in
+      record { source-ok = w .0; target-ok = w .1; label-ok = l .1; guard-ok = z .1; updates-ok = y .1; order-ok = o .1; resets-ok = x .1 }
 
   pub shut-edge : EdgeParts locations clocks vars e → T (edgeFormed locations clocks vars e)
   unfolding edgeFormed
   shut-edge p =
       let z = and-T (ltb (e .source) locations) (ltb (e .target) locations) .1 (p .source-ok, p .target-ok) in
-      let y = and-T located (atomsFormed clocks vars (e .guard)) .1 (z, p .guard-ok) in
+      let l = and-T located (leb (e .label) 15) .1 (z, p .label-ok) in
+      let y = and-T labelled (atomsFormed clocks vars (e .guard)) .1 (l, p .guard-ok) in
       let x = and-T guarded (updatesFormed vars (e .updates)) .1 (y, p .updates-ok) in
       let o = and-T updated (orderFormed e) .1 (x, p .order-ok) in
       and-T ordered (resetsFormed clocks (e .resets)) .1 (o, p .resets-ok)
@@ -115,6 +121,7 @@ weaken locations clocks vars e l h =
     shut-edge locations clocks vars e (record {
       source-ok = lt→ltb (e .source) locations (omega (arith, ltb→lt (e .source) 1 (p .source-ok)));
       target-ok = lt→ltb (e .target) locations (omega (arith, ltb→lt (e .target) 1 (p .target-ok)));
+      label-ok = p .label-ok;
       guard-ok = weaken-atoms clocks vars (e .guard) (p .guard-ok);
       updates-ok = weaken-updates vars (e .updates) (p .updates-ok);
       order-ok = p .order-ok;

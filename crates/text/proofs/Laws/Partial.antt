@@ -5,7 +5,7 @@ use mathlib.Core.Path.{_≡_, refl}
 use mathlib.Core.List.{List}
 use mathlib.Core.Bool.{_&&_}
 use native.Mathlib.Omega.{arith}
-use lib.Dec.{T, lt→ltb}
+use lib.Dec.{T, eqb, lt→ltb, le→leb}
 use borrow.Author.Tests.{lt-ltb, le-ltb, le-leb}
 use Rattle.model.specs.declared.AtomSlot.{AtomSlot}
 use Rattle.model.specs.declared.UpdateSlot.{UpdateSlot}
@@ -18,10 +18,10 @@ use Rattle.model.specs.Indexed.{allBelow, sumBelow}
 use Rattle.model.specs.Record.{blankCounter, blankInvariant, blankEdge, blankModel, pastInvariant, pastEdge, edgeAt}
 use Rattle.model.specs.Form.{counterFormed, isBlankCounter, countersFormed, eachFormed, filledFromFirst, atomsFormed, invariantSlotFormed, invariantsFormed}
 use Rattle.model.specs.Automaton.{listed}
-use Rattle.model.specs.Form.{updatesFormed, orderFormed, resetsFormed, edgeFormed, edgeSlotFormed, edgesFormed, headFormed, wellFormed}
+use Rattle.model.specs.Form.{updatesFormed, orderFormed, resetsFormed, edgeFormed, isBlankEdge, edgeSlotFormed, edgesFormed, headFormed, wellFormed}
 use Rattle.model.proofs.IndexedLaws.{and-T, all-below}
 use Rattle.text.specs.lines.Store.{withLocations, withInitial, withTarget, withClocks, withVars, withUsed, withCounter, withInvariant}
-use Rattle.text.specs.lines.Store.{withEdge, withSource, withEdgeTarget, withGuard, withUpdates, withResets}
+use Rattle.text.specs.lines.Store.{withEdge, withSource, withEdgeTarget, withLabel, withGuard, withUpdates, withResets}
 use Rattle.text.proofs.Laws.Slots.{Filled, fill-none, fill-again, fill-next, fill-count, fill-other}
 use Rattle.text.proofs.Laws.EdgeParts.{EdgeParts, open-edge, shut-edge, weaken}
 
@@ -41,7 +41,7 @@ abbrev pub Invariants : ℕ → ℕ → List Invariant → Type 0
 Invariants clocks n = Filled (λ x. atomsFormed clocks 0 (x .atoms)) (λ x. atomsFormed 0 0 (x .atoms)) pastInvariant 16 n
 
 abbrev pub Edges : ℕ → ℕ → ℕ → ℕ → List Edge → Type 0
-Edges locations clocks vars k = Filled (edgeFormed locations clocks vars) (edgeFormed 1 0 0) pastEdge 32 k
+Edges locations clocks vars k = Filled (edgeFormed locations clocks vars) isBlankEdge pastEdge 32 k
 
 -- v counters, n invariants and k edges are read
 pub record Partial (v n k : ℕ) (m : Model) : Type 0 where
@@ -118,8 +118,9 @@ with-invariant p atoms h =
 -- ---- edge e: it counts as read, and its parts are put in
 pub with-count : {v n e : ℕ} {m : Model} → Partial v n e m → e < 32 → Partial v n (e + 1) m
 with-count {e = e} {m = m} p q =
-    let blank = rw (le-ltb e e (omega arith)) at (p .edges .slot e q) in
-    let formed = weaken (m .locations) (m .clocks) (m .vars) (edgeAt m e) (p .head .locations-least) blank in
+    let edge = edgeAt m e in
+    let blank = and-T (eqb (edge .label) 0) (edgeFormed 1 0 0 edge) .0 (rw (le-ltb e e (omega arith)) at (p .edges .slot e q)) in
+    let formed = weaken (m .locations) (m .clocks) (m .vars) edge (p .head .locations-least) (blank .1) in
     record { head = p .head; counters = p .counters; invariants = p .invariants; edges = fill-count (p .edges) formed }
 
 module _ {v n e : ℕ} {m : Model} (p : Partial v n (e + 1) m) (q : e < 32) where
@@ -140,6 +141,7 @@ module _ {v n e : ℕ} {m : Model} (p : Partial v n (e + 1) m) (q : e < 32) wher
   with-source x h = with-edge _ (record {
     source-ok = lt→ltb x (m .locations) h;
     target-ok = parts .target-ok;
+    label-ok = parts .label-ok;
     guard-ok = parts .guard-ok;
     updates-ok = parts .updates-ok;
     order-ok = parts .order-ok;
@@ -151,6 +153,19 @@ module _ {v n e : ℕ} {m : Model} (p : Partial v n (e + 1) m) (q : e < 32) wher
   with-edge-target x h = with-edge _ (record {
     source-ok = parts .source-ok;
     target-ok = lt→ltb x (m .locations) h;
+    label-ok = parts .label-ok;
+    guard-ok = parts .guard-ok;
+    updates-ok = parts .updates-ok;
+    order-ok = parts .order-ok;
+    resets-ok = parts .resets-ok;
+  })
+
+  pub with-label : (x : ℕ) → x ≤ 15 → Partial v n (e + 1) (withLabel m e x)
+  unfolding withLabel orderFormed listed
+  with-label x h = with-edge _ (record {
+    source-ok = parts .source-ok;
+    target-ok = parts .target-ok;
+    label-ok = le→leb x 15 h;
     guard-ok = parts .guard-ok;
     updates-ok = parts .updates-ok;
     order-ok = parts .order-ok;
@@ -162,6 +177,7 @@ module _ {v n e : ℕ} {m : Model} (p : Partial v n (e + 1) m) (q : e < 32) wher
   with-guard atoms h = with-edge _ (record {
     source-ok = parts .source-ok;
     target-ok = parts .target-ok;
+    label-ok = parts .label-ok;
     guard-ok = h;
     updates-ok = parts .updates-ok;
     order-ok = parts .order-ok;
@@ -175,6 +191,7 @@ module _ {v n e : ℕ} {m : Model} (p : Partial v n (e + 1) m) (q : e < 32) wher
   with-updates slots order h o = with-edge _ (record {
     source-ok = parts .source-ok;
     target-ok = parts .target-ok;
+    label-ok = parts .label-ok;
     guard-ok = parts .guard-ok;
     updates-ok = h;
     order-ok = o _ refl refl;
@@ -186,6 +203,7 @@ module _ {v n e : ℕ} {m : Model} (p : Partial v n (e + 1) m) (q : e < 32) wher
   with-resets slots h = with-edge _ (record {
     source-ok = parts .source-ok;
     target-ok = parts .target-ok;
+    label-ok = parts .label-ok;
     guard-ok = parts .guard-ok;
     updates-ok = parts .updates-ok;
     order-ok = parts .order-ok;

@@ -7,7 +7,7 @@ use Rattle.text.specs.updates.Sets.{setFaults, updateSlots, orderSlots, 
 use Rattle.text.specs.resets.Resets.{resetFaults, resetSlots, resetItems}
 use Rattle.text.specs.line.Values.{numberFaults, referenceFaults, greatestOf, initialOf, counterFaults, counterIn}
 use Rattle.text.specs.lines.Store.{withLocations, withInitial, withTarget, withClocks, withVars, withUsed, withCounter, withInvariant}
-use Rattle.text.specs.lines.Store.{withSource, withEdgeTarget, withGuard, withUpdates, withResets}
+use Rattle.text.specs.lines.Store.{withSource, withEdgeTarget, withLabel, withGuard, withUpdates, withResets}
 use Rattle.text.specs.lines.Progress.{Progress, readLine}
 
 -- 1 to 16 locations
@@ -40,12 +40,15 @@ invLine l = readLine (ascii "inv=") (λ m v. atomFaults (m .clocks) (m .vars) (i
 unfoldable pub edgesLine : Progress → Progress
 edgesLine = readLine (ascii "edges=") (λ m v. numberFaults 0 32 (numberOf v)) (λ m v. withUsed m (numberIn (numberOf v)))
 
--- edge e: source and target location, guard, updates and their order, resets
+-- edge e: source and target location, label, guard, updates and their order, resets
 unfoldable pub fromLine : ℕ → Progress → Progress
 fromLine e = readLine (ascii "from=") (λ m v. referenceFaults (m .locations) (numberOf v)) (λ m v. withSource m e (numberIn (numberOf v)))
 
 unfoldable pub toLine : ℕ → Progress → Progress
 toLine e = readLine (ascii "to=") (λ m v. referenceFaults (m .locations) (numberOf v)) (λ m v. withEdgeTarget m e (numberIn (numberOf v)))
+
+unfoldable pub labelLine : ℕ → Progress → Progress
+labelLine e = readLine (ascii "label=") (λ m v. numberFaults 0 15 (numberOf v)) (λ m v. withLabel m e (numberIn (numberOf v)))
 
 unfoldable pub whenLine : ℕ → Progress → Progress
 whenLine e = readLine (ascii "when=") (λ m v. atomFaults (m .clocks) (m .vars) (whenItems v)) (λ m v. withGuard m e (atomSlots (whenItems v)))

@@ -3,7 +3,7 @@ use Prim.Native.Nat.{ℕ, zero, suc}
 use mathlib.Core.List.{List}
 use Rattle.text.specs.lines.Progress.{Progress, unread}
 use Rattle.text.specs.lines.Lines.{locationsLine, initLine, targetLine, clocksLine, varsLine, varLine, invLine, edgesLine}
-use Rattle.text.specs.lines.Lines.{fromLine, toLine, whenLine, setLine, resetLine}
+use Rattle.text.specs.lines.Lines.{fromLine, toLine, labelLine, whenLine, setLine, resetLine}
 
 -- f 0, then f 1, .., n of them
 unfoldable pub inTurn : {A : Type 0} → (ℕ → A → A) → ℕ → A → A
@@ -22,9 +22,9 @@ readCounters p = inTurn varLine (p .model .vars) p
 unfoldable pub readInvariants : Progress → Progress
 readInvariants p = inTurn invLine (p .model .locations) p
 
--- for each edge from, to, when, set, reset
+-- for each edge from, to, label, when, set, reset
 unfoldable pub readEdge : ℕ → Progress → Progress
-readEdge e p = resetLine e (setLine e (whenLine e (toLine e (fromLine e p))))
+readEdge e p = resetLine e (setLine e (whenLine e (labelLine e (toLine e (fromLine e p)))))
 
 unfoldable pub readEdges : Progress → Progress
 readEdges p = inTurn readEdge (p .model .used) p

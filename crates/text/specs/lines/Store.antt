@@ -25,8 +25,8 @@ modelOf l i t c v counters invariants u edges = record {
   edges = edges;
 }
 
-abbrev edgeOf : ℕ → ℕ → List AtomSlot → List UpdateSlot → List ℕ → List ClockSlot → Edge
-edgeOf s t guard updates order resets = record { source = s; target = t; guard = guard; updates = updates; order = order; resets = resets }
+abbrev edgeOf : ℕ → ℕ → ℕ → List AtomSlot → List UpdateSlot → List ℕ → List ClockSlot → Edge
+edgeOf s t label guard updates order resets = record { source = s; target = t; label = label; guard = guard; updates = updates; order = order; resets = resets }
 
 -- ---- the numbers of the model
 unfoldable pub withLocations : Model → ℕ → Model
@@ -61,17 +61,20 @@ withEdge m e edge = modelOf (m .locations) (m .initial) (m .target) (m .clocks) 
 
 -- ---- a part of edge e
 unfoldable pub withSource : Model → ℕ → ℕ → Model
-withSource m e n = let edge = edgeAt m e in withEdge m e (edgeOf n (edge .target) (edge .guard) (edge .updates) (edge .order) (edge .resets))
+withSource m e n = let edge = edgeAt m e in withEdge m e (edgeOf n (edge .target) (edge .label) (edge .guard) (edge .updates) (edge .order) (edge .resets))
 
 unfoldable pub withEdgeTarget : Model → ℕ → ℕ → Model
-withEdgeTarget m e n = let edge = edgeAt m e in withEdge m e (edgeOf (edge .source) n (edge .guard) (edge .updates) (edge .order) (edge .resets))
+withEdgeTarget m e n = let edge = edgeAt m e in withEdge m e (edgeOf (edge .source) n (edge .label) (edge .guard) (edge .updates) (edge .order) (edge .resets))
+
+unfoldable pub withLabel : Model → ℕ → ℕ → Model
+withLabel m e n = let edge = edgeAt m e in withEdge m e (edgeOf (edge .source) (edge .target) n (edge .guard) (edge .updates) (edge .order) (edge .resets))
 
 unfoldable pub withGuard : Model → ℕ → List AtomSlot → Model
-withGuard m e atoms = let edge = edgeAt m e in withEdge m e (edgeOf (edge .source) (edge .target) atoms (edge .updates) (edge .order) (edge .resets))
+withGuard m e atoms = let edge = edgeAt m e in withEdge m e (edgeOf (edge .source) (edge .target) (edge .label) atoms (edge .updates) (edge .order) (edge .resets))
 
 -- the updates, and the order in which they are listed
 unfoldable pub withUpdates : Model → ℕ → List UpdateSlot → List ℕ → Model
-withUpdates m e slots order = let edge = edgeAt m e in withEdge m e (edgeOf (edge .source) (edge .target) (edge .guard) slots order (edge .resets))
+withUpdates m e slots order = let edge = edgeAt m e in withEdge m e (edgeOf (edge .source) (edge .target) (edge .label) (edge .guard) slots order (edge .resets))
 
 unfoldable pub withResets : Model → ℕ → List ClockSlot → Model
-withResets m e slots = let edge = edgeAt m e in withEdge m e (edgeOf (edge .source) (edge .target) (edge .guard) (edge .updates) (edge .order) slots)
+withResets m e slots = let edge = edgeAt m e in withEdge m e (edgeOf (edge .source) (edge .target) (edge .label) (edge .guard) (edge .updates) (edge .order) slots)
