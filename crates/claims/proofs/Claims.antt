@@ -266,7 +266,8 @@ unlabelled-answered = SameAnswers.unlabelled-same
 pub labels-alone : (m n : Model) → T (wellFormed m) → T (wellFormed n) → LabelsAlone m n → answers m ≡ answers n
 labels-alone = SameAnswers.labels-alone
 
--- So do the records of any two texts that are read, if they differ in labels alone; the calls for C are those on the record read (`text-calls`).
+-- So do the records of any two texts that are read, if they differ in labels alone. (That emission, file, walker and conversions for C are those on the
+-- record read is `text-calls`.)
 pub text-labels-alone : (t u : List ℕ) → IsRead t → IsRead u → LabelsAlone (textModel t) (textModel u) → answers (textModel t) ≡ answers (textModel u)
 text-labels-alone = SameAnswers.text-labels-alone
 
