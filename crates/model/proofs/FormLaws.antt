@@ -167,7 +167,7 @@ order-slot e h = record {
         let c = eqb (placeIn (e .order) (slot k)) k in
         and₃ a b c (yes k (listed e) (a && b && c) (eqb (slot k) 0) (h k (omega (arith, listed-le e))) l)
 
-edge-formed : (m : Model) → m .vars ≤ 4 → m .clocks ≤ 4 → (e : Edge) → T (edgeFormed (m .locations) (m .clocks) (m .vars) e) → WellFormedEdge m e
+pub edge-formed : (m : Model) → m .vars ≤ 4 → m .clocks ≤ 4 → (e : Edge) → T (edgeFormed (m .locations) (m .clocks) (m .vars) e) → WellFormedEdge m e
 edge-formed m le le′ e h =
     let g = edge-parts (m .locations) (m .clocks) (m .vars) e h in
     record {

@@ -1,4 +1,5 @@
 pub mod IndexedLaws
+pub mod CutLaws
 pub mod OrderLaws
 pub mod FormLaws
 pub mod BlankSlots
