@@ -53,6 +53,20 @@ void check_output(const char *name, struct wirdoku_output found, uint8_t number,
         printf("    expected %d %zu %d, found %d %zu %d\n", number, line, outcome, found.number, found.line, found.outcome);
 }
 
+void check_pair(const char *name, struct wirdoku_pair found, uint8_t number, uint8_t text, size_t line) {
+    int holds = found.number == number && found.text == text && found.line == line;
+    check(name, holds);
+    if (!holds)
+        printf("    expected %d %d %zu, found %d %d %zu\n", number, text, line, found.number, found.text, found.line);
+}
+
+void check_parts(const char *name, struct wirdoku_part_steps found, uint8_t number, size_t line, uint8_t first, uint8_t second) {
+    int holds = found.number == number && found.line == line && found.first == first && found.second == second;
+    check(name, holds);
+    if (!holds)
+        printf("    expected %d %zu %d %d, found %d %zu %d %d\n", number, line, first, second, found.number, found.line, found.first, found.second);
+}
+
 static void print_shape(const char *word, struct wirdoku_shape s) {
     printf("    %s %d %zu %d %d %d %d %d %d %zu %zu %zu\n", word, s.number, s.line, s.locations, s.initial, s.target, s.clocks, s.counters,
            s.edges, s.ceiling, s.state, s.choices);

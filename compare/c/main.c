@@ -1,5 +1,5 @@
 /* Tests of the library's calls from C, through the header: sizes and offsets of the structs, the document's worked cases, every refusal
- * that a call on a text or on a solver's output can meet, limits, lent buffers compared whole. Run at the top of the repository;
+ * that a call on a text, on two or on a solver's output can meet, limits, lent buffers compared whole. Run at the top of the repository;
  * scripts/c-calls builds it and runs it under valgrind. The last line is 'N passed, M failed'. */
 #include "check.h"
 
@@ -12,6 +12,7 @@ int main(void) {
         file_tests();
         run_tests();
         output_tests();
+        pair_tests();
     }
     return finish();
 }

@@ -1,7 +1,8 @@
 //! The answers that the reference gives to the questions of each call, in the library's terms. `what was written` is what a lent
-//! buffer holds from its start after the call; it holds what it held beyond.
+//! buffer holds from its start after the call; it holds what it held beyond. A question is about what one text gives, or two composed.
 
 use reference::assign::{decode, encode};
+use reference::compose::Composed;
 use reference::dimacs::file;
 use reference::list::{totals, words, Totals};
 use reference::model::{ceiling, choice_length, state_length, Model};
@@ -10,17 +11,20 @@ use reference::refusal::{number_and_place, Refusal, BYTES_SHORT, WORDS_SHORT};
 use reference::state::State as ReferenceState;
 use reference::step::{self, step_call};
 use reference::text::{read_bound_line, read_whole};
-use wirdoku::library::{Answer, FileAnswer, OutputAnswer, Shape, Sizes, State, StateAnswer};
+use wirdoku::library::{Answer, FileAnswer, OutputAnswer, PartSteps, Shape, Sizes, State, StateAnswer, STAYS};
+
+/// What a text gives, or two composed: the model, or the refusal with its line.
+pub type Given = Result<Model, Refusal>;
 
 fn answer((number, place): (u32, u32)) -> Answer {
     Answer { number: number as u8, place: place as usize }
 }
 
-fn refused(refusal: Refusal) -> Answer {
+fn refused(refusal: &Refusal) -> Answer {
     answer((refusal.number, refusal.place))
 }
 
-fn unread(refusal: Refusal, state: State) -> StateAnswer {
+fn unread(refusal: &Refusal, state: State) -> StateAnswer {
     StateAnswer { number: refusal.number as u8, line: refusal.place as usize, state }
 }
 
@@ -47,7 +51,11 @@ pub fn read(text: &[u8]) -> Answer {
 }
 
 pub fn shape(text: &[u8]) -> Shape {
-    match read_whole(text) {
+    shape_of(&read_whole(text))
+}
+
+pub fn shape_of(given: &Given) -> Shape {
+    match given {
         Err(refusal) => Shape { number: refusal.number as u8, line: refusal.place as usize, ..Shape::default() },
         Ok(model) => Shape {
             number: 0,
@@ -58,9 +66,9 @@ pub fn shape(text: &[u8]) -> Shape {
             clocks: model.clocks,
             counters: model.counters,
             edges: model.edges,
-            ceiling: ceiling(&model) as usize,
-            state: state_length(&model) as usize,
-            choices: choice_length(&model) as usize,
+            ceiling: ceiling(model) as usize,
+            state: state_length(model) as usize,
+            choices: choice_length(model) as usize,
         },
     }
 }
@@ -78,7 +86,12 @@ impl List {
 
     /// The list of a text and a bound: 1 to 8, 21.
     pub fn of_text(text: &[u8], bound: usize) -> List {
-        let counted = read_whole(text).and_then(|model| {
+        List::of(read_whole(text), bound)
+    }
+
+    /// The list of what is given and a bound.
+    pub fn of(given: Given, bound: usize) -> List {
+        let counted = given.and_then(|model| {
             let totals = totals(&model, bound)?;
             Ok((totals, model))
         });
@@ -139,34 +152,50 @@ impl List {
 }
 
 pub fn initial(text: &[u8]) -> StateAnswer {
-    match read_whole(text) {
-        Ok(model) => StateAnswer { number: 0, line: 0, state: library_state(ReferenceState::initial(&model)) },
+    initial_of(&read_whole(text))
+}
+
+pub fn initial_of(given: &Given) -> StateAnswer {
+    match given {
+        Ok(model) => StateAnswer { number: 0, line: 0, state: library_state(ReferenceState::initial(model)) },
         Err(refusal) => unread(refusal, State::default()),
     }
 }
 
 pub fn step(text: &[u8], state: State, byte: u8) -> StateAnswer {
-    match read_whole(text) {
+    step_of(&read_whole(text), state, byte)
+}
+
+pub fn step_of(given: &Given, state: State, byte: u8) -> StateAnswer {
+    match given {
         Err(refusal) => unread(refusal, state),
         Ok(model) => {
-            let (number, after) = step_call(&model, reference_state(state), byte);
+            let (number, after) = step_call(model, reference_state(state), byte);
             StateAnswer { number: number as u8, line: 0, state: library_state(after) }
         }
     }
 }
 
 pub fn walk(text: &[u8], run: &[u8]) -> Answer {
-    match read_whole(text) {
-        Ok(model) => answer(step::walk(&model, run)),
+    walk_of(&read_whole(text), run)
+}
+
+pub fn walk_of(given: &Given, run: &[u8]) -> Answer {
+    match given {
+        Ok(model) => answer(step::walk(model, run)),
         Err(refusal) => refused(refusal),
     }
 }
 
 /// The answer for a run buffer of `room` bytes, and what was written.
 pub fn assignment_to_run(text: &[u8], bound: usize, assignment: &[u8], room: usize) -> (Answer, Vec<u8>) {
+    assignment_to_run_of(&read_whole(text), bound, assignment, room)
+}
+
+pub fn assignment_to_run_of(given: &Given, bound: usize, assignment: &[u8], room: usize) -> (Answer, Vec<u8>) {
     let mut run = vec![0; room];
-    let told = match read_whole(text) {
-        Ok(model) => answer(decode(&model, bound, assignment, &mut run)),
+    let told = match given {
+        Ok(model) => answer(decode(model, bound, assignment, &mut run)),
         Err(refusal) => refused(refusal),
     };
     run.truncate(if told.number == 0 { bound } else { 0 });
@@ -175,17 +204,34 @@ pub fn assignment_to_run(text: &[u8], bound: usize, assignment: &[u8], room: usi
 
 /// The answer for an assignment buffer of `room` bytes, and what was written.
 pub fn run_to_assignment(text: &[u8], run: &[u8], room: usize) -> (Answer, Vec<u8>) {
+    run_to_assignment_of(&read_whole(text), run, room)
+}
+
+pub fn run_to_assignment_of(given: &Given, run: &[u8], room: usize) -> (Answer, Vec<u8>) {
     let mut assignment = vec![0; room];
-    let (told, length) = match read_whole(text) {
+    let (told, length) = match given {
         Ok(model) => {
-            let told = answer(encode(&model, run, &mut assignment));
-            let length = reference::model::variables(&model, run.len().min(64)) as usize;
+            let told = answer(encode(model, run, &mut assignment));
+            let length = reference::model::variables(model, run.len().min(64)) as usize;
             (told, length)
         }
         Err(refusal) => (refused(refusal), 0),
     };
     assignment.truncate(if told.number == 0 { length } else { 0 });
     (told, assignment)
+}
+
+/// What a step byte of two texts composed is for each part.
+pub fn part_steps(composed: &Result<Composed, Refusal>, byte: u8) -> PartSteps {
+    match composed {
+        Err(refusal) => PartSteps { number: refusal.number as u8, line: refusal.place as usize, first: 0, second: 0 },
+        Ok(composed) => match composed.part_steps(byte) {
+            Err(number) => PartSteps { number: number as u8, ..PartSteps::default() },
+            Ok((first, second)) => {
+                PartSteps { number: 0, line: 0, first: first.unwrap_or(STAYS), second: second.unwrap_or(STAYS) }
+            }
+        },
+    }
 }
 
 /// The answer for an assignment buffer of `room` bytes, and what was written: all of it, or nothing.

@@ -9,7 +9,7 @@ use crate::lent::Lent;
 use crate::part::Seeds;
 use crate::tally::Tally;
 use crate::texts::written;
-use crate::{calls, nulls, outputs};
+use crate::{calls, nulls, outputs, pair_fixed};
 
 const ACCEPTED: Answer = Answer { number: 0, place: 0 };
 
@@ -30,6 +30,7 @@ pub fn fixed(tally: &mut Tally, _: Seeds) {
     greatest_bound(tally);
     limits_of_the_text(tally);
     outputs::worked(tally);
+    pair_fixed::worked(tally);
     nulls::nulls(tally);
 }
 

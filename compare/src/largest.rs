@@ -1,4 +1,5 @@
-//! Models at every limit, at bound 64: the list with the most words, the longest file, and runs of 64 steps both ways.
+//! Models at every limit, at bound 64: the list with the most words, the longest file, and runs of 64 steps both ways; the same of two
+//! texts, of which one is the blank model.
 
 use reference::gen::models;
 use reference::gen::rng::Rng;
@@ -8,10 +9,11 @@ use wirdoku::library::{self, FileAnswer, Sizes};
 
 use crate::expected::List;
 use crate::lent::Lent;
+use crate::pair_calls::Pair;
 use crate::part::Seeds;
 use crate::tally::Tally;
 use crate::texts::written;
-use crate::{calls, show};
+use crate::{calls, pair_calls, show};
 
 /// The totals of the longest list.
 const MOST: Sizes = Sizes { number: 0, line: 0, variables: 21_776, clauses: 1_876_043, words: 6_729_941 };
@@ -27,6 +29,43 @@ pub fn largest(tally: &mut Tally, _: Seeds) {
         let (model, run) = model_and_run(seed);
         both_ways(tally, seed, &written(&model), &run);
     }
+    longest_list_of_a_pair(tally);
+    run_of_a_pair(tally);
+}
+
+/// The longest list and its file come out of two texts too.
+fn longest_list_of_a_pair(tally: &mut Tally) {
+    let (blank, text) = (written(&Model::blank()), written(&models::largest()));
+    for (first, second) in [(&text, &blank), (&blank, &text)] {
+        tally.answer("pair_counts", MOST, library::pair_counts(first, second, MAX_BOUND));
+        let mut lent = Lent::new(1, MOST.words + 100);
+        tally.answer("pair_emit", MOST, library::pair_emit(first, second, MAX_BOUND, lent.slice()));
+        tally.buffer("pair_emit", &lent, &List::of_text(&text, MAX_BOUND).words());
+    }
+    tally.case(|| "the longest list, of two texts".to_string());
+}
+
+/// A run of 64 steps of a model at every limit, which is first or second.
+fn run_of_a_pair(tally: &mut Tally) {
+    let (model, run) = model_and_run(RUNS[0]);
+    let (blank, text) = (written(&Model::blank()), written(&model));
+    for (first, second) in [(&text, &blank), (&blank, &text)] {
+        let pair = Pair::of(first, second);
+        pair_calls::walk(tally, &pair, &run);
+        tally.same("accepted", 0, library::pair_walk(first, second, &run).number);
+        let mut assignment = vec![9; MOST.variables];
+        tally.same("accepted", 0, library::pair_run_to_assignment(first, second, &run, &mut assignment).number);
+        for room in [MOST.variables, MOST.variables - 1] {
+            pair_calls::encode(tally, room as u64, &pair, &run, room);
+        }
+        for room in [MAX_BOUND, MAX_BOUND - 1] {
+            pair_calls::decode(tally, room as u64, &pair, (MAX_BOUND, &assignment), room);
+        }
+        for byte in 0..=255 {
+            pair_calls::parts(tally, &pair, byte);
+        }
+    }
+    tally.case(|| "a run of two texts at every limit".to_string());
 }
 
 /// The longest list: totals, words; 22 with one word less.

@@ -3,7 +3,7 @@
 use std::time::Instant;
 
 use crate::tally::{Due, Tally};
-use crate::{assignments, fixed, labels, largest, lists, outputs, runs, shipped, stack, texts, windows};
+use crate::{assignments, fixed, joint, labels, largest, lists, outputs, pairs, runs, shipped, stack, texts, windows};
 
 /// Seeds from the first on.
 #[derive(Clone, Copy)]
@@ -79,6 +79,8 @@ pub fn parts() -> Vec<Part> {
         part("runs", "runs and steps", (5_000_000, 6_000), runs::DUE, runs::runs),
         part("assignments", "assignments", (6_000_000, 6_000), assignments::DUE, assignments::assignments),
         part("labels", "texts that differ in labels alone, every call", (10_000_000, 1_500), labels::DUE, labels::labels),
+        part("pairs", "two texts composed, every call", (11_000_000, 20_000), pairs::DUE, pairs::pairs),
+        part("joint", "every step of small products against their parts", (12_000_000, 1_200), joint::DUE, joint::joint),
         part("outputs", "solvers' outputs, right and damaged", (8_000_000, 30_000), outputs::DUE, outputs::outputs),
         part(
             "near_outputs",

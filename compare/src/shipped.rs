@@ -1,4 +1,5 @@
-//! The models in the repository: the list and its file at every bound, and every shortest run both ways.
+//! The models in the repository, and the pairs of them that are composed: the list and its file at every bound, and every shortest run
+//! both ways.
 
 use std::collections::HashSet;
 use std::path::Path;
@@ -11,6 +12,7 @@ use reference::subject;
 use wirdoku::library;
 
 use crate::expected::List;
+use crate::pair_calls::{self, Pair};
 use crate::part::Seeds;
 use crate::tally::Tally;
 use crate::{calls, show};
@@ -23,7 +25,7 @@ pub fn shipped(tally: &mut Tally, _: Seeds) {
     let shipped = subject::shipped(Path::new(folder));
     tally.same("models", None, shipped.as_ref().err());
     let shipped = shipped.unwrap_or_default();
-    tally.same("models, eight at least", true, shipped.len() >= 8);
+    tally.same("models, eleven at least", true, shipped.len() >= 11);
     tally.case(|| "folder models".to_string());
     for subject::Subject { name, model, text } in shipped {
         for bound in 0..=MAX_BOUND + 1 {
@@ -34,6 +36,43 @@ pub fn shipped(tally: &mut Tally, _: Seeds) {
         tally.case(|| format!("lists of {name}"));
         shortest_runs(tally, &text, &model);
         tally.case(|| format!("shortest runs of {name}"));
+    }
+    pairs(tally, Path::new(folder));
+}
+
+fn pairs(tally: &mut Tally, folder: &Path) {
+    let shipped = subject::shipped_pairs(folder);
+    tally.same("pairs", None, shipped.as_ref().err());
+    let shipped = shipped.unwrap_or_default();
+    tally.same("pairs, two at least", true, shipped.len() >= 2);
+    tally.case(|| "pairs of models".to_string());
+    for (first, second) in shipped {
+        let pair = Pair::of(&first.text, &second.text);
+        tally.same("they compose", 0, pair.told.number);
+        for bound in 0..=MAX_BOUND + 1 {
+            let needed = pair.list(bound).counts.words;
+            pair_calls::list(tally, bound as u64, &pair, bound, &[needed, needed.saturating_sub(1)]);
+        }
+        pair_calls::reading(tally, 1, &pair);
+        shortest_runs_of(tally, &pair);
+        tally.case(|| format!("{} with {}", first.name, second.name));
+    }
+}
+
+/// Walks every shortest run of a pair, and takes it to its assignment and back.
+fn shortest_runs_of(tally: &mut Tally, pair: &Pair) {
+    let model = match pair.model() {
+        Some(model) => model,
+        None => return,
+    };
+    if let Ok(Shortest::Steps(steps)) = shortest(model, MOST_STATES) {
+        for run in runs(model, steps) {
+            let assignment = assignment_of(model, &run).unwrap_or_default();
+            pair_calls::walk(tally, pair, &run);
+            tally.same(&show::run(&run), 0, library::pair_walk(&pair.first, &pair.second, &run).number);
+            pair_calls::encode(tally, 1, pair, &run, assignment.len());
+            pair_calls::decode(tally, 2, pair, (steps, &assignment), steps);
+        }
     }
 }
 

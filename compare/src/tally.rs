@@ -3,7 +3,7 @@
 use std::collections::BTreeMap;
 use std::fmt::Debug;
 
-use wirdoku::library::{Answer, FileAnswer, OutputAnswer, Shape, Sizes, StateAnswer};
+use wirdoku::library::{Answer, FileAnswer, OutputAnswer, PairAnswer, PartSteps, Shape, Sizes, StateAnswer};
 
 use crate::lent::{Cell, Lent};
 
@@ -42,6 +42,18 @@ impl Numbered for OutputAnswer {
 }
 
 impl Numbered for Shape {
+    fn number(&self) -> u8 {
+        self.number
+    }
+}
+
+impl Numbered for PairAnswer {
+    fn number(&self) -> u8 {
+        self.number
+    }
+}
+
+impl Numbered for PartSteps {
     fn number(&self) -> u8 {
         self.number
     }
@@ -125,7 +137,7 @@ impl Tally {
     pub fn print_answers(&self) {
         for (call, met) in &self.answers {
             let counts: Vec<String> = met.iter().map(|(number, count)| format!("{number}:{count}")).collect();
-            println!("    {call:<20} {}", counts.join(" "));
+            println!("    {call:<28} {}", counts.join(" "));
         }
     }
 

@@ -2,10 +2,12 @@
 //! model text on standard input, and prints the library's answer.
 
 use std::fmt;
+use std::fs;
 use std::io::{self, Read, Write};
 
 use reference::assign::{decode, encode};
 use reference::cnf::printed;
+use reference::compose::{read_pair, Composed};
 use reference::dimacs::{file, write_file};
 use reference::gen::cases::{case, KINDS};
 use reference::gen::script::{script, Script};
@@ -17,8 +19,10 @@ use reference::search::{count_runs, shortest, visit_runs, Shortest};
 use reference::size::sizes;
 use reference::state::State;
 use reference::step::{step_call, walk};
-use reference::text::read_whole;
+use reference::text::{read_whole, write};
 
+/// Shown for a part that stands still.
+const STAYS: u8 = 255;
 /// Most states that a search keeps.
 const STATE_LIMIT: usize = 2_000_000;
 
@@ -43,14 +47,17 @@ reference output VARIABLES   a solver's output in, the answer of its reading for
 reference runs BOUND         every run of BOUND steps, one a line
 reference count BOUND        the number of runs of BOUND steps
 reference shortest           the length of a shortest run up to 64, or none
+reference compose A B        the text of the models in two files composed
+reference parts A B BYTE     what a step byte of the composed model is for each part; 255: it stands still
 reference gen SEED COUNT KIND
                              COUNT cases, the first from SEED, each next from one more
 reference script SEED COUNT  input for a program that answers questions about records
 reference answers SEED COUNT what that program must write
 reference help               this page
 
-All but size, cnf, output, gen, script, answers and help read a model text on standard input; a text that is refused gives
-its number and line. BYTES and VALUES are decimal numbers 0 to 255. `count` and `shortest`
+All but size, cnf, output, compose, parts, gen, script, answers and help read a model text on standard input; a text that is
+refused gives its number and line. A and B are files with model texts, or - for standard input; a refusal of one or both gives
+its number, the text that it is found in (1 or 2, else 0) and the line. BYTES and VALUES are decimal numbers 0 to 255. `count` and `shortest`
 say unknown where a search would keep more than two million states, or the number needs more
 than 128 bits.
 
@@ -100,6 +107,8 @@ pub fn perform(arguments: &[String], out: &mut dyn Write) -> Done {
         ["runs", bound] => show_runs(number(bound)?, out),
         ["count", bound] => show_count(number(bound)?, out),
         ["shortest"] => show_shortest(out),
+        ["compose", first, second] => show_composed(first, second, out),
+        ["parts", first, second, byte] => show_parts(first, second, number(byte)?, out),
         ["script", seed, count] => show_scripts(number(seed)?, number(count)?, |s| s.input, out),
         ["answers", seed, count] => show_scripts(number(seed)?, number(count)?, |s| s.answers, out),
         ["gen", seed, count, kind] => show_cases(number(seed)?, number(count)?, kind, out),
@@ -300,6 +309,34 @@ fn show_shortest(out: &mut dyn Write) -> Done {
             Shortest::None => Ok(writeln!(out, "shortest=none")?),
             Shortest::Unknown => Ok(writeln!(out, "shortest=unknown")?),
         })
+    })
+}
+
+/// Reads two files, of which each that is named - is standard input, and shows an answer made from both models composed, or the
+/// refusal with its text and line.
+fn with_pair(first: &str, second: &str, out: &mut dyn Write, show: impl FnOnce(&Composed, &mut dyn Write) -> Done) -> Done {
+    let given = if [first, second].contains(&"-") { input()? } else { Vec::new() };
+    let text = |path| if path == "-" { Ok(given.clone()) } else { fs::read(path) };
+    match read_pair(&text(first)?, &text(second)?) {
+        Ok(composed) => show(&composed, out),
+        Err(pair) => Ok(writeln!(out, "refusal={}\ntext={}\nline={}", pair.refusal.number, pair.text, pair.refusal.place)?),
+    }
+}
+
+fn show_composed(first: &str, second: &str, out: &mut dyn Write) -> Done {
+    with_pair(first, second, out, |composed, out| {
+        with_answer(write(&composed.model), out, |text, out| Ok(write!(out, "{text}")?))
+    })
+}
+
+fn show_parts(first: &str, second: &str, byte: u8, out: &mut dyn Write) -> Done {
+    with_pair(first, second, out, |composed, out| {
+        let step = |part: Option<u8>| part.unwrap_or(STAYS);
+        let (refusal, parts) = match composed.part_steps(byte) {
+            Ok((first, second)) => (0, (step(first), step(second))),
+            Err(number) => (number, (0, 0)),
+        };
+        Ok(writeln!(out, "refusal={refusal}\nfirst={}\nsecond={}", parts.0, parts.1)?)
     })
 }
 

@@ -9,6 +9,7 @@
 //! | [`state`] | a state, the initial state, which numbers lie in their groups |
 //! | [`step`] | delay and edge steps, the step call, the walker |
 //! | [`text`] | reader and writer of the model text, the bound line |
+//! | [`compose`] | two models as one |
 //! | [`numbering`] | which solver variable stands for what |
 //! | [`list`] | the clause list, its totals, its emission |
 //! | [`dimacs`] | the list's DIMACS file, written to a lent buffer |
@@ -25,6 +26,7 @@
 
 pub mod assign;
 pub mod cnf;
+pub mod compose;
 pub mod dimacs;
 pub mod flat;
 pub mod gen;

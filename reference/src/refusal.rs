@@ -52,6 +52,9 @@ pub const WRONG_OUTPUT_LINE: u32 = 33;
 pub const WRONG_VARIABLE: u32 = 34;
 /// The closing 0 with a variable unnamed, or an end without it or without `s`.
 pub const NOT_ALL_NAMED: u32 = 35;
+/// The composed model has more locations, clocks, counters, edges or atoms than a
+/// record may hold.
+pub const TOO_LARGE_TOGETHER: u32 = 38;
 
 /// A refusal: its number in the table, and its place (a line, a step or an
 /// index), which is 0 where the table names none.

@@ -61,3 +61,43 @@ impl State {
         self.meets(&model.invariant[usize::from(self.location)])
     }
 }
+
+/// The greatest value of each counter and of each clock, in the order of their slots.
+fn ranges(model: &Model) -> (Vec<u8>, Vec<u8>) {
+    let counters = model.used_counters().iter().map(|counter| counter.greatest).collect();
+    (counters, vec![ceiling(model) as u8; usize::from(model.clocks)])
+}
+
+/// How many states a well-formed model has, those that break their invariants too.
+pub fn number_of_states(model: &Model) -> usize {
+    let (counters, clocks) = ranges(model);
+    let values = counters.iter().chain(&clocks).map(|greatest| usize::from(*greatest) + 1);
+    usize::from(model.locations) * values.product::<usize>()
+}
+
+/// Every state of a well-formed model, those that break their invariants too.
+pub fn all_states(model: &Model) -> Vec<State> {
+    let (counters, clocks) = ranges(model);
+    let at = |location| State { location, counters: [0; MAX_COUNTERS], clocks: [0; MAX_CLOCKS] };
+    let mut states: Vec<State> = (0..model.locations).map(at).collect();
+    for (slot, greatest) in counters.into_iter().enumerate() {
+        states = spread(&states, greatest, |state, value| state.counters[slot] = value);
+    }
+    for (slot, greatest) in clocks.into_iter().enumerate() {
+        states = spread(&states, greatest, |state, value| state.clocks[slot] = value);
+    }
+    states
+}
+
+/// Each state with each value of a slot.
+fn spread(states: &[State], greatest: u8, set: impl Fn(&mut State, u8)) -> Vec<State> {
+    let mut spread = Vec::new();
+    for state in states {
+        for value in 0..=greatest {
+            let mut state = *state;
+            set(&mut state, value);
+            spread.push(state);
+        }
+    }
+    spread
+}

@@ -1,5 +1,5 @@
 //! Models with a name and their text, for programs that compare answers: from a
-//! record, or from the files of a folder.
+//! record, or from the files of a folder, by themselves and in pairs.
 
 use std::fs;
 use std::path::{Path, PathBuf};
@@ -42,4 +42,17 @@ pub fn shipped(folder: &Path) -> Result<Vec<Subject>, String> {
     paths.retain(|path| path.extension().map_or(false, |end| end == "txt"));
     paths.sort();
     paths.iter().map(|path| Subject::from_file(path)).collect()
+}
+
+/// The pairs of models of a folder that are to be composed, as its file `PAIRS.tsv`
+/// names them.
+pub fn shipped_pairs(folder: &Path) -> Result<Vec<(Subject, Subject)>, String> {
+    let path = folder.join("PAIRS.tsv");
+    let lines = fs::read_to_string(&path).map_err(|error| format!("{}: {error}", path.display()))?;
+    let subject = |name: Option<&str>| Subject::from_file(&folder.join(format!("{}.txt", name.unwrap_or_default())));
+    let pair = |line: &str| {
+        let mut names = line.split('\t');
+        Ok((subject(names.next())?, subject(names.next())?))
+    };
+    lines.lines().skip(1).map(pair).collect()
 }

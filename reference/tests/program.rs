@@ -95,6 +95,28 @@ fn outputs() {
     assert!(output("gen 7 1 output", "").starts_with("seed=7 output="));
 }
 
+/// A file of the folder `models`.
+fn shipped(name: &str) -> String {
+    format!("{}/../models/{name}", env!("CARGO_MANIFEST_DIR"))
+}
+
+#[test]
+fn two_models() {
+    let (a, b) = (shipped("a.txt"), shipped("logger_b.txt"));
+    let composed = output(&format!("compose {a} {b}"), "");
+    assert!(composed.starts_with("locations=8\ninit=0\ntarget=7\nclocks=1\nvars=1\nvar=1,0\ninv=-\ninv=x0<=3\n"), "{composed}");
+    assert_eq!(output("totals 1", &composed), output("totals 1", &output(&format!("compose - {b}"), MODEL_A)));
+    assert_eq!(output("compose - -", MODEL_A), output(&format!("compose {a} {a}"), ""));
+    assert_eq!(output(&format!("compose {b} -"), "locations=17\n"), "refusal=4\ntext=2\nline=1\n");
+    assert_eq!(output(&format!("compose - {b}"), "locations=17\n"), "refusal=4\ntext=1\nline=1\n");
+    assert_eq!(output(&format!("compose {0} {0}", shipped("boot_logger_lossy.txt")), ""), "refusal=38\ntext=0\nline=0\n");
+    assert_eq!(output(&format!("parts {a} {b} 4"), ""), "refusal=0\nfirst=1\nsecond=4\n");
+    assert_eq!(output(&format!("parts {a} {b} 5"), ""), "refusal=0\nfirst=2\nsecond=255\n");
+    assert_eq!(output(&format!("parts {a} {b} 9"), ""), "refusal=0\nfirst=255\nsecond=5\n");
+    assert_eq!(output(&format!("parts {a} {b} 15"), ""), "refusal=27\nfirst=0\nsecond=0\n");
+    assert_eq!(start("compose nothing nothing", "").status.code(), Some(2));
+}
+
 #[test]
 fn generated_models_are_read_back() {
     let text = output("gen 7 1 model", "");

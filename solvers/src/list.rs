@@ -2,7 +2,7 @@
 
 use reference::dimacs::line;
 use reference::subject::Subject;
-use wirdoku::library;
+use wirdoku::library::{self, FileAnswer, Sizes};
 
 pub struct List {
     pub variables: usize,
@@ -26,15 +26,27 @@ impl List {
     }
 }
 
-/// The list for a bound. Its totals must be those told beforehand and those of
-/// the words; the file's first line has them too, and its numbers are the words.
+/// The list of a model for a bound.
 pub fn emitted(subject: &Subject, bound: usize) -> Result<List, String> {
-    let told = library::counts(&subject.text, bound);
+    let text = &subject.text;
+    let emit = |words: &mut [i32]| library::emit(text, bound, words);
+    listed(library::counts(text, bound), emit, |file| library::dimacs(text, bound, file))
+}
+
+/// The list of two models composed for a bound.
+pub fn emitted_together(first: &[u8], second: &[u8], bound: usize) -> Result<List, String> {
+    let emit = |words: &mut [i32]| library::pair_emit(first, second, bound, words);
+    listed(library::pair_counts(first, second, bound), emit, |file| library::pair_dimacs(first, second, bound, file))
+}
+
+/// A list as the calls of the library give it. Its totals must be those told beforehand and those of
+/// the words; the file's first line has them too, and its numbers are the words.
+fn listed(told: Sizes, emit: impl Fn(&mut [i32]) -> Sizes, dimacs: impl Fn(&mut [u8]) -> FileAnswer) -> Result<List, String> {
     if told.number != 0 {
         return Err(format!("the counts are refused: {told:?}"));
     }
     let mut words = vec![0; told.words];
-    let sizes = library::emit(&subject.text, bound, &mut words);
+    let sizes = emit(&mut words);
     if sizes != told {
         return Err(format!("counts say {told:?}, emission says {sizes:?}"));
     }
@@ -43,7 +55,7 @@ pub fn emitted(subject: &Subject, bound: usize) -> Result<List, String> {
     if clauses != told.clauses || greatest != Some(told.variables as u32) {
         return Err(format!("{told:?}, but the words hold {clauses} clauses, variables to {greatest:?}"));
     }
-    let file = written(subject, bound)?;
+    let file = written(dimacs)?;
     let text = String::from_utf8_lossy(&file);
     let numbers = text.strip_prefix(&format!("p cnf {} {clauses}\n", told.variables));
     let read: Option<Vec<i32>> =
@@ -54,10 +66,10 @@ pub fn emitted(subject: &Subject, bound: usize) -> Result<List, String> {
     Ok(List { variables: told.variables, words, clauses, file })
 }
 
-/// The file for a bound, in a buffer of the length that the library tells.
-fn written(subject: &Subject, bound: usize) -> Result<Vec<u8>, String> {
-    let mut file = vec![0; library::dimacs(&subject.text, bound, &mut []).bytes];
-    let answer = library::dimacs(&subject.text, bound, &mut file);
+/// The file, in a buffer of the length that the library tells.
+fn written(dimacs: impl Fn(&mut [u8]) -> FileAnswer) -> Result<Vec<u8>, String> {
+    let mut file = vec![0; dimacs(&mut []).bytes];
+    let answer = dimacs(&mut file);
     if (answer.number, answer.bytes) != (0, file.len()) {
         return Err(format!("{} bytes are told, the file is refused: {answer:?}", file.len()));
     }

@@ -39,7 +39,7 @@ pub fn generated(seed: u64) -> Result<(Subject, usize), String> {
 
 /// Turns the first edges so that they lead from the initial location to as many
 /// others as there are such edges.
-fn join_locations(rng: &mut Rng, model: &mut Model) {
+pub fn join_locations(rng: &mut Rng, model: &mut Model) {
     let locations = usize::from(model.locations);
     let place = |model: &Model, number: usize| (usize::from(model.init) + number) % locations;
     for index in 0..usize::from(model.edges).min(locations - 1) {

@@ -1,11 +1,13 @@
 //! The proved library's clause lists given to SAT solvers. What the solvers say
 //! is compared with the reference program, and every assignment that they give
 //! goes through the proved conversion and both walkers. What they print is read by
-//! the proved call and by the reference program, as it stands and damaged.
+//! the proved call and by the reference program, as it stands and damaged. The same
+//! for lists of two models that are composed.
 //!
 //! The last line says how many tests passed and failed; the exit status is 0
 //! only if none failed. The only argument is the folder with the shipped models.
 
+mod composed;
 mod desk;
 mod every;
 mod judge;
@@ -52,6 +54,7 @@ fn run(tally: &mut Tally) -> Result<(), String> {
     every::test(&mut desk, tally, &shipped)?;
     longer::test(&mut desk, tally, &pairs);
     outputs::test(&mut desk, tally, &pairs);
+    composed::test(&mut desk, tally, &subject::shipped_pairs(&folder)?)?;
     let seconds = began.elapsed().as_secs();
     println!("{} solver processes, {seconds} seconds", desk.calls);
     Ok(())

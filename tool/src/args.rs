@@ -12,16 +12,16 @@ pub const HELP: &str = "\
 wirdoku: looks for a run of a timed automaton with counters into its target location
 
 usage:
-  wirdoku check MODEL [--up-to K | --bound K] [--solver NAME] [--quiet]
+  wirdoku check MODEL [SECOND] [--up-to K | --bound K] [--solver NAME] [--quiet]
       tries the bounds 0 to K in order (K is 64 unless given), or K alone with --bound, and prints
       the first run that a solver finds, step by step; progress goes to standard error
-  wirdoku walk MODEL [STEP]..
+  wirdoku walk MODEL [SECOND] [STEP]..
       walks a run given by its step bytes and says whether it is one
-  wirdoku size MODEL --bound K
+  wirdoku size MODEL [SECOND] --bound K
       prints the totals of the clause list for K steps, without writing it
-  wirdoku dimacs MODEL --bound K
+  wirdoku dimacs MODEL [SECOND] --bound K
       prints the clause list for K steps as a DIMACS file
-  wirdoku explain NUMBER [MODEL]
+  wirdoku explain NUMBER [MODEL [SECOND]]
       says what a refusal's number means, and shows the line of a model file that is refused
   wirdoku help | --help | --version
 
@@ -30,23 +30,30 @@ MODEL is a file with a model text, or - for standard input. NAME is cadical, min
 ceiling M) and M+1+e for edge e. In a trace a clock that shows M is printed as M+, since it means M or more,
 and an edge whose label is not 0 is printed with it.
 
+With SECOND, another such file, the two models are composed: their clocks and counters are apart, edges with
+a label other than 0 that both have are taken together, in pairs, and every other edge by one model alone.
+The target is reached when both are in theirs. A trace shows for each step what each model does, `stays` if
+nothing, where it is (`at`) and its own counters and clocks. In walk a second place that begins with a digit
+or + is a step: write ./5 for a file of the name 5.
+
 exit status:
   0   size, dimacs, explain, help: done
   10  check: a run was found; walk: the run reaches the target
   20  check: the solver found no run; walk: it is no run into the target
   1   wrong usage
-  2   the model text or the bound is refused; number, line and reason are on standard error
+  2   a model text or the bound is refused, or two models are too large together (38); number, line and reason
+      are on standard error
   3   the solver is missing or gave no answer, or its output is refused; number, line and reason as for 2
   4   the solver's assignment is refused by the proved conversion
   5   a file cannot be read, or the output cannot be written
 
-What is proved: the calls that read the model text, count the clause list and write it as a DIMACS file, read
-what a solver prints, turn its assignment into a run, take a step and walk a run. What is not proved: the
-solver, the reading of MiniSat's result file, and this command, which hands bytes from one to the other. A
-solver's assignment is believed only after the proved conversion has tested every clause and the proved walker
-has walked the run. `unsatisfiable` is taken at its word: a wrong solver cannot be found out here, so ask a
-second one where it matters. A run of fewer steps can always be drawn out by delays of 0, so no run of exactly
-K steps means none of fewer either.
+What is proved: the calls that read the model text, or two texts and compose them, count the clause list and
+write it as a DIMACS file, read what a solver prints, turn its assignment into a run, take a step, say what
+the step is for each of two models, and walk a run. What is not proved: the solver, the reading of MiniSat's
+result file, and this command, which hands bytes from one to the other. A solver's assignment is believed only
+after the proved conversion has tested every clause and the proved walker has walked the run. `unsatisfiable`
+is taken at its word: a wrong solver cannot be found out here, so ask a second one where it matters. A run of
+fewer steps can always be drawn out by delays of 0, so no run of exactly K steps means none of fewer either.
 ";
 
 /// The bounds that are tried.
@@ -56,16 +63,23 @@ pub enum Bounds {
     UpTo(usize),
 }
 
+/// The model file, or two whose models are composed.
+#[derive(Clone, Debug, PartialEq, Eq)]
+pub struct Files {
+    pub first: PathBuf,
+    pub second: Option<PathBuf>,
+}
+
 /// What the command line asks for.
 #[derive(Clone, Debug, PartialEq, Eq)]
 pub enum Command {
     Help,
     Version,
-    Check { model: PathBuf, bounds: Bounds, solver: Option<Solver>, quiet: bool },
-    Size { model: PathBuf, bound: usize },
-    Dimacs { model: PathBuf, bound: usize },
-    Walk { model: PathBuf, run: Vec<u8> },
-    Explain { number: u8, model: Option<PathBuf> },
+    Check { files: Files, bounds: Bounds, solver: Option<Solver>, quiet: bool },
+    Size { files: Files, bound: usize },
+    Dimacs { files: Files, bound: usize },
+    Walk { files: Files, run: Vec<u8> },
+    Explain { number: u8, files: Option<Files> },
 }
 
 /// The arguments after the command's name, sorted.
@@ -88,8 +102,8 @@ pub fn parse(arguments: &[OsString]) -> Result<Command, String> {
         Some("help" | "--help" | "-h") => alone(rest, Command::Help),
         Some("--version" | "-V") => alone(rest, Command::Version),
         Some("check") => check(sort(rest, &["--bound", "--up-to", "--solver", "--quiet"])?),
-        Some("size") => with_bound(rest, |model, bound| Command::Size { model, bound }),
-        Some("dimacs") => with_bound(rest, |model, bound| Command::Dimacs { model, bound }),
+        Some("size") => with_bound(rest, |files, bound| Command::Size { files, bound }),
+        Some("dimacs") => with_bound(rest, |files, bound| Command::Dimacs { files, bound }),
         Some("walk") => walk(sort(rest, &[])?),
         Some("explain") => explain(sort(rest, &[])?),
         _ => Err(format!("there is no command `{}`", shown(name))),
@@ -151,14 +165,19 @@ impl Sorted {
         Ok(())
     }
 
-    /// The model file, the first place.
-    fn model(&self) -> Result<PathBuf, String> {
-        self.places.first().map(PathBuf::from).ok_or_else(|| "a model file is missing".to_string())
-    }
-
     fn at_most(&self, places: usize) -> Result<(), String> {
         self.places.get(places).map_or(Ok(()), |place| Err(unexpected(place)))
     }
+}
+
+/// The model files that some places name, one or two.
+fn files(places: &[OsString]) -> Result<Files, String> {
+    let first = places.first().map(PathBuf::from).ok_or("a model file is missing")?;
+    let second = places.get(1).map(PathBuf::from);
+    if first.as_os_str() == "-" && second.as_ref() == Some(&first) {
+        return Err("`-` can stand for one model only".to_string());
+    }
+    Ok(Files { first, second })
 }
 
 /// A bound in digits. One that is too great for a number is as good as the greatest: both are refused with 21.
@@ -179,40 +198,46 @@ fn byte(place: &OsStr, what: &str) -> Result<u8, String> {
 }
 
 fn check(sorted: Sorted) -> Result<Command, String> {
-    sorted.at_most(1)?;
+    sorted.at_most(2)?;
     let bounds = match (sorted.bound, sorted.up_to) {
         (Some(_), Some(_)) => return Err("--bound and --up-to exclude each other".to_string()),
         (Some(bound), None) => Bounds::Exactly(bound),
         (None, up_to) => Bounds::UpTo(up_to.unwrap_or(USUAL_BOUND)),
     };
-    Ok(Command::Check { model: sorted.model()?, bounds, solver: sorted.solver, quiet: sorted.quiet })
+    Ok(Command::Check { files: files(&sorted.places)?, bounds, solver: sorted.solver, quiet: sorted.quiet })
 }
 
-fn with_bound(rest: &[OsString], command: fn(PathBuf, usize) -> Command) -> Result<Command, String> {
+fn with_bound(rest: &[OsString], command: fn(Files, usize) -> Command) -> Result<Command, String> {
     let sorted = sort(rest, &["--bound"])?;
-    sorted.at_most(1)?;
-    let model = sorted.model()?;
+    sorted.at_most(2)?;
+    let files = files(&sorted.places)?;
     let bound = sorted.bound.ok_or("--bound K is missing")?;
-    Ok(command(model, bound))
+    Ok(command(files, bound))
 }
 
 fn walk(sorted: Sorted) -> Result<Command, String> {
-    let model = sorted.model()?;
-    let steps = sorted.places.iter().skip(1);
-    let run = steps.map(|place| byte(place, "a step byte")).collect::<Result<_, _>>()?;
-    Ok(Command::Walk { model, run })
+    let is_step = |place: &OsString| place.to_string_lossy().starts_with(|first: char| first.is_ascii_digit() || first == '+');
+    let models = match sorted.places.get(1) {
+        Some(place) if !is_step(place) => 2,
+        _ => 1,
+    };
+    let (models, steps) = sorted.places.split_at(models.min(sorted.places.len()));
+    let files = files(models)?;
+    let run = steps.iter().map(|place| byte(place, "a step byte")).collect::<Result<_, _>>()?;
+    Ok(Command::Walk { files, run })
 }
 
 fn explain(sorted: Sorted) -> Result<Command, String> {
-    sorted.at_most(2)?;
-    let number = sorted.places.first().ok_or("a refusal's number is missing")?;
+    sorted.at_most(3)?;
+    let (number, models) = sorted.places.split_first().ok_or("a refusal's number is missing")?;
     let number = byte(number, "a refusal's number")?;
-    Ok(Command::Explain { number, model: sorted.places.get(1).map(PathBuf::from) })
+    let files = if models.is_empty() { None } else { Some(files(models)?) };
+    Ok(Command::Explain { number, files })
 }
 
 #[cfg(test)]
 mod tests {
-    use super::{parse, Bounds, Command};
+    use super::{parse, Bounds, Command, Files};
     use crate::solver::Solver;
     use std::ffi::OsString;
     use std::path::PathBuf;
@@ -222,8 +247,16 @@ mod tests {
         parse(&arguments)
     }
 
+    fn one(path: &str) -> Files {
+        Files { first: PathBuf::from(path), second: None }
+    }
+
+    fn two(first: &str, second: &str) -> Files {
+        Files { first: PathBuf::from(first), second: Some(PathBuf::from(second)) }
+    }
+
     fn check(bounds: Bounds, solver: Option<Solver>, quiet: bool) -> Result<Command, String> {
-        Ok(Command::Check { model: PathBuf::from("m"), bounds, solver, quiet })
+        Ok(Command::Check { files: one("m"), bounds, solver, quiet })
     }
 
     #[test]
@@ -238,19 +271,31 @@ mod tests {
 
     #[test]
     fn the_other_commands() {
-        let model = PathBuf::from("m");
-        assert_eq!(parsed("size m --bound 3"), Ok(Command::Size { model: model.clone(), bound: 3 }));
-        assert_eq!(parsed("dimacs --bound 3 m"), Ok(Command::Dimacs { model: model.clone(), bound: 3 }));
-        assert_eq!(parsed("walk m"), Ok(Command::Walk { model: model.clone(), run: vec![] }));
-        assert_eq!(parsed("walk m 5 3 255"), Ok(Command::Walk { model: model.clone(), run: vec![5, 3, 255] }));
-        assert_eq!(parsed("explain 4"), Ok(Command::Explain { number: 4, model: None }));
-        assert_eq!(parsed("explain 4 m"), Ok(Command::Explain { number: 4, model: Some(model) }));
-        let standard_input = PathBuf::from("-");
-        assert_eq!(parsed("size - --bound 3"), Ok(Command::Size { model: standard_input, bound: 3 }));
+        assert_eq!(parsed("size m --bound 3"), Ok(Command::Size { files: one("m"), bound: 3 }));
+        assert_eq!(parsed("dimacs --bound 3 m"), Ok(Command::Dimacs { files: one("m"), bound: 3 }));
+        assert_eq!(parsed("walk m"), Ok(Command::Walk { files: one("m"), run: vec![] }));
+        assert_eq!(parsed("walk m 5 3 255"), Ok(Command::Walk { files: one("m"), run: vec![5, 3, 255] }));
+        assert_eq!(parsed("explain 4"), Ok(Command::Explain { number: 4, files: None }));
+        assert_eq!(parsed("explain 4 m"), Ok(Command::Explain { number: 4, files: Some(one("m")) }));
+        assert_eq!(parsed("size - --bound 3"), Ok(Command::Size { files: one("-"), bound: 3 }));
         for line in ["help", "--help", "-h", "check --help", "size m --help"] {
             assert_eq!(parsed(line), Ok(Command::Help));
         }
         assert_eq!(parsed("--version"), Ok(Command::Version));
+    }
+
+    #[test]
+    fn two_models() {
+        let (bounds, solver, quiet) = (Bounds::UpTo(9), None, true);
+        let expected = Ok(Command::Check { files: two("m", "n"), bounds, solver, quiet });
+        assert_eq!(parsed("check m n --up-to 9 --quiet"), expected);
+        assert_eq!(parsed("check m --up-to 9 n --quiet"), expected);
+        assert_eq!(parsed("size m - --bound 3"), Ok(Command::Size { files: two("m", "-"), bound: 3 }));
+        assert_eq!(parsed("dimacs --bound 3 m m"), Ok(Command::Dimacs { files: two("m", "m"), bound: 3 }));
+        assert_eq!(parsed("walk m n"), Ok(Command::Walk { files: two("m", "n"), run: vec![] }));
+        assert_eq!(parsed("walk 5 ./6 7 8"), Ok(Command::Walk { files: two("5", "./6"), run: vec![7, 8] }));
+        assert_eq!(parsed("walk - n 7"), Ok(Command::Walk { files: two("-", "n"), run: vec![7] }));
+        assert_eq!(parsed("explain 38 m n"), Ok(Command::Explain { number: 38, files: Some(two("m", "n")) }));
     }
 
     #[test]
@@ -260,7 +305,8 @@ mod tests {
             ("run m", "there is no command `run`"),
             ("help m", "`m` is not expected"),
             ("check", "a model file is missing"),
-            ("check m n", "`n` is not expected"),
+            ("check m n o", "`o` is not expected"),
+            ("check - -", "`-` can stand for one model only"),
             ("check m --fast", "`--fast` is not expected"),
             ("check m --bound", "--bound needs a value"),
             ("check m --bound 3 --bound 4", "--bound is given twice"),
@@ -278,9 +324,13 @@ mod tests {
             ("walk m 256", "`256` is not a step byte (0 to 255)"),
             ("walk m +1", "`+1` is not a step byte (0 to 255)"),
             ("walk m -1", "`-1` is not expected"),
+            ("walk m n o", "`o` is not a step byte (0 to 255)"),
+            ("walk m n 5 o", "`o` is not a step byte (0 to 255)"),
+            ("walk - - 5", "`-` can stand for one model only"),
             ("explain", "a refusal's number is missing"),
             ("explain four", "`four` is not a refusal's number (0 to 255)"),
-            ("explain 4 m n", "`n` is not expected"),
+            ("explain 4 m n o", "`o` is not expected"),
+            ("explain 4 - -", "`-` can stand for one model only"),
         ];
         for (line, reason) in cases {
             assert_eq!(parsed(line), Err(reason.to_string()), "{}", line);

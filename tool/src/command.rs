@@ -1,13 +1,12 @@
 //! What each command does.
 
-use std::fs::File;
-use std::io::{self, Read, Write};
-use std::path::Path;
+use std::io::{self, Write};
 
-use crate::args::{Bounds, Command, HELP};
-use crate::library::{self, Sizes};
+use crate::args::{Bounds, Command, Files, HELP};
+use crate::library::Sizes;
+use crate::model::Model;
 use crate::solver::{solve, Solver, Verdict};
-use crate::{explain, trace};
+use crate::{explain, parts, trace};
 
 /// The exit statuses; `args::HELP` says what each means.
 pub mod status {
@@ -20,9 +19,6 @@ pub mod status {
     pub const RUN: u8 = 10;
     pub const NO_RUN: u8 = 20;
 }
-
-/// A text of more bytes than this is refused, whatever it holds.
-const LONGEST_TEXT: u64 = 8_192;
 
 /// An ending before the answer: an exit status and what to say on standard error.
 #[derive(Debug)]
@@ -43,52 +39,31 @@ impl From<io::Error> for Stop {
     }
 }
 
-/// A model file: its name for messages, and its text.
-struct Model {
-    name: String,
-    text: Vec<u8>,
+/// The model of the files that a command names.
+fn model(files: &Files) -> Result<Model, Stop> {
+    Model::read(files).map_err(|message| Stop::new(status::FILE, message))
 }
 
-impl Model {
-    /// Reads no more of a file than it takes to see that the text is too long.
-    fn read(path: &Path) -> Result<Model, Stop> {
-        let name = path.display().to_string();
-        let mut text = Vec::new();
-        let outcome = if path == Path::new("-") {
-            io::stdin().lock().take(LONGEST_TEXT + 1).read_to_end(&mut text)
-        } else {
-            File::open(path).and_then(|file| file.take(LONGEST_TEXT + 1).read_to_end(&mut text))
-        };
-        match outcome {
-            Ok(_) => Ok(Model { name, text }),
-            Err(error) => Err(Stop::new(status::FILE, format!("{} cannot be read: {}", name, error))),
-        }
+/// Stops if a call with this model was refused.
+fn accepted(model: &Model, number: u8, line: usize) -> Result<(), Stop> {
+    match number {
+        0 => Ok(()),
+        _ => Err(Stop::new(status::REFUSED, model.refusal(number, line))),
     }
+}
 
-    /// Stops if a call with this text was refused.
-    fn accepted(&self, number: u8, line: usize) -> Result<(), Stop> {
-        match number {
-            0 => Ok(()),
-            _ => {
-                let report = explain::text_refusal(&self.text, number, line);
-                Err(Stop::new(status::REFUSED, format!("{}: {}", self.name, report)))
-            }
-        }
-    }
+fn sizes(model: &Model, bound: usize) -> Result<Sizes, Stop> {
+    let sizes = model.counts(bound);
+    accepted(model, sizes.number, sizes.line)?;
+    Ok(sizes)
+}
 
-    fn sizes(&self, bound: usize) -> Result<Sizes, Stop> {
-        let sizes = library::counts(&self.text, bound);
-        self.accepted(sizes.number, sizes.line)?;
-        Ok(sizes)
-    }
-
-    /// The clause list for a bound as the library writes it, in a buffer of the size that the library names.
-    fn file(&self, bound: usize) -> Result<Vec<u8>, Stop> {
-        let mut file = vec![0; library::dimacs(&self.text, bound, &mut []).bytes];
-        let answer = library::dimacs(&self.text, bound, &mut file);
-        self.accepted(answer.number, answer.line)?;
-        Ok(file)
-    }
+/// The clause list for a bound as the library writes it, in a buffer of the size that the library names.
+fn file(model: &Model, bound: usize) -> Result<Vec<u8>, Stop> {
+    let mut file = vec![0; model.dimacs(bound, &mut []).bytes];
+    let answer = model.dimacs(bound, &mut file);
+    accepted(model, answer.number, answer.line)?;
+    Ok(file)
 }
 
 /// Carries out a command; the answer goes to `out`, progress to `log`. Returns the exit status.
@@ -96,15 +71,15 @@ pub fn run(command: &Command, out: &mut dyn Write, log: &mut dyn Write) -> Resul
     match command {
         Command::Help => write!(out, "{}", HELP)?,
         Command::Version => writeln!(out, "wirdoku {}", env!("CARGO_PKG_VERSION"))?,
-        Command::Check { model, bounds, solver, quiet } => {
+        Command::Check { files, bounds, solver, quiet } => {
             let mut silence = io::sink();
             let log = if *quiet { &mut silence } else { log };
-            return check(&Model::read(model)?, *bounds, *solver, out, log);
+            return check(&model(files)?, *bounds, *solver, out, log);
         }
-        Command::Size { model, bound } => size(&Model::read(model)?, *bound, out)?,
-        Command::Dimacs { model, bound } => out.write_all(&Model::read(model)?.file(*bound)?)?,
-        Command::Walk { model, run } => return walk(&Model::read(model)?, run, out),
-        Command::Explain { number, model } => explain(*number, model.as_deref(), out)?,
+        Command::Size { files, bound } => size(&model(files)?, *bound, out)?,
+        Command::Dimacs { files, bound } => out.write_all(&file(&model(files)?, *bound)?)?,
+        Command::Walk { files, run } => return walk(&model(files)?, run, out),
+        Command::Explain { number, files } => explain(*number, files.as_ref(), out)?,
     }
     Ok(status::DONE)
 }
@@ -114,7 +89,7 @@ fn check(model: &Model, bounds: Bounds, solver: Option<Solver>, out: &mut dyn Wr
         Bounds::Exactly(bound) => (bound, bound),
         Bounds::UpTo(bound) => (0, bound),
     };
-    model.sizes(last)?;
+    sizes(model, last)?;
     let solver = chosen(solver)?;
     for bound in first..=last {
         if let Some(run) = run_at(model, bound, solver, log)? {
@@ -144,7 +119,7 @@ fn steps(count: usize) -> String {
 
 /// Asks the solver for a run of exactly `bound` steps, and believes an assignment only if the proved calls take it.
 fn run_at(model: &Model, bound: usize, solver: Solver, log: &mut dyn Write) -> Result<Option<Vec<u8>>, Stop> {
-    let (sizes, file) = (model.sizes(bound)?, model.file(bound)?);
+    let (sizes, file) = (sizes(model, bound)?, file(model, bound)?);
     let verdict = solve(solver, sizes.variables, &file).map_err(|failure| Stop::new(status::NO_SOLVER, failure.to_string()))?;
     let said = match verdict {
         Verdict::Satisfiable(_) => "satisfiable",
@@ -160,12 +135,12 @@ fn run_at(model: &Model, bound: usize, solver: Solver, log: &mut dyn Write) -> R
 
 fn decoded(model: &Model, bound: usize, solver: Solver, file: &[u8], assignment: &[u8]) -> Result<Vec<u8>, Stop> {
     let mut run = vec![0; bound];
-    let mut answer = library::assignment_to_run(&model.text, bound, assignment, &mut run);
+    let mut answer = model.assignment_to_run(bound, assignment, &mut run);
     let mut clause = String::new();
     if answer.number == 26 {
         clause = format!("\n    {}", clause_at(file, answer.place));
     } else if answer.number == 0 {
-        answer = library::walk(&model.text, &run);
+        answer = model.walk(&run);
     }
     if answer.number == 0 {
         return Ok(run);
@@ -183,20 +158,26 @@ fn clause_at(file: &[u8], index: usize) -> String {
 
 /// The trace of a run, as far as it is allowed, and its bytes.
 fn print_run(model: &Model, run: &[u8], out: &mut dyn Write) -> Result<(), Stop> {
-    let shape = library::shape(&model.text);
-    let rows = trace::rows(&model.text, &shape, run);
-    write!(out, "{}", trace::table(&shape, &rows))?;
+    let shape = model.shape();
+    let rows = trace::rows(model, &shape, run);
+    match model {
+        Model::One(_) => write!(out, "{}", trace::table(&shape, &rows))?,
+        Model::Two(first, second) => {
+            writeln!(out, "first: {}; second: {}", first.name, second.name)?;
+            write!(out, "{}", parts::table(&first.bytes, &second.bytes, &rows))?;
+        }
+    }
     let bytes: Vec<String> = run.iter().map(|byte| format!(" {}", byte)).collect();
     writeln!(out, "step bytes:{}", bytes.concat())?;
     Ok(())
 }
 
 fn walk(model: &Model, run: &[u8], out: &mut dyn Write) -> Result<u8, Stop> {
-    let answer = library::walk(&model.text, run);
+    let answer = model.walk(run);
     match answer.number {
         0 => writeln!(out, "this run of {} reaches the target", steps(run.len()))?,
         27..=30 => writeln!(out, "no run into the target: {}", explain::refusal(answer.number, answer.place))?,
-        number => model.accepted(number, answer.place)?,
+        number => accepted(model, number, answer.place)?,
     }
     if answer.number != 29 {
         print_run(model, run, out)?;
@@ -205,25 +186,24 @@ fn walk(model: &Model, run: &[u8], out: &mut dyn Write) -> Result<u8, Stop> {
 }
 
 fn size(model: &Model, bound: usize, out: &mut dyn Write) -> Result<(), Stop> {
-    let sizes = model.sizes(bound)?;
-    let shape = library::shape(&model.text);
+    let sizes = sizes(model, bound)?;
+    let shape = model.shape();
     writeln!(out, "variables={}\nclauses={}\nwords={}", sizes.variables, sizes.clauses, sizes.words)?;
     writeln!(out, "ceiling={}\nstate={}\nchoices={}", shape.ceiling, shape.state, shape.choices)?;
     Ok(())
 }
 
-fn explain(number: u8, model: Option<&Path>, out: &mut dyn Write) -> Result<(), Stop> {
+fn explain(number: u8, files: Option<&Files>, out: &mut dyn Write) -> Result<(), Stop> {
     let sentence =
         explain::sentence(number).ok_or_else(|| Stop::new(status::USAGE, format!("no refusal has the number {}", number)))?;
-    let model = model.map(Model::read).transpose()?;
+    let model = files.map(model).transpose()?;
     writeln!(out, "refusal {}: {}", number, sentence)?;
-    if let Some(Model { name, text }) = model {
-        let answer = library::read(&text);
-        let report = match answer.number {
-            0 => "the text is accepted".to_string(),
-            number => explain::text_refusal(&text, number, answer.place),
-        };
-        writeln!(out, "{}: {}", name, report)?;
+    if let Some(model) = model {
+        match (model.accepted(), &model) {
+            ((0, _), Model::One(_)) => writeln!(out, "{}: the text is accepted", model.name())?,
+            ((0, _), Model::Two(..)) => writeln!(out, "{}: both texts are accepted, and they compose", model.name())?,
+            ((number, line), _) => writeln!(out, "{}", model.refusal(number, line))?,
+        }
     }
     Ok(())
 }

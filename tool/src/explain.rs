@@ -45,6 +45,10 @@ pub fn sentence(number: u8) -> Option<&'static str> {
             "the closing 0 of the solver's output comes with a variable unnamed, or the output ends without it or without \
              an `s` line"
         }
+        38 => {
+            "the composed model would have more locations, clocks, counters, edges or atoms than a model may have: at most 16 \
+             locations, 4 clocks, 4 counters, 32 edges, 4 atoms in an invariant or a guard"
+        }
         _ => return None,
     })
 }
@@ -166,7 +170,7 @@ mod tests {
     #[test]
     fn each_number_of_the_table_has_a_sentence_and_no_other() {
         let numbers: Vec<u8> = (0..=255).filter(|number| sentence(*number).is_some()).collect();
-        let table: Vec<u8> = (1..=10).chain(20..=35).collect();
+        let table: Vec<u8> = (1..=10).chain(20..=35).chain([38]).collect();
         assert_eq!(numbers, table);
         for number in table {
             let text = sentence(number).unwrap();
@@ -182,6 +186,7 @@ mod tests {
         assert!(refusal(24, 0).starts_with("refusal 24, byte 0: "));
         assert!(refusal(21, 0).starts_with("refusal 21: "));
         assert!(refusal(1, 0).starts_with("refusal 1: "));
+        assert!(refusal(38, 0).starts_with("refusal 38: "));
         for number in 33..=35 {
             assert!(refusal(number, 9).starts_with(&format!("refusal {}, line 9: ", number)));
         }

@@ -80,9 +80,31 @@ pub struct OutputAnswer {
     pub outcome: u8,
 }
 
+/// Two texts read and composed. `text`: 1 or 2, the text that is refused with 1 to 8, else 0; `line`: its line for 2 to 8, else 0.
+#[repr(C)]
+#[derive(Clone, Copy, Debug, Default, PartialEq, Eq)]
+pub struct PairAnswer {
+    pub number: u8,
+    pub text: u8,
+    pub line: usize,
+}
+
+/// The step byte of a part that stands still.
+pub const STAYS: u8 = 255;
+
+/// What a step byte of a composed model is for each part: the part's own step byte, or `STAYS`.
+#[repr(C)]
+#[derive(Clone, Copy, Debug, Default, PartialEq, Eq)]
+pub struct PartSteps {
+    pub number: u8,
+    pub line: usize,
+    pub first: u8,
+    pub second: u8,
+}
+
 /// The functions as C declares them. The header says what a caller must see to.
 pub mod foreign {
-    use super::{Answer, FileAnswer, OutputAnswer, Shape, Sizes, State, StateAnswer};
+    use super::{Answer, FileAnswer, OutputAnswer, PairAnswer, PartSteps, Shape, Sizes, State, StateAnswer};
 
     extern "C" {
         pub fn wirdoku_read(text: *const u8, text_len: usize) -> Answer;
@@ -117,6 +139,78 @@ pub mod foreign {
             assignment: *mut u8,
             assignment_len: usize,
         ) -> OutputAnswer;
+        pub fn wirdoku_pair_read(first: *const u8, first_len: usize, second: *const u8, second_len: usize) -> PairAnswer;
+        pub fn wirdoku_pair_shape(first: *const u8, first_len: usize, second: *const u8, second_len: usize) -> Shape;
+        pub fn wirdoku_pair_counts(
+            first: *const u8,
+            first_len: usize,
+            second: *const u8,
+            second_len: usize,
+            bound: usize,
+        ) -> Sizes;
+        pub fn wirdoku_pair_emit(
+            first: *const u8,
+            first_len: usize,
+            second: *const u8,
+            second_len: usize,
+            bound: usize,
+            out: *mut i32,
+            out_len: usize,
+        ) -> Sizes;
+        pub fn wirdoku_pair_dimacs(
+            first: *const u8,
+            first_len: usize,
+            second: *const u8,
+            second_len: usize,
+            bound: usize,
+            out: *mut u8,
+            out_len: usize,
+        ) -> FileAnswer;
+        pub fn wirdoku_pair_initial(first: *const u8, first_len: usize, second: *const u8, second_len: usize) -> StateAnswer;
+        pub fn wirdoku_pair_step(
+            first: *const u8,
+            first_len: usize,
+            second: *const u8,
+            second_len: usize,
+            state: State,
+            byte: u8,
+        ) -> StateAnswer;
+        pub fn wirdoku_pair_walk(
+            first: *const u8,
+            first_len: usize,
+            second: *const u8,
+            second_len: usize,
+            run: *const u8,
+            run_len: usize,
+        ) -> Answer;
+        pub fn wirdoku_pair_assignment_to_run(
+            first: *const u8,
+            first_len: usize,
+            second: *const u8,
+            second_len: usize,
+            bound: usize,
+            assignment: *const u8,
+            assignment_len: usize,
+            run: *mut u8,
+            run_len: usize,
+        ) -> Answer;
+        pub fn wirdoku_pair_run_to_assignment(
+            first: *const u8,
+            first_len: usize,
+            second: *const u8,
+            second_len: usize,
+            run: *const u8,
+            run_len: usize,
+            assignment: *mut u8,
+            assignment_len: usize,
+        ) -> Answer;
+        pub fn wirdoku_pair_parts(
+            first: *const u8,
+            first_len: usize,
+            second: *const u8,
+            second_len: usize,
+            byte: u8,
+        ) -> PartSteps;
     }
 }
 
@@ -201,4 +295,94 @@ pub fn run_to_assignment(text: &[u8], run: &[u8], assignment: &mut [u8]) -> Answ
 /// is written whole if the outcome is `SATISFIABLE`, else not at all.
 pub fn output_to_assignment(output: &[u8], assignment: &mut [u8]) -> OutputAnswer {
     unsafe { foreign::wirdoku_output_to_assignment(output.as_ptr(), output.len(), assignment.as_mut_ptr(), assignment.len()) }
+}
+
+/// Reads both texts and composes them: 1 to 8, 38.
+pub fn pair_read(first: &[u8], second: &[u8]) -> PairAnswer {
+    unsafe { foreign::wirdoku_pair_read(first.as_ptr(), first.len(), second.as_ptr(), second.len()) }
+}
+
+/// What the composed model declares: 1 to 8, 38.
+pub fn pair_shape(first: &[u8], second: &[u8]) -> Shape {
+    unsafe { foreign::wirdoku_pair_shape(first.as_ptr(), first.len(), second.as_ptr(), second.len()) }
+}
+
+/// The totals of its list for a bound: 1 to 8, 38, 21.
+pub fn pair_counts(first: &[u8], second: &[u8], bound: usize) -> Sizes {
+    unsafe { foreign::wirdoku_pair_counts(first.as_ptr(), first.len(), second.as_ptr(), second.len(), bound) }
+}
+
+/// Writes its list for a bound from the start of `out`: 1 to 8, 38, 21, 22.
+pub fn pair_emit(first: &[u8], second: &[u8], bound: usize, out: &mut [i32]) -> Sizes {
+    unsafe {
+        foreign::wirdoku_pair_emit(first.as_ptr(), first.len(), second.as_ptr(), second.len(), bound, out.as_mut_ptr(), out.len())
+    }
+}
+
+/// Writes its list for a bound as a DIMACS file from the start of `out`: 1 to 8, 38, 21, 32.
+pub fn pair_dimacs(first: &[u8], second: &[u8], bound: usize, out: &mut [u8]) -> FileAnswer {
+    unsafe {
+        foreign::wirdoku_pair_dimacs(
+            first.as_ptr(),
+            first.len(),
+            second.as_ptr(),
+            second.len(),
+            bound,
+            out.as_mut_ptr(),
+            out.len(),
+        )
+    }
+}
+
+/// Its initial state, whether or not its invariant holds: 1 to 8, 38, and then a state of zeros.
+pub fn pair_initial(first: &[u8], second: &[u8]) -> StateAnswer {
+    unsafe { foreign::wirdoku_pair_initial(first.as_ptr(), first.len(), second.as_ptr(), second.len()) }
+}
+
+/// One step byte from a state of it: 1 to 8, 38, 10, 27, 28, and then the given state; else the new one.
+pub fn pair_step(first: &[u8], second: &[u8], state: State, byte: u8) -> StateAnswer {
+    unsafe { foreign::wirdoku_pair_step(first.as_ptr(), first.len(), second.as_ptr(), second.len(), state, byte) }
+}
+
+/// Walks a run of it: 1 to 8, 38, 21, 29, 27, 28, 30.
+pub fn pair_walk(first: &[u8], second: &[u8], run: &[u8]) -> Answer {
+    unsafe { foreign::wirdoku_pair_walk(first.as_ptr(), first.len(), second.as_ptr(), second.len(), run.as_ptr(), run.len()) }
+}
+
+/// Writes the run of an assignment from the start of `run`: 1 to 8, 38, 21, 23, 24, 25, 26.
+pub fn pair_assignment_to_run(first: &[u8], second: &[u8], bound: usize, assignment: &[u8], run: &mut [u8]) -> Answer {
+    unsafe {
+        foreign::wirdoku_pair_assignment_to_run(
+            first.as_ptr(),
+            first.len(),
+            second.as_ptr(),
+            second.len(),
+            bound,
+            assignment.as_ptr(),
+            assignment.len(),
+            run.as_mut_ptr(),
+            run.len(),
+        )
+    }
+}
+
+/// Writes the assignment of a run from the start of `assignment`: 1 to 8, 38, 21, 29, 27, 28, 30, 31.
+pub fn pair_run_to_assignment(first: &[u8], second: &[u8], run: &[u8], assignment: &mut [u8]) -> Answer {
+    unsafe {
+        foreign::wirdoku_pair_run_to_assignment(
+            first.as_ptr(),
+            first.len(),
+            second.as_ptr(),
+            second.len(),
+            run.as_ptr(),
+            run.len(),
+            assignment.as_mut_ptr(),
+            assignment.len(),
+        )
+    }
+}
+
+/// What a step byte of the composed model is for each part: 1 to 8, 38, 27, and then 0 and 0.
+pub fn pair_parts(first: &[u8], second: &[u8], byte: u8) -> PartSteps {
+    unsafe { foreign::wirdoku_pair_parts(first.as_ptr(), first.len(), second.as_ptr(), second.len(), byte) }
 }

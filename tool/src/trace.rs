@@ -1,7 +1,8 @@
 //! The states that a run passes, as a table. The states come from the proved step call; the labels of edges are read from the text,
-//! which the proved reader has accepted.
+//! which the proved reader has accepted. Of two models that are composed (`parts`) the table shows what each does.
 
-use crate::library::{self, Shape, State};
+use crate::library::{self, Shape, State, STAYS};
+use crate::model::Model;
 
 /// A row: the choice that led here (none in the first row), its edge's label (0 if it is a delay), the state, and the ticks that have
 /// passed.
@@ -14,18 +15,18 @@ pub struct Row {
 }
 
 /// The rows of a run from the initial state up to its end, or up to its first step that is refused.
-pub fn rows(text: &[u8], shape: &Shape, run: &[u8]) -> Vec<Row> {
-    let mut row = Row { choice: None, label: 0, state: library::initial(text).state, elapsed: 0 };
+pub fn rows(model: &Model, shape: &Shape, run: &[u8]) -> Vec<Row> {
+    let mut row = Row { choice: None, label: 0, state: model.initial().state, elapsed: 0 };
     let mut rows = vec![row];
     for byte in run {
-        let answer = library::step(text, row.state, *byte);
+        let answer = model.step(row.state, *byte);
         if answer.number != 0 {
             break;
         }
         // A delay of d is d ticks, at the ceiling too: only what clocks show is cut there.
         let (label, ticks) = match edge(shape.ceiling, *byte) {
             None => (0, usize::from(*byte)),
-            Some(edge) => (label(text, edge), 0),
+            Some(edge) => (label_of(model, edge, *byte), 0),
         };
         row = Row { choice: Some(*byte), label, state: answer.state, elapsed: row.elapsed + ticks };
         rows.push(row);
@@ -34,8 +35,20 @@ pub fn rows(text: &[u8], shape: &Shape, run: &[u8]) -> Vec<Row> {
 }
 
 /// The edge that a step byte stands for; none for a delay.
-fn edge(ceiling: usize, byte: u8) -> Option<usize> {
+pub fn edge(ceiling: usize, byte: u8) -> Option<usize> {
     usize::from(byte).checked_sub(ceiling + 1)
+}
+
+/// The label of an edge of the model, and of a composed one that of the part that moves: both have the same if both do.
+fn label_of(model: &Model, number: usize, byte: u8) -> u8 {
+    let own = |text: &[u8], byte| edge(library::shape(text).ceiling, byte).map_or(0, |number| label(text, number));
+    match model {
+        Model::One(text) => label(&text.bytes, number),
+        Model::Two(first, second) => match library::pair_parts(&first.bytes, &second.bytes, byte) {
+            steps if steps.first == STAYS => own(&second.bytes, steps.second),
+            steps => own(&first.bytes, steps.first),
+        },
+    }
 }
 
 /// The label of an edge in a text that is accepted: it has a `label=` line for each edge, in their order.
@@ -46,7 +59,7 @@ fn label(text: &[u8], edge: usize) -> u8 {
 }
 
 /// What a step byte stands for, with the label of an edge that is not private.
-fn choice(ceiling: usize, byte: u8, label: u8) -> String {
+pub fn choice(ceiling: usize, byte: u8, label: u8) -> String {
     match (edge(ceiling, byte), label) {
         (None, _) => format!("delay {}", byte),
         (Some(edge), 0) => format!("edge {}", edge),
@@ -58,9 +71,7 @@ fn choice(ceiling: usize, byte: u8, label: u8) -> String {
 pub fn table(shape: &Shape, rows: &[Row]) -> String {
     let mut lines = vec![headings(shape)];
     lines.extend(rows.iter().enumerate().map(|(step, row)| cells(shape, step, row)));
-    let widths: Vec<usize> =
-        (0..lines[0].len()).map(|column| lines.iter().map(|line| line[column].len()).max().unwrap_or(0)).collect();
-    lines.iter().map(|line| joined(line, &widths)).collect()
+    aligned(&lines, &[1])
 }
 
 fn headings(shape: &Shape) -> Vec<String> {
@@ -82,20 +93,26 @@ fn cells(shape: &Shape, step: usize, row: &Row) -> Vec<String> {
     line
 }
 
-fn clock(ceiling: usize, value: u8) -> String {
+pub fn clock(ceiling: usize, value: u8) -> String {
     let mark = if usize::from(value) == ceiling { "+" } else { "" };
     format!("{}{}", value, mark)
 }
 
-/// The cells of a line, two spaces apart: the choice to the left of its column, numbers to the right.
-fn joined(line: &[String], widths: &[usize]) -> String {
+/// Lines of as many cells each, two spaces apart: choices, in the columns named, to the left of theirs, numbers to the right.
+pub fn aligned(lines: &[Vec<String>], choices: &[usize]) -> String {
+    let widths: Vec<usize> =
+        (0..lines[0].len()).map(|column| lines.iter().map(|line| line[column].len()).max().unwrap_or(0)).collect();
+    lines.iter().map(|line| joined(line, &widths, choices)).collect()
+}
+
+fn joined(line: &[String], widths: &[usize], choices: &[usize]) -> String {
     let padded: Vec<String> = line
         .iter()
         .zip(widths)
         .enumerate()
-        .map(|(column, (cell, width))| match column {
-            1 => format!("{:<1$}", cell, *width),
-            _ => format!("{:>1$}", cell, *width),
+        .map(|(column, (cell, width))| match choices.contains(&column) {
+            true => format!("{:<1$}", cell, *width),
+            false => format!("{:>1$}", cell, *width),
         })
         .collect();
     format!("{}\n", padded.join("  "))

@@ -302,7 +302,14 @@ fn help_says_what_is_proved() {
     for arguments in [&["--help"][..], &["help"], &["-h"], &["check", "--help"]] {
         let outcome = wirdoku(arguments);
         assert_eq!((outcome.status, outcome.err.as_str()), (0, ""));
-        for part in ["usage:", "exit status:", "What is proved:", "What is not proved: the\nsolver", "taken at its word"] {
+        for part in [
+            "With SECOND, another such file, the two models are composed",
+            "usage:",
+            "exit status:",
+            "What is proved:",
+            "What is not proved: the solver",
+            "taken at its word",
+        ] {
             assert!(outcome.out.contains(part), "{}", part);
         }
         assert!(outcome.out.lines().all(|line| line.len() <= 110));

@@ -3,7 +3,10 @@
 mod common;
 
 use common::model_text;
-use wirdoku::library::{self, Answer, FileAnswer, OutputAnswer, Shape, Sizes, State, StateAnswer, SATISFIABLE, UNSATISFIABLE};
+use wirdoku::library::{
+    self, Answer, FileAnswer, OutputAnswer, PairAnswer, PartSteps, Shape, Sizes, State, StateAnswer, SATISFIABLE, STAYS,
+    UNSATISFIABLE,
+};
 
 const UNTOUCHED: u8 = 77;
 
@@ -71,7 +74,9 @@ fn structs_have_the_headers_layout() {
         + &shape
         + &layout!("wirdoku_state", State::default(), location counters clocks)
         + &layout!("wirdoku_state_answer", StateAnswer::default(), number line state)
-        + &layout!("wirdoku_output", OutputAnswer::default(), number line outcome);
+        + &layout!("wirdoku_output", OutputAnswer::default(), number line outcome)
+        + &layout!("wirdoku_pair", PairAnswer::default(), number text line)
+        + &layout!("wirdoku_part_steps", PartSteps::default(), number line first second);
     assert_eq!(found, include_str!("../../compare/c/layout.txt"));
 }
 
@@ -394,4 +399,152 @@ fn outputs_become_assignments() {
         assert_eq!(assignment, [1, 0, 0, 0, 1, 0, 1]);
     }
     assert_eq!(library::output_to_assignment(b"s SATISFIABLE\nv 0\n", &mut []), output_answer(0, 0, 10));
+}
+
+/// The worked pair: a logger that raises its counter, and a watchdog that shares label 3 with it.
+fn l() -> Vec<u8> {
+    b"locations=2\ninit=0\ntarget=1\nclocks=1\nvars=1\nvar=2,0\ninv=x0<=1\ninv=-\nedges=2\n\
+      from=0\nto=0\nlabel=0\nwhen=-\nset=v0:=v0+1\nreset=x0\n\
+      from=0\nto=1\nlabel=3\nwhen=x0>=1,v0>=1\nset=-\nreset=-\n"
+        .to_vec()
+}
+
+fn w() -> Vec<u8> {
+    b"locations=2\ninit=0\ntarget=1\nclocks=1\nvars=1\nvar=1,1\ninv=-\ninv=x0<=4\nedges=2\n\
+      from=0\nto=1\nlabel=3\nwhen=x0>=2\nset=v0:=v0-1\nreset=x0\n\
+      from=1\nto=0\nlabel=5\nwhen=-\nset=-\nreset=x0:=x0\n"
+        .to_vec()
+}
+
+/// Five locations and no edge: with model B, of four, it is too much.
+fn five() -> Vec<u8> {
+    let text = format!("locations=5\ninit=0\ntarget=0\nclocks=0\nvars=0\n{}edges=0\n", "inv=-\n".repeat(5));
+    text.into_bytes()
+}
+
+fn pair_answer(number: u8, text: u8, line: usize) -> PairAnswer {
+    PairAnswer { number, text, line }
+}
+
+fn part_steps(number: u8, line: usize, first: u8, second: u8) -> PartSteps {
+    PartSteps { number, line, first, second }
+}
+
+#[test]
+fn two_texts_are_read_in_their_order() {
+    let (early, late) = (b"locations=2\ninit=2\n", [&a()[..], b"\n"].concat());
+    assert_eq!(library::pair_read(&l(), &w()), pair_answer(0, 0, 0));
+    assert_eq!(library::pair_read(early, &late), pair_answer(5, 1, 2));
+    assert_eq!(library::pair_read(&late, early), pair_answer(8, 1, 15));
+    assert_eq!(library::pair_read(&a(), &late), pair_answer(8, 2, 15));
+    assert_eq!(library::pair_read(&five(), early), pair_answer(5, 2, 2));
+    assert_eq!(library::pair_read(&[b'\n'; 8193], early), pair_answer(1, 1, 0));
+    assert_eq!(library::pair_read(&a(), &[b'\n'; 8193]), pair_answer(1, 2, 0));
+    assert_eq!(library::pair_read(&b(), &five()), pair_answer(38, 0, 0));
+    assert_eq!(library::pair_read(&b(), &b()), pair_answer(0, 0, 0));
+}
+
+#[test]
+fn the_worked_pair() {
+    let (l, w) = (l(), w());
+    let shape = Shape {
+        number: 0,
+        line: 0,
+        locations: 4,
+        initial: 0,
+        target: 3,
+        clocks: 2,
+        counters: 2,
+        edges: 5,
+        ceiling: 5,
+        state: 21,
+        choices: 11,
+    };
+    assert_eq!(library::pair_shape(&l, &w), shape);
+    assert_eq!(library::pair_counts(&l, &w, 1), sizes(0, 0, 53, 382, 1361));
+    let start = State { location: 0, counters: [0, 1, 0, 0], clocks: [0; 4] };
+    assert_eq!(library::pair_initial(&l, &w), state_answer(0, 0, start));
+    let before = State { location: 0, counters: [1, 1, 0, 0], clocks: [1, 2, 0, 0] };
+    let after = State { location: 3, counters: [1, 0, 0, 0], clocks: [1, 0, 0, 0] };
+    assert_eq!(library::pair_step(&l, &w, before, 10), state_answer(0, 0, after));
+    assert_eq!(library::pair_step(&l, &w, after, 10), state_answer(28, 0, after));
+    assert_eq!(library::pair_step(&l, &w, after, 11), state_answer(27, 0, after));
+    let outside = State { location: 4, ..after };
+    assert_eq!(library::pair_step(&l, &w, outside, 0), state_answer(10, 0, outside));
+    assert_eq!(library::pair_walk(&l, &w, &[1, 6, 1, 10]), answer(0, 0));
+    assert_eq!(library::pair_walk(&l, &w, &[1, 6, 0, 10]), answer(28, 4));
+    assert_eq!(library::pair_walk(&l, &w, &[1, 6, 1]), answer(30, 0));
+    assert_eq!(library::pair_walk(&l, &w, &[0; 65]), answer(21, 0));
+    // the other way round the numbers are the same, and the states are not
+    assert_eq!(library::pair_counts(&w, &l, 1), sizes(0, 0, 53, 382, 1361));
+    let start = State { location: 0, counters: [1, 0, 0, 0], clocks: [0; 4] };
+    assert_eq!(library::pair_initial(&w, &l), state_answer(0, 0, start));
+}
+
+#[test]
+fn step_bytes_of_the_parts() {
+    let (l, w) = (l(), w());
+    let cases = [(1, 1, 1), (2, 2, 2), (5, 2, 5), (6, 3, STAYS), (7, 3, STAYS), (8, STAYS, 7), (9, STAYS, 7), (10, 4, 6)];
+    for (byte, first, second) in cases {
+        assert_eq!(library::pair_parts(&l, &w, byte), part_steps(0, 0, first, second), "{}", byte);
+    }
+    for byte in 11..=255 {
+        assert_eq!(library::pair_parts(&l, &w, byte), part_steps(27, 0, 0, 0), "{}", byte);
+    }
+    assert_eq!(library::pair_parts(b"x", &w, 0), part_steps(2, 1, 0, 0));
+    assert_eq!(library::pair_parts(&l, b"locations=2\ninit=2\n", 0), part_steps(5, 2, 0, 0));
+    assert_eq!(library::pair_parts(&b(), &five(), 0), part_steps(38, 0, 0, 0));
+}
+
+#[test]
+fn lists_files_and_assignments_of_a_pair() {
+    let with_label = |label: &str| model_text("a.txt").replace("label=0", label).into_bytes();
+    let (one, other) = (with_label("label=1"), with_label("label=1"));
+    assert_eq!(library::pair_counts(&one, &with_label("label=2"), 1), sizes(0, 0, 14, 48, 158));
+    let counts = sizes(0, 0, 11, 30, 101);
+    let mut words = [i32::MIN; 102];
+    assert_eq!(library::pair_emit(&one, &other, 1, &mut words[..100]), sizes(22, 0, 0, 0, 101));
+    assert_eq!(library::pair_emit(&one, &other, 65, &mut words), sizes(21, 0, 0, 0, 0));
+    assert_eq!(words, [i32::MIN; 102]);
+    assert_eq!(library::pair_emit(&one, &other, 1, &mut words), counts);
+    assert_eq!((words[100], words[101]), (0, i32::MIN));
+    // location 0 is one of four; the edge is variable 7 and leads to location 3, variable 11
+    assert_eq!(words[..5], [1, 2, 3, 4, 0]);
+    assert!(words.windows(6).any(|part| part == [-7, 1, 0, -7, 11, 0]));
+    let bytes = library::pair_dimacs(&one, &other, 1, &mut []).bytes;
+    let mut file = vec![UNTOUCHED; bytes + 1];
+    assert_eq!(library::pair_dimacs(&one, &other, 1, &mut file[..bytes - 1]), file_answer(32, 0, bytes));
+    assert_eq!(file, vec![UNTOUCHED; bytes + 1]);
+    assert_eq!(library::pair_dimacs(&one, &other, 1, &mut file), file_answer(0, 0, bytes));
+    assert!(file.starts_with(b"p cnf 11 30\n1 2 3 4 0\n") && file[bytes] == UNTOUCHED);
+    let mut assignment = [UNTOUCHED; 12];
+    assert_eq!(library::pair_run_to_assignment(&one, &other, &[2], &mut assignment[..10]), answer(31, 0));
+    assert_eq!(assignment, [UNTOUCHED; 12]);
+    assert_eq!(library::pair_run_to_assignment(&one, &other, &[2], &mut assignment), answer(0, 0));
+    assert_eq!(assignment, [1, 0, 0, 0, 0, 0, 1, 0, 0, 0, 1, UNTOUCHED]);
+    let mut run = [UNTOUCHED; 2];
+    assert_eq!(library::pair_assignment_to_run(&one, &other, 1, &assignment[..10], &mut run), answer(23, 0));
+    assert_eq!(library::pair_assignment_to_run(&one, &other, 1, &assignment[..11], &mut []), answer(25, 0));
+    assert_eq!(run, [UNTOUCHED; 2]);
+    assert_eq!(library::pair_assignment_to_run(&one, &other, 1, &assignment[..11], &mut run), answer(0, 0));
+    assert_eq!(run, [2, UNTOUCHED]);
+}
+
+#[test]
+fn refused_pairs_leave_buffers_as_they_were() {
+    let (mut words, mut bytes) = ([i32::MIN; 9], [UNTOUCHED; 9]);
+    let given = State { location: 9, counters: [1, 2, 3, 4], clocks: [5, 6, 7, 8] };
+    let late = [&a()[..], b"\n"].concat();
+    for (first, second, number, line) in [(&late, &five(), 8, 15), (&five(), &late, 8, 15), (&b(), &five(), 38, 0)] {
+        assert_eq!(library::pair_shape(first, second), Shape { number, line, ..Shape::default() });
+        assert_eq!(library::pair_counts(first, second, 65), sizes(number, line, 0, 0, 0));
+        assert_eq!(library::pair_emit(first, second, 0, &mut words), sizes(number, line, 0, 0, 0));
+        assert_eq!(library::pair_dimacs(first, second, 0, &mut bytes), file_answer(number, line, 0));
+        assert_eq!(library::pair_initial(first, second), state_answer(number, line, State::default()));
+        assert_eq!(library::pair_step(first, second, given, 255), state_answer(number, line, given));
+        assert_eq!(library::pair_walk(first, second, &[0; 65]), answer(number, line));
+        assert_eq!(library::pair_assignment_to_run(first, second, 65, &[2], &mut bytes), answer(number, line));
+        assert_eq!(library::pair_run_to_assignment(first, second, &[0; 65], &mut bytes), answer(number, line));
+    }
+    assert_eq!((words, bytes), ([i32::MIN; 9], [UNTOUCHED; 9]));
 }

@@ -177,13 +177,13 @@ fn wrong_usage() {
 
 #[test]
 fn numbers_are_explained() {
-    for number in (1..=10).chain(20..=35) {
+    for number in (1..=10).chain(20..=35).chain([38]) {
         let outcome = wirdoku(&["explain", &number.to_string()]);
         assert_eq!((outcome.status, outcome.err.as_str()), (0, ""));
         assert!(outcome.out.starts_with(&format!("refusal {}: ", number)));
         assert_eq!(outcome.out.lines().count(), 1);
     }
-    for number in ["0", "11", "19", "36", "255"] {
+    for number in ["0", "11", "19", "36", "37", "39", "255"] {
         wirdoku(&["explain", number]).assert_stopped(1, &format!("no refusal has the number {}\n", number));
     }
 }

@@ -8,7 +8,7 @@ use mathlib.Core.Logic.{_↔_}
 use mathlib.Core.List.{List, [], _∷_, _++_}
 use mathlib.Core.Bool.{true}
 use mathlib.Core.Option.{some}
-use Prim.Native.Nat.{ℕ, _-_, _≤_, _<_}
+use Prim.Native.Nat.{ℕ, _-_, _≤_, _<_, max}
 use lib.Dec.{T}
 use lib.IntN.{ℤ}
 use lib.ListN.{length, take, getD}
@@ -19,11 +19,20 @@ use Rattle.model.specs.declared.Model.{Model}
 use Rattle.model.specs.declared.State.{State}
 use Rattle.model.specs.Indexed.{each}
 use Rattle.model.specs.Record.{updateAt, resetAt, edgeAt}
-use Rattle.model.specs.Automaton.{variables, value, counter, clock, listed, updated, edgeStep}
+use Rattle.model.specs.Automaton.{ceiling, variables, value, counter, clock, initialState, listed, updated, edgeStep}
+use Rattle.model.specs.Run.{walk}
 use Rattle.model.specs.Form.{wellFormed}
 use Rattle.model.proofs.FormLaws.{WellFormed, WellFormedEdge}
 use Rattle.model.proofs.StepLaws
 use Rattle.model.proofs.StepLaws.{Shaped, EdgeBy, NoneEarlier}
+use Rattle.compose.specs.Joined.{joinedLocation}
+use Rattle.compose.specs.Composed.{fits, composed}
+use Rattle.product.specs.Joint.{Parts, JointState, HasParts, StepsAsParts, WalksAsParts, RunsAsParts}
+use Rattle.product.specs.Limits.{ComposesExactly}
+use Rattle.product.proofs.ComposedForm
+use Rattle.product.proofs.ComposedCeiling
+use Rattle.product.proofs.Limits as ProductLimits
+use Rattle.product.proofs.Product
 use Rattle.list.specs.Lists.{All}
 use Rattle.list.specs.Items.{sourceItems, targetItems, guardItems, resetsItems, edgeItems}
 use Rattle.list.specs.Clauses.{clauses, words}
@@ -58,6 +67,7 @@ use Rattle.claims.specs.Calls.{Calls, callsWith, recordCalls, Emitted, v
 use Rattle.claims.specs.Calls.{EmittedWords, EmittedDemand2, EmittedDemand3, EmittedShortest}
 use Rattle.claims.specs.Files.{Filed, bytesLeft, FiledBytes}
 use Rattle.claims.specs.Texts.{textModel, textCalls, IsRead, Never20, RowTexts}
+use Rattle.claims.specs.Pairs.{IsPair, pairModel, pairCalls, PairNever20, WorkedPairs}
 use Rattle.claims.specs.Outputs.{SaysSatisfiable, EmittedOutput}
 use Rattle.claims.specs.Answers.{answers, LabelsAlone}
 use Rattle.claims.specs.Cases.{allRowsHold}
@@ -68,8 +78,10 @@ use Rattle.claims.proofs.Copies
 use Rattle.claims.proofs.SameAnswers
 use Rattle.claims.proofs.Files
 use Rattle.claims.proofs.Texts
+use Rattle.claims.proofs.Pairs
 use Rattle.claims.proofs.Outputs
 use Rattle.claims.proofs.Rows
+use Rattle.claims.proofs.PairRows
 use Rattle.claims.proofs.Sample
 
 -- ---- the words of the list
@@ -205,10 +217,94 @@ solver-output room m k e = Outputs.emitted-output (callsWith room m) k e (emitte
 pub text-output : (t : List ℕ) (k : ℕ) (e : Emitted (textCalls t) k) → EmittedOutput (textCalls t) k e
 text-output t k e = Outputs.emitted-output (textCalls t) k e (text-demand-2 t k e)
 
+-- ---- two models as one
+-- Two records: 20 exactly if one is not well formed, then 38 exactly if the composed model has more locations, clocks, counters, edges or atoms than a record
+-- may hold, each with the blank model; else the composed model.
+pub composes-exactly : (a b : Model) → ComposesExactly a b
+composes-exactly = ProductLimits.composes-exactly
+
+-- The composed model is well formed, its initial location and its target are the pairs, and its ceiling is the greater one.
+pub composed-formed : (a b : Model) → T (wellFormed a) → T (wellFormed b) → T (fits a b) → T (wellFormed (composed a b))
+composed-formed = ComposedForm.composed-formed
+
+pub composed-initial : (a b : Model) → composed a b .initial ≡ joinedLocation (b .locations) (a .initial) (b .initial)
+composed-initial = ComposedForm.composed-initial
+
+pub composed-target : (a b : Model) → composed a b .target ≡ joinedLocation (b .locations) (a .target) (b .target)
+composed-target = ComposedForm.composed-target
+
+pub composed-ceiling : (a b : Model) → T (wellFormed a) → T (wellFormed b) → T (fits a b) → ceiling (composed a b) ≡ max (ceiling a) (ceiling b)
+composed-ceiling = ComposedCeiling.composed-ceiling
+
+-- Every joint state that meets its invariant has two parts and no others: states of the two models that meet theirs, with clocks cut to the model's own
+-- ceiling. The parts of the initial state are the initial states.
+pub joint-parts : (a b : Model) → T (wellFormed a) → T (wellFormed b) → T (fits a b) → (s : State) → JointState a b s → HasParts a b s
+joint-parts = Product.has-parts
+
+pub initial-parts : (a b : Model) → T (wellFormed a) → T (wellFormed b) → T (fits a b)
+    → Parts a b (initialState (composed a b)) (initialState a) (initialState b)
+initial-parts = Product.initial-are-parts
+
+-- The law of steps: from it a delay is allowed exactly if both parts allow it cut to their ceilings, a pair exactly if both do, a lone edge exactly if its
+-- owner does while the other stands still; and the new joint state's parts are the parts' new states.
+pub steps-as-parts : (a b : Model) → T (wellFormed a) → T (wellFormed b) → T (fits a b) → (s x y : State) → JointState a b s → Parts a b s x y
+    → StepsAsParts a b s x y
+steps-as-parts = Product.steps-are-parts
+
+-- Walks, and runs: cut to a part, each is a walk, or a run, of that part, in which the other's lone edges are left out.
+pub walks-as-parts : (a b : Model) → T (wellFormed a) → T (wellFormed b) → T (fits a b) → (r : List ℕ) (s x y t : State) → JointState a b s
+    → Parts a b s x y → walk (composed a b) s r ≡ some t → WalksAsParts a b r x y t
+walks-as-parts = Product.walks-are-parts
+
+pub runs-as-parts : (a b : Model) → T (wellFormed a) → T (wellFormed b) → T (fits a b) → (r : List ℕ) → RunsAsParts a b r
+runs-as-parts = Product.runs-are-parts
+
+-- The calls for C on two texts. Where both are read and compose a model, they answer and leave what the calls on that model answer and leave, and it is well
+-- formed. So all that is said of a text holds of two.
+pub pair-formed : (t u : List ℕ) → IsPair t u → T (wellFormed (pairModel t u))
+pair-formed = Pairs.pair-formed
+
+pub pair-calls : (t u : List ℕ) → IsPair t u → pairCalls t u ≡ recordCalls (pairModel t u)
+pair-calls = Pairs.pair-calls
+
+pub pair-emits : (t u : List ℕ) → IsPair t u → (k : ℕ) → k ≤ 64 → (old : List ℤ) → length (words (pairModel t u) k) ≤ length old → Emitted (pairCalls t u) k
+pair-emits = Pairs.pair-emits
+
+pub pair-read : (t u : List ℕ) (k : ℕ) → Emitted (pairCalls t u) k → IsPair t u
+pair-read = Pairs.emitted-pair
+
+pub pair-files : (t u : List ℕ) → IsPair t u → (k : ℕ) → k ≤ 64 → (old : List ℕ) → length (file (pairModel t u) k) ≤ length old → Filed (pairCalls t u) k
+pair-files = Pairs.pair-files
+
+pub pair-file-read : (t u : List ℕ) (k : ℕ) → Filed (pairCalls t u) k → IsPair t u
+pair-file-read = Pairs.filed-pair
+
+pub pair-filed : (t u : List ℕ) (k : ℕ) (f : Filed (pairCalls t u) k) (e : Emitted (pairCalls t u) k) → FiledBytes (pairCalls t u) k f e
+pair-filed = Pairs.pair-filed
+
+pub pair-words : (t u : List ℕ) (k : ℕ) (e : Emitted (pairCalls t u) k) → EmittedWords (pairCalls t u) k e
+pair-words = Pairs.pair-words
+
+pub pair-demand-2 : (t u : List ℕ) (k : ℕ) (e : Emitted (pairCalls t u) k) → EmittedDemand2 (pairCalls t u) k e
+pair-demand-2 = Pairs.pair-2
+
+pub pair-demand-3 :
+    (t u : List ℕ) (j k : ℕ) (d : Emitted (pairCalls t u) j) (e : Emitted (pairCalls t u) k) → j ≤ k → EmittedDemand3 (pairCalls t u) j k d e
+pair-demand-3 = Pairs.pair-3
+
+pub pair-shortest : (t u : List ℕ) (e : (k : ℕ) → k ≤ 64 → Emitted (pairCalls t u) k) → EmittedShortest (pairCalls t u) e
+pair-shortest = Pairs.pair-shortest
+
+pub pair-output : (t u : List ℕ) (k : ℕ) (e : Emitted (pairCalls t u) k) → EmittedOutput (pairCalls t u) k e
+pair-output t u k e = Outputs.emitted-output (pairCalls t u) k e (pair-demand-2 t u k e)
+
 -- ---- the number 20
--- No call for C answers 20.
+-- No call for C answers 20, on one text or on two.
 pub never-20 : Never20
 never-20 = Texts.never-20
+
+pub pair-never-20 : PairNever20
+pair-never-20 = Pairs.never-20
 
 -- ---- updates in their written order
 -- The counters after the updates of an edge are the fold over the items of its set line, as they are written: each reads what those before it left, and
@@ -278,13 +374,17 @@ pub sixteen-bits : (m : Model) → T (wellFormed m) → SixteenBits m
 sixteen-bits = SixteenLaws.sixteen-bits
 
 -- ---- the rows
--- P1 to P10, the lists of the small models, and numbers of members: every row holds.
+-- P1 to P10, the lists of the small models, what pairs compose, and numbers of members: every row holds.
 pub all-rows : T allRowsHold
 all-rows = Rows.all-rows
 
 -- The small models are what their texts say.
 pub row-texts : RowTexts
 row-texts = Texts.row-texts
+
+-- The worked pairs: a logger and a watchdog, and A with itself under three labellings.
+pub worked-pairs : WorkedPairs
+worked-pairs = PairRows.worked-pairs
 
 -- The theorems are not empty: logger model B is well formed, its list for 3 steps is emitted, and by demand 2 the emitted words can be satisfied.
 pub B-formed : T (wellFormed modelB)

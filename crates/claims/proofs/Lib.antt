@@ -6,8 +6,11 @@ pub mod Copies
 pub mod SamePieces
 pub mod SameAnswers
 pub mod Files
+pub mod Given
 pub mod Texts
+pub mod Pairs
 pub mod Outputs
 pub mod Rows
+pub mod PairRows
 pub mod Sample
 pub mod Claims

@@ -22,6 +22,11 @@ use Rattle.claims.specs.RowModels.{clockRelations, counterRelations, cou
 use Rattle.claims.specs.RowModels.{resetAndCopied, clocksSwapped, labelledA}
 use Rattle.claims.specs.RowWords.{clockRelationsWords, counterRelationsWords, counterUpdatesWords, twoOfEachWords}
 use Rattle.claims.specs.RowWords.{raisedThenCopiedWords, copiedThenRaisedWords, twoOrdersWords, resetAndCopiedWords, clocksSwappedWords}
+use Rattle.compose.specs.Joined.{atomCount}
+use Rattle.compose.specs.Moves.{bears, shared, paired, firstAlone, secondAlone, pairsOf, moves}
+use Rattle.compose.specs.Composed.{invariantsFit, guardsFit, fits, composed}
+use Rattle.compose.specs.ComposeCall.{composeReport}
+use Rattle.claims.specs.PairModels.{logger, watchdog, loggerAndWatchdog, apartA, pairedA}
 use Rattle.claims.specs.Cases.{holds, rows, allRowsHold}
 
 pub all-rows : T allRowsHold
@@ -34,5 +39,6 @@ unfolding modelA waitingA modelB fullModel variableNumber stateNumbers choiceNum
     invariantItems stateItems initialItems startItems choiceItems delayItems delaysItems sourceItems targetItems guardItems updatesItems resetsItems edgeItems
     edgesItems stepItems endItems bodyItems items clauseWords wordsOf one members pairs groupClauses clauses words satisfied trueBefore firstFalse placeOfTrue
     runOf stateBytes stepsBytes assignmentOf walkSteps walkReport encodeReport encodeLeft firstWrongByte decodeReport decodeLeft emitReport emitLeft holds
-    rows allRowsHold
+    logger watchdog loggerAndWatchdog apartA pairedA composeReport fits invariantsFit guardsFit bears shared paired firstAlone secondAlone pairsOf moves
+    atomCount composed rows allRowsHold
 all-rows = tt

@@ -1,6 +1,6 @@
 -- The calls for C. On a text that is read they are the calls on the record read, so the demands carry over; an accepted emission means that the text
 -- was read. None answers 20: the record read is well formed, and the numbers of a refused text are 1 to 8. The small models' texts, by evaluation.
-use mathlib.Core.Path.{_≡_, refl, sym, ap, subst}
+use mathlib.Core.Path.{_≡_, refl}
 use mathlib.Core.Bool.{Bool, true, false, not, cond}
 use mathlib.Core.List.{List, [], _∷_}
 use mathlib.Core.Option.{Option, none, some}
@@ -9,7 +9,6 @@ use native.Mathlib.Omega.{arith}
 use lib.Dec.{T, ltb, leb, eqb}
 use lib.IntN.{ℤ}
 use lib.ListN.{length, drop}
-use borrow.Author.Tests.{eq-eqb, eqb-true}
 use Rattle.model.specs.declared.Model.{Model}
 use Rattle.model.specs.declared.State.{State}
 use Rattle.model.specs.Indexed.{listBelow, allBelow, maybe}
@@ -23,10 +22,10 @@ use Rattle.list.specs.Clauses.{clauses, words}
 use Rattle.list.specs.Assignments.{firstFalse}
 use Rattle.walk.specs.StepCall.{stepReport, stepReported}
 use Rattle.walk.specs.Walker.{walkSteps, walkReport}
-use Rattle.encode.specs.EncodeCall.{encodeReport, encodeLeft}
-use Rattle.decode.specs.DecodeCall.{firstWrongByte, decodeReport, decodeLeft}
+use Rattle.encode.specs.EncodeCall.{encodeReport}
+use Rattle.decode.specs.DecodeCall.{firstWrongByte, decodeReport}
 use Rattle.counts.specs.CountsCall.{listReport, listReported}
-use Rattle.emission.specs.EmitCall.{emitReport, emitReported, emitLeft}
+use Rattle.emission.specs.EmitCall.{emitReport, emitReported}
 use Rattle.text.specs.bytes.Ascii.{ascii}
 use Rattle.text.specs.bytes.Bytes.{firstAt, startsWith, isDue, valueOf, numberOf, digitsOf, splitOn, isHyphen, itemsOf}
 use Rattle.text.specs.declared.bytes.NumberRead.{NumberRead}
@@ -46,96 +45,71 @@ use Rattle.text.specs.lines.Sequence.{inTurn, readHead, readCounters, readInvar
 use Rattle.text.specs.Text.{readRefused, readAccepted, readEnded, readReport, ifRead}
 use Rattle.text.specs.Bound.{BoundReport, boundReport, boundRefused, boundIn}
 use Rattle.text.proofs.Laws.Accepted.{accepted-formed}
-use Rattle.dimacs.specs.DimacsCall.{fileReport, fileReported, fileLeft}
+use Rattle.dimacs.specs.DimacsCall.{fileReport, fileReported}
 use Rattle.dimacs.specs.File.{file}
 use Rattle.sizing.specs.SizeCall.{SizeReport, refusedSizes, emittedSizes, textSizes, sizeReport}
 use Rattle.wirdoku.specs.TextCall.{countedSizes, shapeOf, refusedShape, fileReply, refusedFile, stateAnswer, zeroState, stepAnswer}
 use Rattle.wirdoku.specs.declared.FileReply.{FileReply}
 use Rattle.wirdoku.specs.declared.Shape.{Shape}
 use Rattle.wirdoku.specs.declared.StateAnswer.{StateAnswer}
-use Rattle.claims.specs.Calls.{Calls, recordCalls, Emitted, EmittedWords, EmittedDemand2, EmittedDemand3, EmittedShortest}
+use Rattle.claims.specs.Calls.{recordCalls, Emitted, EmittedWords, EmittedDemand2, EmittedDemand3, EmittedShortest}
 use Rattle.claims.specs.Files.{Filed, FiledBytes}
-use Rattle.claims.specs.Texts.{countsIn, fileIn, textCalls, IsRead, Not20, Never20, RowTexts}
+use Rattle.claims.specs.Texts.{textCalls, IsRead, Not20, Never20, RowTexts}
 use Rattle.claims.specs.RowModels.{clockRelations, counterRelations, counterUpdates, twoOfEach, raisedThenCopied, copiedThenRaised, twoOrders}
 use Rattle.claims.specs.RowModels.{resetAndCopied, clocksSwapped}
-use Rattle.claims.proofs.Accepted.{emits}
-use Rattle.claims.proofs.CallProofs.{words-are, demand-2, demand-3, shortest}
-use Rattle.claims.proofs.Files.{files, filed-bytes}
+use Rattle.claims.proofs.Given.{given-calls, emitted-given, filed-given, given-emits, given-files, given-filed, given-words, given-2, given-3}
+use Rattle.claims.proofs.Given.{given-shortest, given-not-20}
 
 -- ---- a text that is read
--- the calls on a text, by the test whether it is read
-abbrev callsIf : Bool → List ℕ → Calls
-callsIf b t =
-    let m : Model = readReport t .model in
-    let n : ℕ = readReport t .number in
-    let l : ℕ = readReport t .line in
-    record {
-      model = m;
-      emits = λ k out. countsIn (cond b (emittedSizes (emitReport m k (length out))) (refusedSizes n l));
-      emitted = λ k out. cond b (emitLeft m k (length out) out) out;
-      files = λ k out. fileIn (cond b (fileReply (fileReport m k (length out))) (refusedFile n l));
-      filed = λ k out. cond b (fileLeft m k out) out;
-      walks = λ r. cond b (walkReport m r) (refusal n l);
-      decodes = λ k a run. cond b (decodeReport m k a (length run)) (refusal n l);
-      decoded = λ k a run. cond b (decodeLeft m k a run) run;
-      encodes = λ r out. cond b (encodeReport m r (length out)) (refusal n l);
-      encoded = λ r out. cond b (encodeLeft m r out) out;
-    }
-
 pub read-calls : (t : List ℕ) → IsRead t → textCalls t ≡ recordCalls (readReport t .model)
 unfolding ifRead
-read-calls t z = ap (λ (b : Bool). callsIf b t) (eq-eqb (readReport t .number) 0 z)
-
--- an accepted emission means that the text is read
-pub emitted-read : (t : List ℕ) (k : ℕ) → Emitted (textCalls t) k → IsRead t
-unfolding ifRead
-emitted-read t k e = go (eqb (readReport t .number) 0) refl (e .accepts)
-  where
-    go : (b : Bool) → eqb (readReport t .number) 0 ≡ b → callsIf b t .emits k (e .old) .number ≡ 0 → IsRead t
-    go true q h = eqb-true (readReport t .number) 0 q
-    go false q h = h
-
--- and so does an accepted file
-pub filed-read : (t : List ℕ) (k : ℕ) → Filed (textCalls t) k → IsRead t
-unfolding ifRead
-filed-read t k f = go (eqb (readReport t .number) 0) refl (f .accepts)
-  where
-    go : (b : Bool) → eqb (readReport t .number) 0 ≡ b → callsIf b t .files k (f .old) .number ≡ 0 → IsRead t
-    go true q h = eqb-true (readReport t .number) 0 q
-    go false q h = h
+read-calls t z = given-calls (readReport t .number) (readReport t .line) (readReport t .model) z
 
 module _ (t : List ℕ) where
+  abbrev n : ℕ
+  n = readReport t .number
+
+  abbrev l : ℕ
+  l = readReport t .line
+
   abbrev m : Model
   m = readReport t .model
 
+  pub emitted-read : (k : ℕ) → Emitted (textCalls t) k → IsRead t
+  unfolding ifRead
+  emitted-read = emitted-given n l m
+
+  pub filed-read : (k : ℕ) → Filed (textCalls t) k → IsRead t
+  unfolding ifRead
+  filed-read = filed-given n l m
+
   pub text-emits : IsRead t → (k : ℕ) → k ≤ 64 → (old : List ℤ) → length (words m k) ≤ length old → Emitted (textCalls t) k
-  text-emits z k h old l = subst (λ (c : Calls). Emitted c k) (sym (read-calls t z)) (emits (λ n. n) m (accepted-formed t z) k h old l)
+  unfolding ifRead
+  text-emits z = given-emits n l m z (accepted-formed t z)
 
   pub text-files : IsRead t → (k : ℕ) → k ≤ 64 → (old : List ℕ) → length (file m k) ≤ length old → Filed (textCalls t) k
-  text-files z k h old l = subst (λ (c : Calls). Filed c k) (sym (read-calls t z)) (files (λ n. n) m (accepted-formed t z) k h old l)
+  unfolding ifRead
+  text-files z = given-files n l m z (accepted-formed t z)
 
   pub text-filed : (k : ℕ) (f : Filed (textCalls t) k) (e : Emitted (textCalls t) k) → FiledBytes (textCalls t) k f e
-  text-filed k f e =
-      subst (λ (c : Calls). (f : Filed c k) (e : Emitted c k) → FiledBytes c k f e)
-      (sym (read-calls t (filed-read t k f))) (filed-bytes (λ n. n) m k) f e
+  unfolding ifRead
+  text-filed = given-filed n l m
 
   pub text-words : (k : ℕ) (e : Emitted (textCalls t) k) → EmittedWords (textCalls t) k e
-  text-words k e =
-      subst (λ (c : Calls). (e : Emitted c k) → EmittedWords c k e) (sym (read-calls t (emitted-read t k e))) (words-are (λ n. n) m k) e
+  unfolding ifRead
+  text-words = given-words n l m
 
   pub text-2 : (k : ℕ) (e : Emitted (textCalls t) k) → EmittedDemand2 (textCalls t) k e
-  text-2 k e =
-      subst (λ (c : Calls). (e : Emitted c k) → EmittedDemand2 c k e) (sym (read-calls t (emitted-read t k e))) (demand-2 (λ n. n) m k) e
+  unfolding ifRead
+  text-2 = given-2 n l m
 
   pub text-3 : (j k : ℕ) (d : Emitted (textCalls t) j) (e : Emitted (textCalls t) k) → j ≤ k → EmittedDemand3 (textCalls t) j k d e
-  text-3 j k d e l =
-      subst (λ (c : Calls). (d : Emitted c j) (e : Emitted c k) → j ≤ k → EmittedDemand3 c j k d e)
-      (sym (read-calls t (emitted-read t k e))) (demand-3 (λ n. n) m j k) d e l
+  unfolding ifRead
+  text-3 = given-3 n l m
 
   pub text-shortest : (e : (k : ℕ) → k ≤ 64 → Emitted (textCalls t) k) → EmittedShortest (textCalls t) e
-  text-shortest e =
-      subst (λ (c : Calls). (e : (k : ℕ) → k ≤ 64 → Emitted c k) → EmittedShortest c e)
-      (sym (read-calls t (emitted-read t 0 (e 0 (omega arith))))) (shortest (λ n. n) m) e
+  unfolding ifRead
+  text-shortest = given-shortest n l m
 
 -- ---- the number of a refused text is at most 8
 fault-small : (f : Faults) → faultNumber f ≤ 7
@@ -215,25 +189,20 @@ read-number t = go (ltb 8192 (length t)) (eqb (readLines t .number) 0) (ltb 0 (l
     go false true false = omega arith
     go false false c = omega (arith, lines-small t)
 
--- ---- 20: of a call on a text, where the call on a well-formed record does not answer it
+-- ---- 20
 not-20 : {A : Type 0} (number : A → ℕ) (call : Model → A) (refuse : ℕ → ℕ → A) → ((m : Model) → T (wellFormed m) → Not20 (number (call m)))
     → ((n l : ℕ) → number (refuse n l) ≡ n) → (t : List ℕ) → Not20 (number (ifRead (readReport t) call refuse))
 unfolding ifRead
-not-20 number call refuse formed-not told t = go (eqb (readReport t .number) 0) refl
-  where
-    n : ℕ
-    n = readReport t .number
-
-    go : (b : Bool) → eqb n 0 ≡ b → Not20 (number (cond b (call (readReport t .model)) (refuse n (readReport t .line))))
-    go true q h = formed-not (readReport t .model) (accepted-formed t (eqb-true n 0 q)) h
-    go false q h = omega (arith, h, told n (readReport t .line), read-number t)
+not-20 number call refuse formed-not told t =
+    given-not-20 (readReport t .number) (readReport t .line) (readReport t .model) number call refuse formed-not told (accepted-formed t)
+    (λ h. omega (arith, h, read-number t))
 
 -- the calls on a well-formed record
 module _ (m : Model) (ok : T (wellFormed m)) where
   w : wellFormed m ≡ true
   w = T-true (wellFormed m) .0 ok
 
-  emit-not : (k room : ℕ) → Not20 (emitReport m k room .number)
+  pub emit-not : (k room : ℕ) → Not20 (emitReport m k room .number)
   unfolding emitReport
   emit-not k room = rw w (go (ltb 64 k) (ltb room (length (words m k))))
     where
@@ -246,7 +215,7 @@ module _ (m : Model) (ok : T (wellFormed m)) where
       go false true h = omega arith
       go false false h = omega arith
 
-  file-not : (k room : ℕ) → Not20 (fileReport m k room .number)
+  pub file-not : (k room : ℕ) → Not20 (fileReport m k room .number)
   unfolding fileReport
   file-not k room = rw w (go (ltb 64 k) (ltb room (length (file m k))))
     where
@@ -258,7 +227,7 @@ module _ (m : Model) (ok : T (wellFormed m)) where
       go false true h = omega arith
       go false false h = omega arith
 
-  list-not : (k : ℕ) → Not20 (listReport m k .number)
+  pub list-not : (k : ℕ) → Not20 (listReport m k .number)
   unfolding listReport
   list-not k = rw w (go (ltb 64 k))
     where
@@ -266,7 +235,7 @@ module _ (m : Model) (ok : T (wellFormed m)) where
       go true h = omega arith
       go false h = omega arith
 
-  step-not : (s : State) (byte : ℕ) → Not20 (stepReport m s byte .number)
+  pub step-not : (s : State) (byte : ℕ) → Not20 (stepReport m s byte .number)
   unfolding stepReport
   step-not s byte = rw w (go (stateFormed m s) (leb (choices m) byte) (step m s byte))
     where
@@ -292,7 +261,7 @@ module _ (m : Model) (ok : T (wellFormed m)) where
       go false none f h = omega arith
       go false (some u) f h = f u h
 
-  walk-not : (r : List ℕ) → Not20 (walkReport m r .number)
+  pub walk-not : (r : List ℕ) → Not20 (walkReport m r .number)
   unfolding walkReport
   walk-not r = rw w (go (ltb 64 (length r)) (start m))
     where
@@ -301,7 +270,7 @@ module _ (m : Model) (ok : T (wellFormed m)) where
       go false none h = omega arith
       go false (some s) h = steps-not r 1 s h
 
-  decode-not : (k : ℕ) (a : List ℕ) (room : ℕ) → Not20 (decodeReport m k a room .number)
+  pub decode-not : (k : ℕ) (a : List ℕ) (room : ℕ) → Not20 (decodeReport m k a room .number)
   unfolding decodeReport
   decode-not k a room = rw w (go (ltb 64 k) (eqb (length a) (variables m k)) (firstWrongByte 0 a) (ltb room k) (firstFalse a (clauses m k)))
     where
@@ -319,7 +288,7 @@ module _ (m : Model) (ok : T (wellFormed m)) where
       go false true none false (some i) h = omega arith
       go false true none false none h = omega arith
 
-  encode-not : (r : List ℕ) (room : ℕ) → Not20 (encodeReport m r room .number)
+  pub encode-not : (r : List ℕ) (room : ℕ) → Not20 (encodeReport m r room .number)
   unfolding encodeReport
   encode-not r room = go (isAccepted (walkReport m r)) (ltb room (variables m (length r)))
     where

@@ -23,8 +23,8 @@ use Rattle.encode.specs.EncodeCall.{encodeReport, encodeLeft}
 use Rattle.decode.specs.DecodeCall.{decodeReport, decodeLeft}
 
 -- The runs of a record, its list for a bound, and of every call on a record the answer and what it leaves in the buffer lent to it: the right-hand sides of
--- the contracts. (The methods of a model and of a state give what these are made of: totals and steps.) Two calls that read labels are excepted by name and
--- do not belong here: composing (Q-7) and writing back (Q-13).
+-- the contracts. (The methods of a model and of a state give what these are made of: totals and steps.) Calls that read labels are excepted by name and
+-- do not belong here: composing (compose: `compose` and `part_steps`, which take two records) and writing back (Q-13).
 pub record Answers : Type 0 where
   -- the runs; the list for a bound, its clauses and its words
   pub runs : List ℕ → Bool

@@ -20,12 +20,14 @@ use Rattle.list.specs.Assignments.{satisfied}
 use Rattle.parts.specs.Numbering.{stateNumber, choiceNumber, numbersInOrder}
 use Rattle.walk.specs.StepCall.{StepReport, stepReport}
 use Rattle.walk.specs.Walker.{walkReport}
+use Rattle.compose.specs.ComposeCall.{composeReport}
 use Rattle.encode.specs.EncodeCall.{encodeReport, encodeLeft}
 use Rattle.decode.specs.DecodeCall.{decodeReport, decodeLeft}
 use Rattle.emission.specs.EmitCall.{EmitReport, emitReport, emitLeft}
 use Rattle.samples.specs.Models.{modelA, waitingA, modelB, fullModel}
 use Rattle.claims.specs.RowModels.{clockRelations, counterRelations, counterUpdates, twoOfEach, raisedThenCopied, copiedThenRaised, twoOrders}
 use Rattle.claims.specs.RowModels.{resetAndCopied, clocksSwapped, labelledA}
+use Rattle.claims.specs.PairModels.{logger, watchdog, loggerAndWatchdog, apartA, pairedA, bare, clocked, counted, looped, waiting, guarded}
 use Rattle.claims.specs.RowWords.{neg, end, clockRelationsWords, counterRelationsWords, counterUpdatesWords, twoOfEachWords}
 use Rattle.claims.specs.RowWords.{raisedThenCopiedWords, copiedThenRaisedWords, twoOrdersWords, resetAndCopiedWords, clocksSwappedWords}
 
@@ -59,6 +61,10 @@ pub data Fact : Type 0 where
   stepIs : Model → ℕ → List ℕ → ℕ → ℕ → List ℕ → Fact
   -- the walker refuses the run with this number and place
   runRefused : Model → List ℕ → ℕ → ℕ → Fact
+  -- the steps are a run
+  isARun : Model → List ℕ → Fact
+  -- composing the two records answers with this number
+  composingIs : Model → Model → ℕ → Fact
 
 -- ---- how it is checked: by evaluation
 -- All lists of k numbers below n, in order.
@@ -118,6 +124,8 @@ holds (assignmentRefused m k a number place) = equalRefusal (decodeReport m k a 
 holds (runsAre m k rs) = equalLists (equalLists eqb) (keepIf (isRun m) (strings (choices m) k)) rs
 holds (stepIs m l xs byte l′ ys) = equalStep (stepReport m (standing l xs) byte) (standing l′ ys)
 holds (runRefused m r number place) = equalRefusal (walkReport m r) number place
+holds (isARun m r) = isRun m r
+holds (composingIs a b number) = eqb (composeReport a b .number) number
 
 -- ---- the rows
 -- A row: the number of its case P1 to P10 and what it says; 0 for what the cases take for granted, for the small models and for numbers.
@@ -128,7 +136,8 @@ pub record Row : Type 0 where
 abbrev P : ℕ → Fact → Row
 P n f = record { number = n; says = f }
 
--- P1 to P10, the lists of the small models for one step, and the numbers of members, up to the greatest.
+-- P1 to P10, the lists of the small models for one step, what pairs of models compose, both sides of each limit of it, and the numbers of members, up to
+-- the greatest.
 unfoldable pub rows : List Row
 rows =
     P 0 (areFormed (modelA ∷ waitingA ∷ modelB ∷ clockRelations ∷ counterRelations ∷ counterUpdates ∷ twoOfEach ∷ [])) ∷
@@ -181,6 +190,32 @@ rows =
     P 0 (areFormed (labelledA 15 0 ∷ [])) ∷
     P 0 (areRefused (labelledA 16 0 ∷ labelledA 255 0 ∷ labelledA 0 5 ∷ labelledA 15 1 ∷ [])) ∷
     P 0 (countsAre (labelledA 15 0) 1 7 16 51) ∷
+    P 0 (areFormed (logger ∷ watchdog ∷ loggerAndWatchdog ∷ apartA 1 2 ∷ pairedA 1 ∷ [])) ∷
+    P 0 (totalsAre loggerAndWatchdog 5 21 11) ∷
+    P 0 (countsAre loggerAndWatchdog 1 53 382 1361) ∷
+    P 0 (runsAre loggerAndWatchdog 2 []) ∷
+    P 0 (isARun loggerAndWatchdog (1 ∷ 6 ∷ 1 ∷ 10 ∷ [])) ∷
+    P 0 (countsAre (apartA 0 0) 1 14 48 158) ∷
+    P 0 (runsAre (apartA 0 0) 2 ((2 ∷ 5 ∷ []) ∷ (4 ∷ 3 ∷ []) ∷ [])) ∷
+    P 0 (countsAre (pairedA 1) 1 11 30 101) ∷
+    P 0 (runsAre (pairedA 1) 1 ((2 ∷ []) ∷ [])) ∷
+    P 0 (composingIs (bare 17) (bare 4) 20) ∷
+    P 0 (composingIs (bare 4) (bare 17) 20) ∷
+    P 0 (composingIs (bare 4) (bare 4) 0) ∷
+    P 0 (composingIs (bare 4) (bare 5) 38) ∷
+    P 0 (composingIs (clocked 2) (clocked 2) 0) ∷
+    P 0 (composingIs (clocked 3) (clocked 2) 38) ∷
+    P 0 (composingIs (counted 2) (counted 2) 0) ∷
+    P 0 (composingIs (counted 3) (counted 2) 38) ∷
+    P 0 (composingIs (looped 2 8 0) (looped 2 8 0) 0) ∷
+    P 0 (composingIs (looped 2 9 0) (looped 2 8 0) 38) ∷
+    P 0 (composingIs (looped 1 4 1) (looped 1 8 1) 0) ∷
+    P 0 (composingIs (looped 1 3 1) (looped 1 11 1) 38) ∷
+    P 0 (composingIs (waiting 2) (waiting 2) 0) ∷
+    P 0 (composingIs (waiting 3) (waiting 2) 38) ∷
+    P 0 (composingIs (guarded 2 1) (guarded 2 1) 0) ∷
+    P 0 (composingIs (guarded 3 1) (guarded 2 1) 38) ∷
+    P 0 (composingIs (guarded 3 1) (guarded 2 2) 0) ∷
     P 0 (numbersAre modelA 1 (1 ∷ 2 ∷ 3 ∷ 4 ∷ 5 ∷ 6 ∷ 7 ∷ [])) ∷
     P 0 (stateNumberIs modelB 1 (counter 0) 1 25) ∷
     P 0 (choiceNumberIs modelB 2 7 57) ∷

@@ -2,8 +2,10 @@ pub mod Words
 pub mod Calls
 pub mod Files
 pub mod RowModels
+pub mod PairModels
 pub mod RowWords
 pub mod Texts
+pub mod Pairs
 pub mod Outputs
 pub mod Answers
 pub mod Cases

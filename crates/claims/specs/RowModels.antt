@@ -41,14 +41,14 @@ abbrev resets : List ClockUpdate → List ClockSlot
 resets [] = []
 resets (u ∷ l) = record { update = u } ∷ resets l
 
-abbrev invariant : List Atom → Invariant
+abbrev pub invariant : List Atom → Invariant
 invariant l = record { atoms = filled blankAtom 4 (atoms l) }
 
-abbrev counter : ℕ → ℕ → Counter
+abbrev pub counter : ℕ → ℕ → Counter
 counter greatest initial = record { greatest = greatest; initial = initial }
 
 -- The counters that are set stand in the order of their updates.
-abbrev edge : ℕ → ℕ → ℕ → List Atom → List Update → List ℕ → List ClockUpdate → Edge
+abbrev pub edge : ℕ → ℕ → ℕ → List Atom → List Update → List ℕ → List ClockUpdate → Edge
 edge source target label when set order reset = record {
   source = source;
   target = target;
@@ -60,7 +60,7 @@ edge source target label when set order reset = record {
 }
 
 -- A model of so many locations and clocks, with these counters, invariants and edges.
-abbrev model : ℕ → ℕ → ℕ → ℕ → List Counter → List Invariant → List Edge → Model
+abbrev pub model : ℕ → ℕ → ℕ → ℕ → List Counter → List Invariant → List Edge → Model
 model locations initial target clocks counters invariants edges = record {
   locations = locations;
   initial = initial;

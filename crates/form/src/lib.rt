@@ -54,7 +54,8 @@ fn atom_formed(a: Atom, clocks: u8, vars: u8) -> bool
     }
 }
 
-fn is_blank(a: Atom) -> bool
+// Whether a slot holds no atom.
+pub fn is_blank(a: Atom) -> bool
     ensures { λ r. ⌜ r ≡ isBlank a ⌝ }
 {
     match a {

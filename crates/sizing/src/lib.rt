@@ -50,7 +50,8 @@ fn told(number: u8, variables: usize, clauses: usize, words: usize) -> SizeAnswe
     }
 }
 
-fn emitted(e: Emission) -> SizeAnswer
+// What emission answers, in the numbers of the size program.
+pub fn emitted(e: Emission) -> SizeAnswer
     ensures { λ r. ⌜ sizeTold r ≡ emittedSizes (emitTold e) ⌝ }
 {
     let number = e.number();

@@ -5,8 +5,8 @@
  * - each pointer is aligned for its elements and leads to as many as the number says, which may be read, or written where it is lent;
  * - a buffer that a call writes to (a pointer without `const`) overlaps nothing else that the call is given;
  * - nothing else writes to any of them while the call lasts.
- * Every call but the last takes the bytes of a model text and reads it; the last reads what a solver prints. Whatever bytes and numbers a
- * call is given, it returns. It keeps nothing from one call to the next, so that several threads may call, and takes no memory but its stack.
+ * Every call but one takes the bytes of a model text, or of two, and reads them; one reads what a solver prints. Whatever bytes and numbers
+ * a call is given, it returns. It keeps nothing from one call to the next, so that several threads may call, and takes no memory but its stack.
  *
  * What each call answers, and what every lent buffer holds afterwards, is proved: crates/wirdoku/src/lib.rt states it, in the words of
  * docs/NOTATION.md. Not proved but tested: that this header declares what the archive has (scripts/c-calls), that a stack of 1 MiB
@@ -26,7 +26,7 @@ extern "C" {
 #endif
 
 /* Rises by 1 with every change of what stands in this file or of what a call answers; CHANGELOG.md says what changed. */
-#define WIRDOKU_VERSION 6
+#define WIRDOKU_VERSION 7
 
 /* Refusals, as docs/REFUSALS.md has them. No call of this header answers 20: a text that is read gives a well-formed record. */
 enum wirdoku_refusal {
@@ -56,12 +56,16 @@ enum wirdoku_refusal {
     WIRDOKU_FILE_TOO_SHORT = 32,         /* the byte buffer is shorter than the file; the number of bytes needed is returned too */
     WIRDOKU_OUT_OF_FORM_OR_PLACE = 33,   /* a line is of none of the forms or out of place; also a bare `c`, a CR outside a comment, or no LF */
     WIRDOKU_ABOVE_OR_NAMED_BEFORE = 34,  /* a literal's variable lies above the buffer's length or was named before */
-    WIRDOKU_OUTPUT_INCOMPLETE = 35       /* the closing 0 comes with a variable unnamed, or the text ends without it or without an `s` line */
+    WIRDOKU_OUTPUT_INCOMPLETE = 35,      /* the closing 0 comes with a variable unnamed, or the text ends without it or without an `s` line */
+    WIRDOKU_TOO_LARGE_TOGETHER = 38      /* the composed model has more locations, clocks, counters, edges or atoms than a model may have */
 };
 
 /* What a solver's output says, by the exit statuses of solvers. */
 #define WIRDOKU_SATISFIABLE 10
 #define WIRDOKU_UNSATISFIABLE 20
+
+/* The step byte of a part that stands still (wirdoku_pair_parts). No step byte of a model is as great. */
+#define WIRDOKU_STAYS 255
 
 /* Limits of a model text, of a model, and of what is asked about it. */
 #define WIRDOKU_MAX_TEXT 8192           /* bytes of a text */
@@ -136,6 +140,22 @@ struct wirdoku_output {
     uint8_t outcome;
 };
 
+/* Two texts read and composed. `text`: 1 or 2, the text that is refused with 1 to 8, else 0; `line`: its line for 2 to 8, else 0. */
+struct wirdoku_pair {
+    uint8_t number;
+    uint8_t text;
+    size_t line;
+};
+
+/* What a step byte of a composed model is for each part: a step byte of the first model and one of the second, each with its own ceiling, or
+ * WIRDOKU_STAYS for a part that stands still. */
+struct wirdoku_part_steps {
+    uint8_t number;
+    size_t line;
+    uint8_t first;
+    uint8_t second;
+};
+
 /* Reads the text: 1 to 8. */
 struct wirdoku_answer wirdoku_read(const uint8_t *text, size_t text_len);
 
@@ -177,6 +197,53 @@ struct wirdoku_answer wirdoku_run_to_assignment(const uint8_t *text, size_t text
  * Every line ends with LF. The buffer has a byte for each variable, so that its length, which may be any, is the greatest variable. If the
  * outcome is WIRDOKU_SATISFIABLE, every byte is written: 1 for a bare literal, 0 for one with a minus; else the buffer holds what it held. */
 struct wirdoku_output wirdoku_output_to_assignment(const uint8_t *output, size_t output_len, uint8_t *assignment, size_t assignment_len);
+
+/* Two models as one (docs/MEANING.md). The calls below read two texts and compose their models, the clocks and counters of the second after
+ * those of the first; location (i, j) is i times the second's locations plus j. Each answers as the call on one text does for the composed
+ * model: first the refusal of the first text (1 to 8), then that of the second (1 to 8), then 38, with place or line 0, then the call's own.
+ * Which text a number 1 to 8 is about is told by wirdoku_pair_read. Both texts may be the same one. */
+
+/* Reads both texts and composes them: 1 to 8, 38. */
+struct wirdoku_pair wirdoku_pair_read(const uint8_t *first, size_t first_len, const uint8_t *second, size_t second_len);
+
+/* What the composed model declares: 1 to 8, 38. */
+struct wirdoku_shape wirdoku_pair_shape(const uint8_t *first, size_t first_len, const uint8_t *second, size_t second_len);
+
+/* The totals of its list for a bound: 1 to 8, 38, 21. */
+struct wirdoku_sizes wirdoku_pair_counts(const uint8_t *first, size_t first_len, const uint8_t *second, size_t second_len, size_t bound);
+
+/* Writes its list for a bound from the start of `out`: 1 to 8, 38, 21, 22. */
+struct wirdoku_sizes wirdoku_pair_emit(const uint8_t *first, size_t first_len, const uint8_t *second, size_t second_len, size_t bound,
+                                       int32_t *out, size_t out_len);
+
+/* Writes its list for a bound as a DIMACS file from the start of `out`: 1 to 8, 38, 21, 32. */
+struct wirdoku_file wirdoku_pair_dimacs(const uint8_t *first, size_t first_len, const uint8_t *second, size_t second_len, size_t bound,
+                                        uint8_t *out, size_t out_len);
+
+/* Its initial state, whether or not its invariant holds: 1 to 8, 38, and then a state of zeros. */
+struct wirdoku_state_answer wirdoku_pair_initial(const uint8_t *first, size_t first_len, const uint8_t *second, size_t second_len);
+
+/* One step byte from a state of it: 1 to 8, 38, 10, 27, 28, and then the given state; else the new one. */
+struct wirdoku_state_answer wirdoku_pair_step(const uint8_t *first, size_t first_len, const uint8_t *second, size_t second_len,
+                                              struct wirdoku_state state, uint8_t byte);
+
+/* Walks a run of it: 1 to 8, 38, 21, 29, 27, 28, 30. */
+struct wirdoku_answer wirdoku_pair_walk(const uint8_t *first, size_t first_len, const uint8_t *second, size_t second_len,
+                                        const uint8_t *run, size_t run_len);
+
+/* Writes the run of an assignment from the start of `run`: 1 to 8, 38, 21, 23, 24, 25, 26. */
+struct wirdoku_answer wirdoku_pair_assignment_to_run(const uint8_t *first, size_t first_len, const uint8_t *second, size_t second_len,
+                                                     size_t bound, const uint8_t *assignment, size_t assignment_len,
+                                                     uint8_t *run, size_t run_len);
+
+/* Writes the assignment of a run from the start of `assignment`: 1 to 8, 38, 21, 29, 27, 28, 30, 31. */
+struct wirdoku_answer wirdoku_pair_run_to_assignment(const uint8_t *first, size_t first_len, const uint8_t *second, size_t second_len,
+                                                     const uint8_t *run, size_t run_len, uint8_t *assignment, size_t assignment_len);
+
+/* What a step byte of the composed model is for each part: 1 to 8, 38, 27 for a byte of H or more, and then 0 and 0. A delay is the smaller of
+ * itself and the part's own ceiling, for each. An edge of one model alone is that edge's step byte in its own model, and WIRDOKU_STAYS for the
+ * other; an edge of both is each one's own. */
+struct wirdoku_part_steps wirdoku_pair_parts(const uint8_t *first, size_t first_len, const uint8_t *second, size_t second_len, uint8_t byte);
 
 #ifdef __cplusplus
 }

@@ -28,6 +28,8 @@ ghost use Rattle.output.specs.OutputCall.{outputReport, outputLeft};
 ghost use Rattle.sizing.specs.SizeCall.{refusedSizes, textSizes, textLeft, sizeReport, sizeLeft, sizeTold};
 ghost use Rattle.wirdoku.specs.TextCall.{answerTold, textReport, countedSizes, shapeOf, refusedShape, fileReply, refusedFile, stateAnswer, zeroState, stepAnswer, outputIn};
 
+mod pairs;
+
 // The number of the refusal, or 0, and its place.
 #[repr(C)]
 pub struct Answer {
@@ -85,13 +87,13 @@ pub extern "C" fn wirdoku_read(text: &[u8]) -> Answer
     told(outcome.number(), outcome.line())
 }
 
-fn told(number: u8, place: usize) -> Answer
+pub(crate) fn told(number: u8, place: usize) -> Answer
     ensures { λ r. ⌜ r ≡ record { number = number; place = place } ⌝ }
 {
     Answer { number, place }
 }
 
-fn shape_of(m: Model) -> Shape
+pub(crate) fn shape_of(m: Model) -> Shape
     ensures { λ r. ⌜ r ≡ shapeOf m ⌝ }
 {
     let z = m.totals();
@@ -110,7 +112,7 @@ fn shape_of(m: Model) -> Shape
     }
 }
 
-fn refused_shape(number: u8, line: usize) -> Shape
+pub(crate) fn refused_shape(number: u8, line: usize) -> Shape
     ensures { λ r. ⌜ r ≡ refusedShape number line ⌝ }
 {
     Shape {
@@ -143,7 +145,7 @@ pub extern "C" fn wirdoku_shape(text: &[u8]) -> Shape
     shape_of(model)
 }
 
-fn size_answer(
+pub(crate) fn size_answer(
     number: u8,
     line: usize,
     variables: usize,
@@ -161,7 +163,7 @@ fn size_answer(
     }
 }
 
-fn counted(c: CountsAnswer) -> SizeAnswer
+pub(crate) fn counted(c: CountsAnswer) -> SizeAnswer
     ensures { λ r. ⌜ sizeTold r ≡ countedSizes (listTold c) ⌝ }
 {
     let number = c.number();
@@ -200,7 +202,7 @@ pub extern "C" fn wirdoku_emit(text: &[u8], bound: usize, out: &mut [i32]) -> Si
     text_sizes(text, bound, out)
 }
 
-fn file_reply(number: u8, line: usize, bytes: usize) -> FileReply
+pub(crate) fn file_reply(number: u8, line: usize, bytes: usize) -> FileReply
     ensures { λ r. ⌜ r ≡ record { number = number; line = line; bytes = bytes } ⌝ }
 {
     FileReply {
@@ -236,7 +238,7 @@ pub extern "C" fn wirdoku_size(input: &[u8], out: &mut [i32]) -> SizeAnswer
     sizes_of(input, out)
 }
 
-fn state_answer(number: u8, line: usize, state: State) -> StateAnswer
+pub(crate) fn state_answer(number: u8, line: usize, state: State) -> StateAnswer
     ensures { λ r. ⌜ r ≡ stateAnswer number line state ⌝ }
 {
     StateAnswer {
@@ -246,7 +248,7 @@ fn state_answer(number: u8, line: usize, state: State) -> StateAnswer
     }
 }
 
-fn zero_state() -> State
+pub(crate) fn zero_state() -> State
     ensures { λ r. ⌜ r ≡ zeroState ⌝ }
 {
     State {

@@ -5,6 +5,7 @@ pub mod cases;
 mod lines;
 pub mod models;
 pub mod outputs;
+pub mod pairs;
 pub mod records;
 pub mod rng;
 pub mod runs;

@@ -53,19 +53,41 @@ pub fn model(rng: &mut Rng, size: Size) -> Model {
     model.target = rng.below(usize::from(model.locations)) as u8;
     model.clocks = rng.between(0, limits.clocks);
     model.counters = rng.between(0, limits.counters);
+    fill_states(rng, &mut model, &limits);
+    model.edges = rng.between(0, limits.edges);
+    fill_edges(rng, &mut model, &limits);
+    model
+}
+
+/// A model that declares as much as another, with at most two atoms in an invariant
+/// or guard.
+pub fn declaring(rng: &mut Rng, declared: &Model) -> Model {
+    let limits = Limits { atoms: 2, ..Size::Medium.limits() };
+    let mut model = declared.clone();
+    model.init = rng.below(usize::from(model.locations)) as u8;
+    model.target = rng.below(usize::from(model.locations)) as u8;
+    fill_states(rng, &mut model, &limits);
+    fill_edges(rng, &mut model, &limits);
+    model
+}
+
+/// The declared counters and the invariants of the declared locations.
+fn fill_states(rng: &mut Rng, model: &mut Model, limits: &Limits) {
     for index in 0..usize::from(model.counters) {
         let greatest = rng.between(0, limits.greatest);
         model.counter[index] = Counter { greatest, initial: rng.between(0, greatest) };
     }
     for index in 0..usize::from(model.locations) {
         let initial = index == usize::from(model.init);
-        model.invariant[index] = invariant(rng, &model, &limits, initial);
+        model.invariant[index] = invariant(rng, model, limits, initial);
     }
-    model.edges = rng.between(0, limits.edges);
+}
+
+/// The declared edges.
+fn fill_edges(rng: &mut Rng, model: &mut Model, limits: &Limits) {
     for index in 0..usize::from(model.edges) {
-        model.edge[index] = edge(rng, &model, &limits);
+        model.edge[index] = edge(rng, model, limits);
     }
-    model
 }
 
 /// A size, most often a small one.
@@ -311,6 +333,36 @@ pub fn saving() -> Model {
     model.clocks = 2;
     model.edge[0].guard[0] = Atom::clock(0, Relation::GreaterEqual, 1);
     model.edge[0].clock_updates[..2].copy_from_slice(&[ClockUpdate::Reset, ClockUpdate::Copy(0)]);
+    model
+}
+
+/// Logger L of the worked product: it raises its counter, and then shares label 3.
+pub fn model_l() -> Model {
+    let mut model = model_a();
+    (model.clocks, model.counters, model.edges) = (1, 1, 2);
+    model.counter[0] = Counter { greatest: 2, initial: 0 };
+    model.invariant[0][0] = Atom::clock(0, Relation::LessEqual, 1);
+    model.edge[0].target = 0;
+    model.edge[0].updates[0] = Update::Sum { source: 0, offset: 1 };
+    model.edge[0].clock_updates[0] = ClockUpdate::Reset;
+    model.edge[1] = Edge { target: 1, label: 3, ..Edge::BLANK };
+    model.edge[1].guard[..2]
+        .copy_from_slice(&[Atom::clock(0, Relation::GreaterEqual, 1), Atom::counter(0, Relation::GreaterEqual, 1)]);
+    model
+}
+
+/// Watchdog W of the worked product: it shares label 3, and goes back alone.
+pub fn model_w() -> Model {
+    let mut model = model_a();
+    (model.clocks, model.counters, model.edges) = (1, 1, 2);
+    model.counter[0] = Counter { greatest: 1, initial: 1 };
+    model.invariant[1][0] = Atom::clock(0, Relation::LessEqual, 4);
+    model.edge[0].label = 3;
+    model.edge[0].guard[0] = Atom::clock(0, Relation::GreaterEqual, 2);
+    model.edge[0].updates[0] = Update::Sum { source: 0, offset: -1 };
+    model.edge[0].clock_updates[0] = ClockUpdate::Reset;
+    model.edge[1] = Edge { source: 1, label: 5, ..Edge::BLANK };
+    model.edge[1].clock_updates[0] = ClockUpdate::Copy(0);
     model
 }
 

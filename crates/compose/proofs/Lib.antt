@@ -1,0 +1,10 @@
+pub mod Members
+pub mod MoveLaws
+pub mod MoveCounts
+pub mod PlacedLaws
+pub mod Adding
+pub mod Parts
+pub mod Sizes
+pub mod ComposedLaws
+pub mod Answers
+pub mod JoinedLaws

@@ -1,0 +1,5 @@
+pub mod Joined
+pub mod Moves
+pub mod Composed
+pub mod ComposeCall
+pub mod Parts

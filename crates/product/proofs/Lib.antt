@@ -1,0 +1,11 @@
+pub mod JoinedForm
+pub mod ComposedForm
+pub mod ComposedCeiling
+pub mod PartLaws
+pub mod PairSteps
+pub mod Standing
+pub mod JointSteps
+pub mod JointRuns
+pub mod Limits
+pub mod Composables
+pub mod Product
