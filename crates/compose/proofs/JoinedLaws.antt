@@ -261,23 +261,28 @@ formed-as e h = subst (λ (x : Edge). T (edgeFormed 16 4 4 x)) (sym e) h
 
 -- ---- the edges and the invariants of a well-formed record
 module _ (m : Model) (ok : T (wellFormed m)) where
-  pub used-edge : (e : ℕ) → e < m .used → T (edgeFormed 16 4 4 (edgeAt m e))
-  unfolding wellFormed edgesFormed
-  used-edge e l =
+  pub invariant-formed-at : (l : ℕ) → l < m .locations → T (atomsFormed (m .clocks) 0 (invariantAt m l))
+  unfolding wellFormed invariantsFormed
+  invariant-formed-at l p =
       let g = and₄ (headFormed m) (countersFormed (m .vars) (m .counters)) (invariantsFormed m) (edgesFormed m) ok in
+      yes l (m .locations) (atomsFormed (m .clocks) 0 (invariantAt m l)) (atomsFormed 0 0 (invariantAt m l))
+      (all-below (invariantSlotFormed m) 16 .0 (g .2) l (omega (arith, formed m ok .locations-le))) p
+
+  pub edge-formed-at : (e : ℕ) → e < m .used → T (edgeFormed (m .locations) (m .clocks) (m .vars) (edgeAt m e))
+  unfolding wellFormed edgesFormed
+  edge-formed-at e l =
+      let g = and₄ (headFormed m) (countersFormed (m .vars) (m .counters)) (invariantsFormed m) (edgesFormed m) ok in
+      yes e (m .used) (edgeFormed (m .locations) (m .clocks) (m .vars) (edgeAt m e)) (isBlankEdge (edgeAt m e))
+      (all-below (edgeSlotFormed m) 32 .0 (g .3) e (omega (arith, formed m ok .used-le))) l
+
+  -- and where more is declared
+  pub used-edge : (e : ℕ) → e < m .used → T (edgeFormed 16 4 4 (edgeAt m e))
+  used-edge e l =
       let w = formed m ok in
-      edge-more (m .locations) (m .clocks) (m .vars) (edgeAt m e) (w .locations-le) (w .clocks-le) (w .vars-le)
-      (yes e (m .used) (edgeFormed (m .locations) (m .clocks) (m .vars) (edgeAt m e)) (isBlankEdge (edgeAt m e))
-      (all-below (edgeSlotFormed m) 32 .0 (g .3) e (omega (arith, w .used-le))) l)
+      edge-more (m .locations) (m .clocks) (m .vars) (edgeAt m e) (w .locations-le) (w .clocks-le) (w .vars-le) (edge-formed-at e l)
 
   pub used-invariant : (l : ℕ) → l < m .locations → T (eachFormed 4 4 (invariantAt m l))
-  unfolding wellFormed invariantsFormed
-  used-invariant l p =
-      let g = and₄ (headFormed m) (countersFormed (m .vars) (m .counters)) (invariantsFormed m) (edgesFormed m) ok in
-      let w = formed m ok in
-      each-more (m .clocks) 0 (invariantAt m l) (w .clocks-le) (omega arith)
-      (yes l (m .locations) (atomsFormed (m .clocks) 0 (invariantAt m l)) (atomsFormed 0 0 (invariantAt m l))
-      (all-below (invariantSlotFormed m) 16 .0 (g .2) l (omega (arith, w .locations-le))) p)
+  used-invariant l p = each-more (m .clocks) 0 (invariantAt m l) (formed m ok .clocks-le) (omega arith) (invariant-formed-at l p)
 
 -- ---- a location of the two as one byte
 pub row-most : (i locations : ℕ) → i < 16 → locations ≤ 16 → i * locations ≤ 240

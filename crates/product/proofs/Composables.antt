@@ -21,13 +21,14 @@ use Rattle.compose.specs.Joined.{shiftedUpdate, shiftedReset, atomCount, standi
 use Rattle.compose.specs.Moves.{labelAt, moves, edgeOf, MoveOf}
 use Rattle.compose.specs.Composed.{fits, composed}
 use Rattle.product.proofs.JoinedForm.{sets-formed, joined-order, update-first, update-second, reset-first, reset-second, earlier-first, earlier-second}
-use Rattle.product.proofs.JoinedForm.{filled-atoms, count-le, blank-above}
-use Rattle.product.proofs.ComposedForm.{composed-used, Fits, fits-of, invariant-at, edge-of-move, counter-first, counter-second, invariant-formed-at}
-use Rattle.product.proofs.ComposedForm.{edge-formed-at, move-formed, composed-formed}
+use Rattle.product.proofs.JoinedForm.{filled-atoms, count-le, blank-above, standing-count}
+use Rattle.product.proofs.ComposedForm.{composed-used, Fits, fits-of, invariant-at, edge-of-move, counter-first, counter-second}
+use Rattle.product.proofs.ComposedForm.{move-formed, composed-formed}
+use Rattle.compose.proofs.JoinedLaws.{invariant-formed-at, edge-formed-at}
 use Rattle.product.proofs.ComposedCeiling.{composed-ceiling}
 use Rattle.product.proofs.PartLaws.{PartAtoms, EdgeIn}
 use Rattle.product.proofs.PairSteps.{Composable, Joinable}
-use Rattle.product.proofs.Standing.{standing-count, standing-atoms, standing-ok}
+use Rattle.product.proofs.Standing.{standing-atoms, standing-ok}
 use Rattle.product.proofs.JointSteps.{JoinedEdges}
 
 -- ---- atoms of a part

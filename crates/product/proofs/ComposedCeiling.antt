@@ -26,9 +26,9 @@ use Rattle.compose.specs.Moves.{labelAt, bears, shared, paired, moves, moveAt, 
 use Rattle.compose.specs.Composed.{fits, composed}
 use Rattle.compose.proofs.MoveLaws.{move-of, first-move, second-move, pair-move}
 use Rattle.product.proofs.JoinedForm.{joined-guard, atom-first, atom-second, joined-each, filled-atoms, count-le, blank-above}
-use Rattle.product.proofs.JoinedForm.{blank-atom-at, blank-count, standing-guard, pair-lt}
+use Rattle.product.proofs.JoinedForm.{blank-atom-at, standing-guard, standing-count, pair-lt}
 use Rattle.product.proofs.ComposedForm.{Fits, fits-of, pair-of, invariant-at, invariant-rest, edge-of-move, edge-rest}
-use Rattle.product.proofs.ComposedForm.{invariant-formed-at, edge-formed-at}
+use Rattle.compose.proofs.JoinedLaws.{invariant-formed-at, edge-formed-at}
 
 -- ---- the greatest constant of joined atoms
 pub constants-most : (atoms : List AtomSlot) (t : ℕ) → ((k : ℕ) → k < 4 → clockConstant (atomAt atoms k) ≤ t) → greatestConstant atoms ≤ t
@@ -73,10 +73,6 @@ module _ (c v : ℕ) (p q : List AtomSlot) where
       omega (arith, ap clockConstant (atom-second c v p q k here), shifted-constant c v (atomAt q k), constant-at both (atomCount p + k) here))
       (λ m. omega (arith, ap clockConstant (blank-above q f k m l)))
       (lt-or-le k (atomCount q)))
-
-  pub joined-constant : T (filledFromFirst p) → T (filledFromFirst q) → atomCount p + atomCount q ≤ 4
-      → greatestConstant both ≡ max (greatestConstant p) (greatestConstant q)
-  joined-constant f g room = omega (arith, joined-constant-le, first-constant-le f, second-constant-le g room)
 
 -- ---- the ceiling
 module _ (m : Model) where
@@ -139,9 +135,6 @@ module _ (a b : Model) where
 -- ---- the ceiling of the composed model
 standing-constant : (l : ℕ) → greatestConstant (standing l .guard) ≡ 0
 standing-constant l = ap greatestConstant (standing-guard l) ∙ no-atom-constant (replicate 4 blankAtom) blank-atom-at
-
-standing-count : (l : ℕ) → atomCount (standing l .guard) ≡ 0
-standing-count l = ap atomCount (standing-guard l) ∙ blank-count
 
 module _ (a b : Model) (a-ok : T (wellFormed a)) (b-ok : T (wellFormed b)) (fit : T (fits a b)) where
   abbrev few : Fits a b

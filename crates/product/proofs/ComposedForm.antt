@@ -26,6 +26,7 @@ use Rattle.compose.specs.declared.moves.Move.the-variants.{FirstAlone, SecondAl
 use Rattle.compose.specs.Joined.{joinedLocation, atomCount, joinedAtoms, standing}
 use Rattle.compose.specs.Moves.{labelAt, paired, moves, moveAt, edgeOf, MoveOf}
 use Rattle.compose.specs.Composed.{invariantsFit, guardFits, guardsFit, fits, joinedCounters, joinedInvariant, joinedInvariants, composedEdge, composed}
+use Rattle.compose.proofs.JoinedLaws.{invariant-formed-at, edge-formed-at}
 use Rattle.compose.proofs.ComposedLaws.{held}
 use Rattle.compose.proofs.MoveLaws.{move-of}
 use Rattle.compose.proofs.PlacedLaws.{placed-blank}
@@ -53,10 +54,6 @@ module _ (a b : Model) where
   pub composed-vars : composed a b .vars ≡ a .vars + b .vars
   unfolding composed
   composed-vars = refl
-
-  pub composed-counters : composed a b .counters ≡ joinedCounters a b
-  unfolding composed
-  composed-counters = refl
 
   pub composed-used : composed a b .used ≡ length (moves a b)
   unfolding composed
@@ -149,20 +146,6 @@ module _ (m : Model) (ok : T (wellFormed m)) where
       let g = and₄ (headFormed m) (countersFormed (m .vars) (m .counters)) (invariantsFormed m) (edgesFormed m) ok in
       yes i (m .vars) (counterFormed (counterAt m i)) (isBlankCounter (counterAt m i))
       (all-below (λ k. counterSlotFormed (m .vars) (counterAt m k) k) 4 .0 (g .1) i (omega (arith, formed m ok .vars-le))) l
-
-  pub invariant-formed-at : (l : ℕ) → l < m .locations → T (atomsFormed (m .clocks) 0 (invariantAt m l))
-  unfolding wellFormed invariantsFormed
-  invariant-formed-at l p =
-      let g = and₄ (headFormed m) (countersFormed (m .vars) (m .counters)) (invariantsFormed m) (edgesFormed m) ok in
-      yes l (m .locations) (atomsFormed (m .clocks) 0 (invariantAt m l)) (atomsFormed 0 0 (invariantAt m l))
-      (all-below (invariantSlotFormed m) 16 .0 (g .2) l (omega (arith, formed m ok .locations-le))) p
-
-  pub edge-formed-at : (e : ℕ) → e < m .used → T (edgeFormed (m .locations) (m .clocks) (m .vars) (edgeAt m e))
-  unfolding wellFormed edgesFormed
-  edge-formed-at e l =
-      let g = and₄ (headFormed m) (countersFormed (m .vars) (m .counters)) (invariantsFormed m) (edgesFormed m) ok in
-      yes e (m .used) (edgeFormed (m .locations) (m .clocks) (m .vars) (edgeAt m e)) (isBlankEdge (edgeAt m e))
-      (all-below (edgeSlotFormed m) 32 .0 (g .3) e (omega (arith, formed m ok .used-le))) l
 
 -- ---- two models that fit
 pub record Fits (a b : Model) : Type 0 where

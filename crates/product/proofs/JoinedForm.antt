@@ -385,13 +385,6 @@ module _ (atoms : List AtomSlot) (filled : T (filledFromFirst atoms)) where
   pub blank-above : (k : ℕ) → atomCount atoms ≤ k → k < 4 → atomAt atoms k ≡ Blank
   blank-above k p l = blank-is (atomAt atoms k) (T-true (isBlank (atomAt atoms k)) .1 (counted .2 k p l))
 
-  -- a slot is blank exactly if it is not below the number of atoms
-  pub blank-from : (k : ℕ) → k < 4 → isBlank (atomAt atoms k) ≡ not (ltb k (atomCount atoms))
-  blank-from k l = ⊎-elim
-      (λ p. atom-below k p ∙ sym (ap not (lt-ltb k (atomCount atoms) p)))
-      (λ p. counted .2 k p l ∙ sym (ap not (le-ltb k (atomCount atoms) p)))
-      (lt-or-le k (atomCount atoms))
-
 -- ---- joined atoms are formed
 and₃-of : (a b c : Bool) → T a → T b → T c → T (a && b && c)
 and₃-of a b c p q r = and-T (a && b) c .1 (and-T a b .1 (p, q), r)
@@ -684,6 +677,9 @@ module _ (l : ℕ) where
   pub standing-guard : standing l .guard ≡ replicate 4 blankAtom
   unfolding standing
   standing-guard = refl
+
+  pub standing-count : atomCount (standing l .guard) ≡ 0
+  standing-count = ap atomCount standing-guard ∙ blank-count
 
   pub standing-keeps : (i : ℕ) → i < 4 → updateAt (standing l) i ≡ Keep
   unfolding standing

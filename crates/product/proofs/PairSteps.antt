@@ -1,5 +1,5 @@
 -- Two edges joined into one, and delays: the composed model steps exactly as its two parts do.
-use mathlib.Core.Path.{_≡_, refl, sym, ap, subst, _∙_}
+use mathlib.Core.Path.{_≡_, sym, ap, subst, _∙_}
 use mathlib.Core.Logic.{_↔_, _⊎_, inl, inr, ⊎-elim}
 use mathlib.Core.Bool.{cond}
 use mathlib.Core.List.{List}
@@ -23,7 +23,7 @@ use Rattle.compose.specs.Joined.{joinedLocation, atomCount, joinedAtoms, joined
 use Rattle.compose.specs.Composed.{composed}
 use Rattle.product.specs.Joint.{partAt, Parts, StepsTogether}
 use Rattle.model.proofs.CutLaws.{cut-delayed}
-use Rattle.product.proofs.JoinedForm.{joined-guard}
+use Rattle.product.proofs.JoinedForm.{joined-source, joined-target, joined-guard}
 use Rattle.product.proofs.ComposedForm.{composed-clocks, composed-vars}
 use Rattle.product.proofs.PartLaws.{Sees, part-location, part-sees, sees-part, part-is, PartAtoms, AllHold, joined-hold, EdgeIn, update-seen, reset-seen}
 
@@ -262,14 +262,6 @@ module _ (a b : Model) (ok : Composable a b) (d : ℕ) (s x y : State) (q : Shap
   }
 
 -- ---- two edges joined
-joined-source : (k v n label : ℕ) (e f : Edge) → joinedEdge k v n label e f .source ≡ joinedLocation n (e .source) (f .source)
-unfolding joinedEdge
-joined-source k v n label e f = refl
-
-joined-target : (k v n label : ℕ) (e f : Edge) → joinedEdge k v n label e f .target ≡ joinedLocation n (e .target) (f .target)
-unfolding joinedEdge
-joined-target k v n label e f = refl
-
 -- one part of a joint edge
 module _ (m c : Model) (k v : ℕ) (e j : Edge) (we : WellFormedEdge m e) (f : EdgeIn m k v e j) (s x t z : State) (p : Sees m k v s x)
     (counters-in : (i : ℕ) → i < m .vars → v + i < c .vars) (clocks-in : (i : ℕ) → i < m .clocks → k + i < c .clocks)

@@ -1,44 +1,28 @@
 -- Standing still as an edge: it is formed, and it is allowed exactly in its location, whose invariant holds already, and changes nothing.
-use mathlib.Core.Path.{_≡_, refl, sym, ap, subst, _∙_}
+use mathlib.Core.Path.{_≡_, sym, ap, subst, _∙_}
 use mathlib.Core.Logic.{_↔_}
-use mathlib.Core.Bool.{cond}
+use mathlib.Core.List.{List}
 use mathlib.Core.Option.{some}
 use Prim.Native.Nat.{ℕ, _<_}
 use native.Mathlib.Omega.{arith}
 use lib.Dec.{T}
-use lib.ListN.{getD-replicate}
 use Rattle.model.specs.declared.AtomSlot.{AtomSlot}
 use Rattle.model.specs.declared.Atom.the-variants.{Blank}
 use Rattle.model.specs.declared.Update.{Update}
 use Rattle.model.specs.declared.ClockUpdate.{ClockUpdate}
 use Rattle.model.specs.declared.Model.{Model}
 use Rattle.model.specs.declared.State.{State}
-use Rattle.model.specs.Record.{blankAtom, atomAt, updateAt, resetAt, counterAt}
+use Rattle.model.specs.Record.{atomAt, updateAt, resetAt, counterAt}
 use Rattle.model.specs.Automaton.{value, loc, counter, clock, invariantHolds, newCounter, newClock, readBy, edgeStep}
-use Rattle.model.specs.Form.{isBlank}
-use Rattle.model.proofs.IndexedLaws.{some-inj, sum-same, sum-const}
+use Rattle.model.proofs.IndexedLaws.{some-inj}
 use Rattle.model.proofs.FormLaws.{WellFormedEdge, WellFormed, ceiling-ge}
 use Rattle.model.proofs.StepLaws.{Shaped, state-ext, EdgeTo, edge-iff}
-use Rattle.compose.specs.Joined.{atomCount, standing}
-use Rattle.product.proofs.JoinedForm.{standing-keeps, standing-stays, standing-listed}
+use Rattle.compose.specs.Joined.{standing}
+use Rattle.product.proofs.JoinedForm.{blank-atom-at, standing-guard, standing-keeps, standing-stays, standing-listed, standing-ends}
 use Rattle.product.proofs.PartLaws.{PartAtoms}
 
-pub standing-source : (l : ℕ) → standing l .source ≡ l
-unfolding standing
-standing-source l = refl
-
-pub standing-target : (l : ℕ) → standing l .target ≡ l
-unfolding standing
-standing-target l = refl
-
 standing-atom : (l k : ℕ) → k < 4 → atomAt (standing l .guard) k ≡ Blank
-unfolding standing
-standing-atom l k p = ap (λ (u : AtomSlot). u .atom) (getD-replicate 4 k blankAtom blankAtom p)
-
-pub standing-count : (l : ℕ) → atomCount (standing l .guard) ≡ 0
-unfolding atomCount
-standing-count l =
-    sum-same (λ k. cond (isBlank (atomAt (standing l .guard) k)) 0 1) (λ _. 0) 4 (λ k p. rw (standing-atom l k p) refl) ∙ sum-const 4 0
+standing-atom l k p = ap (λ (atoms : List AtomSlot). atomAt atoms k) (standing-guard l) ∙ blank-atom-at k p
 
 module _ (m : Model) (ok : WellFormed m) (l : ℕ) where
   pub standing-atoms : PartAtoms m (standing l .guard)
@@ -50,8 +34,8 @@ module _ (m : Model) (ok : WellFormed m) (l : ℕ) where
 
   pub standing-ok : l < m .locations → WellFormedEdge m (standing l)
   standing-ok h = record {
-    source-ok = rw (standing-source l) h;
-    target-ok = rw (standing-target l) h;
+    source-ok = subst (λ (x : ℕ). x < m .locations) (sym (standing-ends l .0)) h;
+    target-ok = subst (λ (x : ℕ). x < m .locations) (sym (standing-ends l .1)) h;
     guard-ok = λ k p. rw (standing-atom l k p) tt;
     sets-ok = λ i p. rw (standing-keeps l i (omega (arith, ok .vars-le))) tt;
     sets-rest = λ i p q. standing-keeps l i q;
@@ -67,7 +51,7 @@ module _ (m : Model) (ok : WellFormed m) (l : ℕ) where
   pub standing-iff : l < m .locations → (s t : State) → Shaped m s → T (invariantHolds m s)
       → (edgeStep m (standing l) s ≡ some t) ↔ ((s .location ≡ l) × (s ≡ t))
   standing-iff h s t q i = (
-    λ e. let g = edge-iff m ok (standing l) (standing-ok h) s q t .0 e in (g .leaves ∙ standing-source l, stays g),
+    λ e. let g = edge-iff m ok (standing l) (standing-ok h) s q t .0 e in (g .leaves ∙ standing-ends l .0, stays g),
     λ g. edge-iff m ok (standing l) (standing-ok h) s q t .1 (subst (EdgeTo m (standing l) s) (g .1) (still (g .0))),
   )
     where
@@ -82,7 +66,7 @@ module _ (m : Model) (ok : WellFormed m) (l : ℕ) where
 
       stays : EdgeTo m (standing l) s t → s ≡ t
       stays g = state-ext m q (g .shape) (elim [
-        | loc ↦ λ p. g .leaves ∙ standing-source l ∙ sym (standing-target l) ∙ sym (g .lands)
+        | loc ↦ λ p. g .leaves ∙ standing-ends l .0 ∙ sym (standing-ends l .1) ∙ sym (g .lands)
         | counter i ↦ λ p. some-inj (sym (own t i p) ∙ g .sets i p)
         | clock i ↦ λ p. sym (kept i p) ∙ g .resets i p
       ])
@@ -90,10 +74,10 @@ module _ (m : Model) (ok : WellFormed m) (l : ℕ) where
       still : s .location ≡ l → EdgeTo m (standing l) s s
       still e = record {
         shape = q;
-        leaves = e ∙ sym (standing-source l);
+        leaves = e ∙ sym (standing-ends l .0);
         guard = λ k p. rw (standing-atom l k p) tt;
         sets = λ i p. own s i p;
         resets = λ i p. kept i p;
-        lands = e ∙ sym (standing-target l);
+        lands = e ∙ sym (standing-ends l .1);
         allowed = i;
       }
