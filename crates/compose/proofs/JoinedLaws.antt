@@ -166,45 +166,45 @@ pub resets-long : (e : Edge) (vs : List Val) → Is EdgeT.the-row e vs → lengt
 resets-long e vs g = sym (length-map (e .resets) _) ∙ g .1 .1 .1 .1 .1 .1 .1 .1 .0 .1 .0 .1
 
 -- ---- what is formed stays so where more is declared
-pub atom-more : (clocks vars : ℕ) (a : Atom) → clocks ≤ 4 → vars ≤ 4 → T (atomFormed clocks vars a) → T (atomFormed 4 4 a)
-atom-more clocks vars Blank p q h = tt
-atom-more clocks vars (OnClock x r c) p q h =
-    let g = and₃ (ltb x clocks) (leb c 30) (not (isNotEqual r)) h in
-    and-T (ltb x 4 && leb c 30) (not (isNotEqual r)) .1
-    (and-T (ltb x 4) (leb c 30) .1 (lt→ltb x 4 (omega (arith, ltb→lt x clocks (g .0))), g .1), g .2)
-atom-more clocks vars (OnCounter v r c) p q h =
-    let g = and-T (ltb v vars) (leb c 31) .0 h in
-    and-T (ltb v 4) (leb c 31) .1 (lt→ltb v 4 (omega (arith, ltb→lt v vars (g .0))), g .1)
+pub atom-wider : (c v c′ v′ : ℕ) → c ≤ c′ → v ≤ v′ → (x : Atom) → T (atomFormed c v x) → T (atomFormed c′ v′ x)
+atom-wider c v c′ v′ p q Blank h = tt
+atom-wider c v c′ v′ p q (OnClock x r k) h =
+    let g = and₃ (ltb x c) (leb k 30) (not (isNotEqual r)) h in
+    and-T (ltb x c′ && leb k 30) (not (isNotEqual r)) .1
+    (and-T (ltb x c′) (leb k 30) .1 (lt→ltb x c′ (omega (arith, ltb→lt x c (g .0))), g .1), g .2)
+atom-wider c v c′ v′ p q (OnCounter x r k) h =
+    let g = and-T (ltb x v) (leb k 31) .0 h in
+    and-T (ltb x v′) (leb k 31) .1 (lt→ltb x v′ (omega (arith, ltb→lt x v (g .0))), g .1)
 
-update-more : (vars : ℕ) (u : Update) → vars ≤ 4 → T (updateFormed vars u) → T (updateFormed 4 u)
-update-more vars Keep p h = tt
-update-more vars (Constant c) p h = h
-update-more vars (Sum w o) p h =
-    let g = and-T (ltb w vars) (leb (natAbs o) 31) .0 h in
-    and-T (ltb w 4) (leb (natAbs o) 31) .1 (lt→ltb w 4 (omega (arith, ltb→lt w vars (g .0))), g .1)
+pub update-wider : (v v′ : ℕ) → v ≤ v′ → (u : Update) → T (updateFormed v u) → T (updateFormed v′ u)
+update-wider v v′ p Keep h = tt
+update-wider v v′ p (Constant c) h = h
+update-wider v v′ p (Sum w z) h =
+    let g = and-T (ltb w v) (leb (natAbs z) 31) .0 h in
+    and-T (ltb w v′) (leb (natAbs z) 31) .1 (lt→ltb w v′ (omega (arith, ltb→lt w v (g .0))), g .1)
 
-reset-more : (clocks : ℕ) (u : ClockUpdate) → clocks ≤ 4 → T (clockUpdateFormed clocks u) → T (clockUpdateFormed 4 u)
-reset-more clocks Unchanged p h = tt
-reset-more clocks Reset p h = tt
-reset-more clocks (Copy w) p h = lt→ltb w 4 (omega (arith, ltb→lt w clocks h))
+pub reset-wider : (c c′ : ℕ) → c ≤ c′ → (u : ClockUpdate) → T (clockUpdateFormed c u) → T (clockUpdateFormed c′ u)
+reset-wider c c′ p Unchanged h = tt
+reset-wider c c′ p Reset h = tt
+reset-wider c c′ p (Copy w) h = lt→ltb w c′ (omega (arith, ltb→lt w c h))
 
 -- a slot past the declared ones is blank, which is formed
 update-slot-more : (vars : ℕ) (u : Update) (k : ℕ) → vars ≤ 4 → k < 4 → T (updateSlotFormed vars u k) → T (updateSlotFormed 4 u k)
 update-slot-more vars u k p l h = subst T (in-first 4 (λ _. updateFormed 4 u) (λ _. isKeep u) k l) (⊎-elim
-    (λ q. update-more vars u p (yes k vars (updateFormed vars u) (isKeep u) h q))
+    (λ q. update-wider vars 4 p u (yes k vars (updateFormed vars u) (isKeep u) h q))
     (λ q. subst (λ (x : Update). T (updateFormed 4 x)) (sym (keep-is u (no k vars (updateFormed vars u) (isKeep u) h q))) tt)
     (lt-or-le k vars))
 
 reset-slot-more : (clocks : ℕ) (u : ClockUpdate) (k : ℕ) → clocks ≤ 4 → k < 4 → T (resetSlotFormed clocks u k) → T (resetSlotFormed 4 u k)
 reset-slot-more clocks u k p l h = subst T (in-first 4 (λ _. clockUpdateFormed 4 u) (λ _. isUnchanged u) k l) (⊎-elim
-    (λ q. reset-more clocks u p (yes k clocks (clockUpdateFormed clocks u) (isUnchanged u) h q))
+    (λ q. reset-wider clocks 4 p u (yes k clocks (clockUpdateFormed clocks u) (isUnchanged u) h q))
     (λ q. subst (λ (x : ClockUpdate). T (clockUpdateFormed 4 x)) (sym (hold-is u (no k clocks (clockUpdateFormed clocks u) (isUnchanged u) h q))) tt)
     (lt-or-le k clocks))
 
 pub each-more : (clocks vars : ℕ) (atoms : List AtomSlot) → clocks ≤ 4 → vars ≤ 4 → T (atomsFormed clocks vars atoms) → T (eachFormed 4 4 atoms)
 unfolding eachFormed
 each-more clocks vars atoms p q h =
-    all-below (λ k. atomFormed 4 4 (atomAt atoms k)) 4 .1 (λ k l. atom-more clocks vars (atomAt atoms k) p q (atoms-at clocks vars atoms h k l))
+    all-below (λ k. atomFormed 4 4 (atomAt atoms k)) 4 .1 (λ k l. atom-wider clocks vars 4 4 p q (atomAt atoms k) (atoms-at clocks vars atoms h k l))
 
 pub atoms-more : (clocks vars : ℕ) (atoms : List AtomSlot) → clocks ≤ 4 → vars ≤ 4 → T (atomsFormed clocks vars atoms) → T (atomsFormed 4 4 atoms)
 unfolding atomsFormed

@@ -29,6 +29,7 @@ use Rattle.model.proofs.IndexedLaws.{sum-below, sum-same, sum-const, getD-list,
 use Rattle.model.proofs.OrderLaws.{Ordered, place-law, place-at, listed-is, listed-le, set-place}
 use Rattle.model.proofs.FormLaws.{WellFormedEdge, and₃, atoms-at, edge-parts, order-slot, keep-is, yes, no}
 use Rattle.model.proofs.BlankSlots.{and₇-of}
+use Rattle.compose.proofs.JoinedLaws.{atom-wider, update-wider, reset-wider}
 use Rattle.compose.specs.Joined.{shiftedUpdate, shiftedReset, shiftedAtom, atomCount, joinedAtom, joinedAtoms, joinedUpdate, joinedUpdates, joinedPlace}
 use Rattle.compose.specs.Joined.{joinedLocation, joinedOrder, joinedReset, joinedResets, standing, joinedEdge}
 
@@ -389,16 +390,6 @@ module _ (atoms : List AtomSlot) (filled : T (filledFromFirst atoms)) where
 and₃-of : (a b c : Bool) → T a → T b → T c → T (a && b && c)
 and₃-of a b c p q r = and-T (a && b) c .1 (and-T a b .1 (p, q), r)
 
--- where more is declared
-atom-wider : (c v c′ v′ : ℕ) → c ≤ c′ → v ≤ v′ → (x : Atom) → T (atomFormed c v x) → T (atomFormed c′ v′ x)
-atom-wider c v c′ v′ p q Blank h = tt
-atom-wider c v c′ v′ p q (OnClock x r k) h =
-    let g = and₃ (ltb x c) (leb k 30) (not (isNotEqual r)) h in
-    and₃-of (ltb x c′) (leb k 30) (not (isNotEqual r)) (lt→ltb x c′ (omega (arith, ltb→lt x c (g .0)))) (g .1) (g .2)
-atom-wider c v c′ v′ p q (OnCounter x r k) h =
-    let g = and-T (ltb x v) (leb k 31) .0 h in
-    and-T (ltb x v′) (leb k 31) .1 (lt→ltb x v′ (omega (arith, ltb→lt x v (g .0))), g .1)
-
 -- a shifted atom, where its clock or counter is declared after the shift
 shifted-atom-formed : (ca va c v c′ v′ : ℕ) → ((x : ℕ) → x < c → ca + x < c′) → ((x : ℕ) → x < v → va + x < v′)
     → (x : Atom) → T (atomFormed c v x) → T (atomFormed c′ v′ (shiftedAtom ca va x))
@@ -466,13 +457,6 @@ slot-of a b x y f g = ⊎-elim
     (λ l. subst T (sym (cond-F (ltb a b) x y (not-lt a b l))) (g l))
     (lt-or-le a b)
 
-update-wider : (v v′ : ℕ) → v ≤ v′ → (u : Update) → T (updateFormed v u) → T (updateFormed v′ u)
-update-wider v v′ p Keep h = tt
-update-wider v v′ p (Constant c) h = h
-update-wider v v′ p (Sum w z) h =
-    let g = and-T (ltb w v) (leb (natAbs z) 31) .0 h in
-    and-T (ltb w v′) (leb (natAbs z) 31) .1 (lt→ltb w v′ (omega (arith, ltb→lt w v (g .0))), g .1)
-
 shifted-update-formed : (va vb : ℕ) (u : Update) → T (updateFormed vb u) → T (updateFormed (va + vb) (shiftedUpdate va u))
 shifted-update-formed va vb Keep h = tt
 shifted-update-formed va vb (Constant c) h = h
@@ -484,11 +468,6 @@ pub shifted-keep : (v : ℕ) (u : Update) → isKeep (shiftedUpdate v u) ≡ isK
 shifted-keep v Keep = refl
 shifted-keep v (Constant c) = refl
 shifted-keep v (Sum w z) = refl
-
-reset-wider : (c c′ : ℕ) → c ≤ c′ → (u : ClockUpdate) → T (clockUpdateFormed c u) → T (clockUpdateFormed c′ u)
-reset-wider c c′ p Unchanged h = tt
-reset-wider c c′ p Reset h = tt
-reset-wider c c′ p (Copy w) h = lt→ltb w c′ (omega (arith, ltb→lt w c h))
 
 shifted-reset-formed : (ca cb : ℕ) (u : ClockUpdate) → T (clockUpdateFormed cb u) → T (clockUpdateFormed (ca + cb) (shiftedReset ca u))
 shifted-reset-formed ca cb Unchanged h = tt
