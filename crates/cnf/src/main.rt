@@ -1,5 +1,7 @@
 // The cnf program: a bound line and a model text from standard input, the DIMACS file to standard output; after a refusal two lines. Input
 // beyond the buffer changes nothing: a model text of more than 8,192 bytes is refused whatever it holds.
+#![tactic(auto)]
+
 use model::Model;
 
 fn line(key: &[u8], n: u64) {

@@ -1,4 +1,6 @@
 // Two models composed into one, and what a step of it is in each of them.
+#![tactic(auto)]
+
 ghost use Rattle.std.specs.Prelude.{◌≡◌, ℕ, ◌+◌, ◌*◌, ◌<◌, ◌≤◌, min, T, leb, length, replicate};
 ghost use Rattle.model.specs.Indexed.{all_below, list_below, maybe};
 ghost use Rattle.model.specs.Record.{blank_invariant, invariant_at};
@@ -18,7 +20,7 @@ mod joined;
 pub mod moves;
 
 // What became of two records.
-#[derive(Drop)]
+#[derive(Clone, Copy)]
 pub enum ComposeOutcome {
     Composed,
     NotWellFormed,
@@ -26,20 +28,20 @@ pub enum ComposeOutcome {
 }
 
 // The composed model, or the blank model.
-#[derive(Drop)]
+#[derive(Clone, Copy)]
 pub struct ComposeAnswer {
     pub outcome: ComposeOutcome,
     pub model: Model,
 }
 
 // The invariants of the composed model's locations, as far as they are stored.
-#[derive(Drop)]
+#[derive(Clone, Copy)]
 struct Invariants {
     slots: [Invariant; Model::LOCATIONS],
 }
 
 // What a step byte of the composed model is in each part: the part's own step byte, or 255 where it stands still.
-#[derive(Drop)]
+#[derive(Clone, Copy)]
 pub enum PartsAnswer {
     NotWellFormed,
     TooLarge,

@@ -9,20 +9,20 @@ use crate::joined::{joined_edge, standing};
 use model::{Edge, Model};
 
 // An edge of one model while the other stays in a location, or an edge of each.
-#[derive(Drop)]
+#[derive(Clone, Copy)]
 pub enum Move {
     FirstAlone { edge: u8, stays: u8 },
     SecondAlone { edge: u8, stays: u8 },
     Together { first: u8, second: u8 },
 }
 
-#[derive(Drop)]
+#[derive(Clone, Copy)]
 pub(crate) struct MoveSlot {
     pub(crate) way: Move,
 }
 
 // How many moves there are, which may be more than there are slots, and the first of them.
-#[derive(Drop)]
+#[derive(Clone, Copy)]
 pub(crate) struct Moves {
     pub(crate) count: usize,
     pub(crate) slots: [MoveSlot; Model::EDGES],

@@ -1,4 +1,6 @@
 // The counts of the clause list, by formula: start, the bound times one step, end.
+#![tactic(auto)]
+
 ghost use Rattle.std.specs.Prelude.{◌≡◌, ◌++◌, ℕ, ◌≤◌};
 ghost use Rattle.model.specs.Bounds.{KnownTotals};
 ghost use Rattle.list.specs.Items.{invariant_items, state_items, choice_items, delays_items, edges_items};
@@ -20,20 +22,20 @@ mod part;
 pub mod tables;
 
 // How many clauses and words a piece of the list has.
-#[derive(Drop)]
+#[derive(Clone, Copy)]
 pub struct Count {
     pub clauses: usize,
     pub words: usize,
 }
 
-#[derive(Drop)]
+#[derive(Clone, Copy)]
 pub struct ListCounts {
     pub variables: usize,
     pub clauses: usize,
     pub words: usize,
 }
 
-#[derive(Drop)]
+#[derive(Clone, Copy)]
 pub enum CountsAnswer {
     NotWellFormed,
     BoundTooLarge,

@@ -1,4 +1,6 @@
 // Bytes and decimal numbers, written into a lent buffer.
+#![tactic(auto)]
+
 ghost use Rattle.std.specs.Prelude.{◌≡◌, [], ◌∷◌, ℕ, ◌/◌, ◌%◌, ◌<◌, ◌≤◌, length};
 ghost use Rattle.buffer.specs.Buffers.{Room, Wrote};
 ghost use Rattle.decimal.specs.Decimal.{digit, digits};

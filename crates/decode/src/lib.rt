@@ -1,4 +1,6 @@
 // Assignment to run: the run of a satisfying assignment, written into a lent buffer.
+#![tactic(auto)]
+
 ghost use Rattle.std.specs.Prelude.{◌≡◌, ◌++◌, ◌+◌, ◌≤◌, T, length, drop};
 ghost use Rattle.model.specs.Automaton.{variables};
 ghost use Rattle.model.specs.Form.{well_formed};
@@ -12,7 +14,7 @@ use parts::numbering::variable_number;
 use search::{Found, first_false};
 
 // What became of an assignment that is to be decoded.
-#[derive(Drop)]
+#[derive(Clone, Copy)]
 pub enum DecodeAnswer {
     Written,
     NotWellFormed,

@@ -1,4 +1,6 @@
 // The DIMACS file of a record and a bound, written into a lent buffer or page by page.
+#![tactic(auto)]
+
 ghost use Rattle.std.specs.Prelude.{◌≡◌, ◌<◌, ◌≤◌, T, length};
 ghost use Rattle.model.specs.Bounds.{KnownTotals};
 ghost use Rattle.model.specs.Form.{well_formed};
@@ -28,7 +30,7 @@ mod rows;
 mod texts;
 
 // What the call answers.
-#[derive(Drop)]
+#[derive(Clone, Copy)]
 pub enum FileAnswer {
     NotWellFormed,
     BoundTooLarge,
@@ -207,7 +209,7 @@ pub fn page(m: Model, bound: usize, row: usize, p: usize, out: &mut [u8]) -> usi
 }
 
 // What the program is asked: the bound and the model, or the refusal.
-#[derive(Drop)]
+#[derive(Clone, Copy)]
 pub struct Request {
     pub number: u8,
     pub line: usize,

@@ -1,4 +1,6 @@
 // The clause list, written piece after piece, each in the part of the lent buffer that begins where the piece before ended.
+#![tactic(auto)]
+
 ghost use Rattle.std.specs.Prelude.{◌≡◌, ℕ, ◌+◌, ◌<◌, ◌≤◌, min, T, length};
 ghost use Rattle.model.specs.Bounds.{KnownTotals};
 ghost use Rattle.model.specs.Form.{well_formed};
@@ -30,7 +32,7 @@ mod state;
 mod words;
 
 // What became of an emission.
-#[derive(Drop)]
+#[derive(Clone, Copy)]
 pub enum Emission {
     NotWellFormed,
     BoundTooLarge,

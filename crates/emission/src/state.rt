@@ -40,7 +40,7 @@ fn put_groups(
 
 // What an atom compares: a group, by a relation with a constant. A blank slot has group 0, the locations, which no atom names. So clocks and
 // counters are written by one call, and the code of an atom is short enough to stand in its loop.
-#[derive(Drop)]
+#[derive(Clone, Copy)]
 pub struct Comparison {
     pub group: usize,
     pub relation: Relation,

@@ -1,5 +1,7 @@
 // Lists of the worked models, as emission leaves them in the buffer: the answer's numbers, then a line for each clause, then how many words
 // beyond the list are as they were.
+#![tactic(auto)]
+
 ghost use Rattle.std.specs.Prelude.{◌≤◌};
 
 use emission::Emission;

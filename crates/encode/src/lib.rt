@@ -1,4 +1,6 @@
 // Run to assignment: the one satisfying assignment of a run, written into a lent buffer.
+#![tactic(auto)]
+
 ghost use Rattle.std.specs.Prelude.{◌≡◌, cond, ◌+◌, ◌≤◌, T, eqb, length};
 ghost use Rattle.model.specs.Indexed.{each};
 ghost use Rattle.model.specs.Automaton.{ceiling, initial_state};
@@ -13,7 +15,7 @@ use model::{Counter, Model, State, Totals};
 use walk::{Verdict, advance, walk};
 
 // What became of a run that is to be written as an assignment.
-#[derive(Drop)]
+#[derive(Clone, Copy)]
 pub enum EncodeAnswer {
     Written,
     RunRefused(Verdict),

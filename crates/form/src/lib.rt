@@ -1,4 +1,6 @@
 // Whether a record, and a state of it, is well formed.
+#![tactic(auto)]
+
 ghost use Rattle.std.specs.Prelude.{◌≡◌, cond, ◌<◌, ltb};
 ghost use Rattle.model.specs.Automaton.{listed};
 ghost use Rattle.model.specs.Form.{is_not_equal, atom_formed, is_blank, no_gap, each_formed, filled_from_first, atoms_formed, counter_formed, is_blank_counter, counter_slot_formed, counters_formed, invariants_formed, update_formed, clock_update_formed, is_unchanged, update_slot_formed, updates_formed, order_slot_formed, order_formed, reset_slot_formed, resets_formed, edge_formed, is_blank_edge, edges_formed, head_formed, well_formed, slot_in_group, counters_in_group, clocks_in_group, state_formed};

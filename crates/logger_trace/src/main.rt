@@ -1,4 +1,6 @@
 // The lost log entry of logger model B: its run of three steps, state by state, and the walker's verdict.
+#![tactic(auto)]
+
 use model::{Model, State};
 
 fn text(s: &[u8]) {

@@ -1,4 +1,6 @@
 // The record of a model, the limits that stand with it, and the state of an automaton.
+#![tactic(auto)]
+
 ghost use Rattle.std.specs.Prelude.{◌≡◌};
 ghost use Rattle.model.specs.Record.{blank_model};
 
@@ -8,7 +10,7 @@ mod steps;
 pub mod updates;
 
 // How an atom compares a value with its constant.
-#[derive(Drop)]
+#[derive(Clone, Copy)]
 pub enum Relation {
     Less,
     LessEqual,
@@ -19,7 +21,7 @@ pub enum Relation {
 }
 
 // One condition of an invariant or a guard; `Blank` marks a slot without one.
-#[derive(Drop)]
+#[derive(Clone, Copy)]
 pub enum Atom {
     Blank,
     OnClock {
@@ -34,53 +36,53 @@ pub enum Atom {
     },
 }
 
-#[derive(Drop)]
+#[derive(Clone, Copy)]
 pub struct AtomSlot {
     pub atom: Atom,
 }
 
 // What an edge does to a counter: keep it, set it to a constant, or set it to the value of `source` plus `offset`.
-#[derive(Drop)]
+#[derive(Clone, Copy)]
 pub enum Update {
     Keep,
     Constant(u8),
     Sum { source: u8, offset: i8 },
 }
 
-#[derive(Drop)]
+#[derive(Clone, Copy)]
 pub struct UpdateSlot {
     pub update: Update,
 }
 
 // What an edge does to a clock: leave it unchanged, reset it, or give it the value that clock `source` had before the edge.
-#[derive(Drop)]
+#[derive(Clone, Copy)]
 pub enum ClockUpdate {
     Unchanged,
     Reset,
     Copy { source: u8 },
 }
 
-#[derive(Drop)]
+#[derive(Clone, Copy)]
 pub struct ClockSlot {
     pub update: ClockUpdate,
 }
 
 // A declared counter: it shows 0 to `greatest` and begins at `initial`.
-#[derive(Drop)]
+#[derive(Clone, Copy)]
 pub struct Counter {
     pub greatest: u8,
     pub initial: u8,
 }
 
 // The atoms that hold while the automaton stands in a location.
-#[derive(Drop)]
+#[derive(Clone, Copy)]
 pub struct Invariant {
     pub atoms: [AtomSlot; Model::ATOMS],
 }
 
 // An edge. `label` names its event; 0 is private. Slot i of `updates` is for counter i, slot i of `resets` for clock i. `order` has
 // the counters that are set, in the order in which their updates happen; the slots after them are 0.
-#[derive(Drop)]
+#[derive(Clone, Copy)]
 pub struct Edge {
     pub source: u8,
     pub target: u8,
@@ -93,7 +95,7 @@ pub struct Edge {
 
 // A model. `locations`, `clocks`, `vars` and `used` say how many locations, clocks, counters and edges there are;
 // the slots from there on are blank.
-#[derive(Drop)]
+#[derive(Clone, Copy)]
 pub struct Model {
     pub locations: u8,
     pub initial: u8,
@@ -108,7 +110,7 @@ pub struct Model {
 
 // A state: the location, and what each counter and each clock shows. A slot that is not declared shows 0.
 #[repr(C)]
-#[derive(Drop)]
+#[derive(Clone, Copy)]
 pub struct State {
     pub location: u8,
     pub counters: [u8; Model::COUNTERS],
@@ -116,21 +118,21 @@ pub struct State {
 }
 
 // A step's answer: the new state, or the given one where the step is not allowed.
-#[derive(Drop)]
+#[derive(Clone, Copy)]
 pub struct Stepped {
     pub allowed: bool,
     pub state: State,
 }
 
 // The counters after updates, or the given ones where one leaves its range.
-#[derive(Drop)]
+#[derive(Clone, Copy)]
 pub(crate) struct Updated {
     allowed: bool,
     values: [u8; Model::COUNTERS],
 }
 
 // M, S and H: the ceiling, and the lengths of a state block and of a choice block.
-#[derive(Drop)]
+#[derive(Clone, Copy)]
 pub struct Totals {
     pub ceiling: usize,
     pub state: usize,

@@ -1,5 +1,7 @@
 // Cases of the calls with a record, read from standard input, a line each: docs/TESTING.md says what a line means.
 // A line that begins with # is written out again, and each question writes the numbers of its answer.
+#![tactic(auto)]
+
 use model::Model;
 use numbers::Numbers;
 

@@ -1,9 +1,11 @@
 // New values of counters.
+#![tactic(auto)]
+
 ghost use Rattle.std.specs.Prelude.{◌≡◌, nat_abs};
 ghost use Rattle.new_values.specs.NewValues.{in_range, moved, shifted, is_negative, new_value};
 
 // A counter's new value, where it lies in the counter's range.
-#[derive(Drop)]
+#[derive(Clone, Copy)]
 pub enum NewValue {
     OutOfRange,
     Value(u8),

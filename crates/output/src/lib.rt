@@ -1,4 +1,6 @@
 // A solver's output in the competition's format: what it says, and the assignment that it names.
+#![tactic(auto)]
+
 ghost use Rattle.std.specs.Prelude.{◌≡◌, ◌≤◌, ◌<◌, length};
 ghost use Rattle.output.specs.OutputCall.{judged, report_of, end_report, output_report, output_left, output_told};
 ghost use Rattle.output.specs.Counting.{counted_from};
@@ -13,7 +15,7 @@ mod placing;
 mod reading;
 
 // What a solver's output says. A line is counted from 1.
-#[derive(Drop)]
+#[derive(Clone, Copy)]
 pub enum OutputAnswer {
     Satisfiable,
     Unsatisfiable,

@@ -4,7 +4,7 @@ ghost use Rattle.output.specs.Lines.{is_values, form_of, in_place, stage_after};
 
 use crate::{bytes, literals};
 
-#[derive(Drop)]
+#[derive(Clone, Copy)]
 pub enum LineForm {
     Malformed,
     Comment,
@@ -14,7 +14,7 @@ pub enum LineForm {
 }
 
 // What may come next: the s line; lines of literals; after the closing 0 or `s UNSATISFIABLE`, nothing but comments.
-#[derive(Drop)]
+#[derive(Clone, Copy)]
 pub enum Stage {
     BeforeStatus,
     InValues,

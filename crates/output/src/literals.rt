@@ -7,14 +7,14 @@ ghost use Rattle.output.specs.Counting.{capped, literal_up_to};
 use crate::bytes;
 
 // A variable, counted from 1, or 0, and whether the literal is bare.
-#[derive(Drop)]
+#[derive(Clone, Copy)]
 pub struct Literal {
     pub variable: usize,
     pub bare: bool,
 }
 
 // A word of a line: the literal that it is, and the place after it.
-#[derive(Drop)]
+#[derive(Clone, Copy)]
 pub struct Word {
     pub literal: Literal,
     pub end: usize,

@@ -9,7 +9,7 @@ use crate::literals::Literal;
 use crate::{bytes, literals};
 
 // How many literals were seen, and how many are to be seen.
-#[derive(Drop)]
+#[derive(Clone, Copy)]
 pub struct Placing {
     pub seen: usize,
     pub bound: usize,

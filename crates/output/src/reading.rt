@@ -10,7 +10,7 @@ use crate::lines::{LineForm, Stage};
 use crate::literals::Literal;
 use crate::{bytes, lines, literals};
 
-#[derive(Drop)]
+#[derive(Clone, Copy)]
 pub enum Fault {
     NoFault,
     OutOfFormOrPlace,
@@ -19,7 +19,7 @@ pub enum Fault {
 }
 
 // What was read so far: the first fault, the line that was judged last, what may come next, how many literals named a variable.
-#[derive(Drop)]
+#[derive(Clone, Copy)]
 pub struct Reading {
     pub fault: Fault,
     pub line: usize,

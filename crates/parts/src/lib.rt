@@ -1,4 +1,6 @@
 // The groups of a state block, and the parts of the list that atoms, delays and edges ask for.
+#![tactic(auto)]
+
 ghost use Rattle.std.specs.Prelude.{◌≡◌, cond, ℕ, ◌+◌, ◌<◌, ◌≤◌, min, T, leb, get_or};
 ghost use Rattle.model.specs.Automaton.{ceiling, group_size, set_earlier};
 ghost use Rattle.model.specs.Bounds.{KnownTotals};
@@ -13,7 +15,7 @@ use model::{Atom, ClockUpdate, Counter, Edge, Model, Relation, Totals, Update};
 pub mod numbering;
 
 // What a part of the list asks of a value before, under a choice or a location.
-#[derive(Drop)]
+#[derive(Clone, Copy)]
 pub enum Rule {
     Exclude { relation: Relation, constant: u8 },
     Keep,
@@ -25,7 +27,7 @@ pub enum Rule {
 
 // A rule for each of `size` values, whose variables begin at `before`; the variables of the group after begin at `after`,
 // and it has `into` members.
-#[derive(Drop)]
+#[derive(Clone, Copy)]
 pub struct Part {
     pub rule: Rule,
     pub before: usize,
@@ -35,7 +37,7 @@ pub struct Part {
 }
 
 // The groups of a state block in block order: where each begins and how many members it has. M, S and H.
-#[derive(Drop)]
+#[derive(Clone, Copy)]
 pub struct GroupTable {
     pub groups: usize,
     pub first: [u16; 9],

@@ -1,5 +1,7 @@
 // Refutations with hints. The words of a list of clauses are followed by the words of lemmas, and a hint is the place in the words where a
 // clause begins. A literal is a number, its code: 2 v for the variable v, 2 v + 1 for its negation.
+#![tactic(auto)]
+
 ghost use Rattle.std.specs.Prelude.{◌≡◌, List, [], ◌∷◌, ℕ, ◌+◌, ◌<◌, ◌≤◌, length, drop, get_or, pos};
 ghost use Rattle.refutation.specs.Codes.{code_of, opposite, begins, all_within};
 ghost use Rattle.refutation.specs.Refutation.{left, span, literals, follows, refutes};

@@ -1,4 +1,6 @@
 // A refutation of the list for a bound: the list is written in front of the lemmas that the caller has put into the lent words.
+#![tactic(auto)]
+
 ghost use Rattle.std.specs.Prelude.{◌≡◌, length};
 ghost use Rattle.emission.specs.EmitCall.{emit_left};
 ghost use Rattle.refutation.specs.Refutation.{refutes};
@@ -9,7 +11,7 @@ use model::Model;
 use refutation::refuted;
 
 // What became of a refutation. The words are those that the list takes: there the lemmas begin.
-#[derive(Drop)]
+#[derive(Clone, Copy)]
 pub enum Refutation {
     NotWellFormed,
     BoundTooLarge,

@@ -1,4 +1,6 @@
 // The models that the worked cases use.
+#![tactic(auto)]
+
 ghost use Rattle.std.specs.Prelude.{◌≡◌};
 ghost use Rattle.samples.specs.Models.{on_clock, edge, model_a, waiting_a, model_b, full_edge, full_model};
 

@@ -1,4 +1,6 @@
 // The search for the first clause of the list that an assignment makes false. It stores no list.
+#![tactic(auto)]
+
 ghost use Rattle.std.specs.Prelude.{◌≡◌, ◌+◌, ◌*◌, ◌≤◌, T, length};
 ghost use Rattle.model.specs.Indexed.{each};
 ghost use Rattle.model.specs.Automaton.{variables};
@@ -24,7 +26,7 @@ mod pieces;
 mod truth;
 
 // The index of the first false clause, or none.
-#[derive(Drop)]
+#[derive(Clone, Copy)]
 pub enum Found {
     At(usize),
     Nothing,

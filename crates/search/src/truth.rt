@@ -11,7 +11,7 @@ use new_values::{NewValue, shift};
 use parts::{Part, Rule, smaller};
 
 // A piece of the list has been checked: whether all its clauses are true, and the count of clauses where the check stopped.
-#[derive(Drop)]
+#[derive(Clone, Copy)]
 pub struct PieceCheck {
     pub ok: bool,
     pub at: usize,

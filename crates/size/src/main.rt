@@ -1,6 +1,8 @@
 // The size program: a bound line and a model text on standard input, and five lines of numbers on standard output.
 // A longer input than the buffer is refused like its part in the buffer: a bound line has at most 10 bytes, and a text of more than
 // 8,192 bytes is refused whatever it holds.
+#![tactic(auto)]
+
 use sizing::SizeAnswer;
 
 fn line(key: &[u8], n: u64) {

@@ -1,4 +1,6 @@
 // The numbers of the size program: a bound line and a model text, read, and the clause list written into the lent words.
+#![tactic(auto)]
+
 ghost use Rattle.std.specs.Prelude.{◌≡◌, length};
 ghost use Rattle.emission.specs.EmitCall.{emit_reported, emit_told};
 ghost use Rattle.text.specs.Text.{read_report, read_told};
@@ -9,7 +11,7 @@ use text::{BoundRead, ReadAnswer, read_item, read_model};
 
 // The number of the refusal, or 0; the line of the model text, or 0; the counts of the list.
 #[repr(C)]
-#[derive(Drop)]
+#[derive(Clone, Copy)]
 pub struct SizeAnswer {
     pub number: u8,
     pub line: usize,

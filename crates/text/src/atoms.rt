@@ -10,7 +10,7 @@ use crate::bytes::{Faults, NumberRead};
 use model::{Atom, AtomSlot, Model, Relation};
 
 // The relation that some bytes begin with, and how many of them it takes.
-#[derive(Drop)]
+#[derive(Clone, Copy)]
 pub(crate) enum RelationRead {
     Absent,
     One(Relation),
@@ -18,7 +18,7 @@ pub(crate) enum RelationRead {
 }
 
 // One item of the line.
-#[derive(Drop)]
+#[derive(Clone, Copy)]
 pub enum AtomRead {
     Malformed,
     ClockAtom {
@@ -34,14 +34,14 @@ pub enum AtomRead {
 }
 
 // The faults of the value and, where there are none, its atoms.
-#[derive(Drop)]
+#[derive(Clone, Copy)]
 pub struct AtomValue {
     pub faults: Faults,
     pub atoms: [AtomSlot; Model::ATOMS],
 }
 
 // What one pass over the items collects.
-#[derive(Drop)]
+#[derive(Clone, Copy)]
 pub(crate) struct AtomsRead {
     faults: Faults,
     count: usize,

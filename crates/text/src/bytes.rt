@@ -3,7 +3,7 @@ ghost use Rattle.std.specs.Prelude.{◌≡◌, ◌+◌, ◌-◌, ◌≤◌, leng
 ghost use Rattle.text.specs.bytes.Bytes.{FirstFrom, LeadingDigits, number_of, narrowed, is_digit, assigns, is_hyphen, counted};
 ghost use Rattle.text.specs.bytes.Faulty.{no_faults, fault_number, line_told, is_no_fault};
 
-#[derive(Drop)]
+#[derive(Clone, Copy)]
 pub enum NumberRead {
     Malformed,
     Number(u16),
@@ -11,7 +11,7 @@ pub enum NumberRead {
 
 // What is wrong with the value of a line, a flag for each test of it. `unordered`: a counter is set twice, or the clocks that are reset
 // do not rise strictly.
-#[derive(Drop)]
+#[derive(Clone, Copy)]
 pub struct Faults {
     pub malformed: bool,
     pub crowded: bool,
@@ -21,7 +21,7 @@ pub struct Faults {
 }
 
 // The first test of a line that fails.
-#[derive(Drop)]
+#[derive(Clone, Copy)]
 pub enum LineFault {
     NoFault,
     NotDue,

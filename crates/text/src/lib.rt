@@ -1,4 +1,6 @@
 // The model text: what it says, or why it is refused.
+#![tactic(auto)]
+
 ghost use Rattle.std.specs.Prelude.{◌≡◌, ◌≤◌, length, drop};
 ghost use Rattle.model.specs.Record.{blank_model};
 ghost use Rattle.text.specs.lines.Readings.{progress, ReadsFrom};
@@ -22,7 +24,7 @@ mod sequence;
 mod updates;
 
 // What became of a text. A line is counted from 1.
-#[derive(Drop)]
+#[derive(Clone, Copy)]
 pub enum ReadOutcome {
     Read,
     TooLong,
@@ -36,21 +38,21 @@ pub enum ReadOutcome {
 }
 
 // The model read, or the blank model.
-#[derive(Drop)]
+#[derive(Clone, Copy)]
 pub struct ReadAnswer {
     pub outcome: ReadOutcome,
     pub model: Model,
 }
 
 // The bound of a bound line, and how many bytes after the line's start the model text begins.
-#[derive(Drop)]
+#[derive(Clone, Copy)]
 pub enum BoundRead {
     NotABound,
     Bound { bound: u16, next: usize },
 }
 
 // A bound line, and the model text that follows it.
-#[derive(Drop)]
+#[derive(Clone, Copy)]
 pub struct ItemRead {
     pub bound: BoundRead,
     pub text: ReadAnswer,

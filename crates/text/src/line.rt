@@ -9,7 +9,7 @@ use crate::bytes::{Faults, NumberRead};
 use model::{Counter, Model};
 
 // Where the value of the due line stands, if the line is the due one.
-#[derive(Drop)]
+#[derive(Clone, Copy)]
 pub struct Due {
     pub found: bool,
     pub start: usize,
@@ -17,7 +17,7 @@ pub struct Due {
 }
 
 // A line of one number.
-#[derive(Drop)]
+#[derive(Clone, Copy)]
 pub struct NumberDue {
     pub due: Due,
     pub faults: Faults,
@@ -25,7 +25,7 @@ pub struct NumberDue {
 }
 
 // A line of a counter.
-#[derive(Drop)]
+#[derive(Clone, Copy)]
 pub struct CounterDue {
     pub due: Due,
     pub faults: Faults,

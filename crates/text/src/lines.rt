@@ -8,7 +8,7 @@ use model::Model;
 
 // A reading in progress: no fault, the line that is due next and its place; or the fault of a line, its number and place.
 // The model is what the lines before it say.
-#[derive(Drop)]
+#[derive(Clone, Copy)]
 pub struct Reading {
     pub fault: LineFault,
     pub line: usize,

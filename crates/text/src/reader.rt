@@ -8,14 +8,14 @@ use crate::lines::Reading;
 use crate::{BoundRead, bound_at, sequence};
 
 // A text and a place in it. The functions over it are thin; the work is done by functions on a slice and a place.
-#[derive(Drop)]
+#[derive(Clone, Copy)]
 pub(crate) struct Reader<'a> {
     text: &'a [u8],
     at: usize,
 }
 
 // A bound line, and the reading of the model's lines that follow it. The reading says where it stopped.
-#[derive(Drop)]
+#[derive(Clone, Copy)]
 pub struct Item {
     pub bound: BoundRead,
     pub reading: Reading,

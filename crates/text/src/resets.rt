@@ -10,7 +10,7 @@ use crate::bytes::{Faults, NumberRead};
 use model::{ClockSlot, ClockUpdate, Model};
 
 // One item of the line.
-#[derive(Drop)]
+#[derive(Clone, Copy)]
 pub enum ResetRead {
     Malformed,
     ToZero(u16),
@@ -18,14 +18,14 @@ pub enum ResetRead {
 }
 
 // The faults of the value and, where there are none, its resets.
-#[derive(Drop)]
+#[derive(Clone, Copy)]
 pub struct ResetValue {
     pub faults: Faults,
     pub resets: [ClockSlot; Model::CLOCKS],
 }
 
 // What one pass over the items collects. `least` is the least clock that may be set next.
-#[derive(Drop)]
+#[derive(Clone, Copy)]
 pub(crate) struct ResetsRead {
     faults: Faults,
     least: u32,

@@ -10,7 +10,7 @@ use crate::bytes::{Faults, NumberRead};
 use model::{Model, Update, UpdateSlot};
 
 // One item of the line.
-#[derive(Drop)]
+#[derive(Clone, Copy)]
 pub enum SetRead {
     Malformed,
     ToConstant {
@@ -26,7 +26,7 @@ pub enum SetRead {
 }
 
 // The faults of the value and, where there are none, its updates and the order in which they are listed.
-#[derive(Drop)]
+#[derive(Clone, Copy)]
 pub struct SetValue {
     pub faults: Faults,
     pub updates: [UpdateSlot; Model::COUNTERS],
@@ -34,7 +34,7 @@ pub struct SetValue {
 }
 
 // What one pass over the items collects. `count` slots of the order are filled.
-#[derive(Drop)]
+#[derive(Clone, Copy)]
 pub(crate) struct SetsRead {
     faults: Faults,
     updates: [UpdateSlot; Model::COUNTERS],

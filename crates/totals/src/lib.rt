@@ -1,4 +1,6 @@
 // Questions about a record: its ceiling, and the lengths of its blocks.
+#![tactic(auto)]
+
 ghost use Rattle.std.specs.Prelude.{◌≡◌};
 ghost use Rattle.totals.specs.CeilingCall.{ceiling_told, ceiling_report};
 ghost use Rattle.totals.specs.TotalsCall.{totals_told, totals_report};
@@ -6,14 +8,14 @@ ghost use Rattle.totals.specs.TotalsCall.{totals_told, totals_report};
 use form::well_formed;
 use model::Model;
 
-#[derive(Drop)]
+#[derive(Clone, Copy)]
 pub enum CeilingAnswer {
     NotWellFormed,
     Ceiling(usize),
 }
 
 // The lengths of a state block and of a choice block, and the number of variables for the bound.
-#[derive(Drop)]
+#[derive(Clone, Copy)]
 pub enum TotalsAnswer {
     NotWellFormed,
     BoundTooLarge,

@@ -1,4 +1,6 @@
 // One step byte from a given state, and the run walker.
+#![tactic(auto)]
+
 ghost use Rattle.std.specs.Prelude.{◌≡◌, ◌≤◌, T, length};
 ghost use Rattle.model.specs.Automaton.{ceiling, step, stepped};
 ghost use Rattle.model.specs.Form.{well_formed};
@@ -9,7 +11,7 @@ use form::{state_formed, well_formed};
 use model::{Model, State, Stepped};
 
 // What became of one step byte.
-#[derive(Drop)]
+#[derive(Clone, Copy)]
 pub enum StepOutcome {
     Taken,
     NotWellFormed,
@@ -19,14 +21,14 @@ pub enum StepOutcome {
 }
 
 // The new state where the step is taken, else the given one.
-#[derive(Drop)]
+#[derive(Clone, Copy)]
 pub struct StepAnswer {
     pub outcome: StepOutcome,
     pub state: State,
 }
 
 // What became of a run. A step is counted from 1.
-#[derive(Drop)]
+#[derive(Clone, Copy)]
 pub enum Verdict {
     Accepted,
     NotWellFormed,

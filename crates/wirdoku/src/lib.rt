@@ -1,4 +1,6 @@
 // The calls of the library for C: a model text, numbers and lent slices. include/wirdoku.h declares them.
+#![tactic(auto)]
+
 ghost use Rattle.std.specs.Prelude.{◌≡◌, length};
 ghost use Rattle.model.specs.Automaton.{initial_state};
 ghost use Rattle.model.specs.Refusal.{refusal};
@@ -30,7 +32,7 @@ mod pairs;
 
 // The number of the refusal, or 0, and its place.
 #[repr(C)]
-#[derive(Drop)]
+#[derive(Clone, Copy)]
 pub struct Answer {
     pub number: u8,
     pub place: usize,
@@ -38,7 +40,7 @@ pub struct Answer {
 
 // What a model declares, its ceiling, and the lengths of a state block and of a choice block.
 #[repr(C)]
-#[derive(Drop)]
+#[derive(Clone, Copy)]
 pub struct Shape {
     pub number: u8,
     pub line: usize,
@@ -55,7 +57,7 @@ pub struct Shape {
 
 // The number of the refusal, or 0, the line of the text, or 0, and the file's bytes.
 #[repr(C)]
-#[derive(Drop)]
+#[derive(Clone, Copy)]
 pub struct FileReply {
     pub number: u8,
     pub line: usize,
@@ -64,7 +66,7 @@ pub struct FileReply {
 
 // The number of the refusal, or 0, the line of the solver's output, or 0, and the outcome: 10, 20, or 0 of a refused text.
 #[repr(C)]
-#[derive(Drop)]
+#[derive(Clone, Copy)]
 pub struct OutputReply {
     pub number: u8,
     pub line: usize,
@@ -73,7 +75,7 @@ pub struct OutputReply {
 
 // The number of the refusal, or 0, the line of the text, or 0, the words of the list, and the outcome: 1 refuted, 2 not refuted, or 0.
 #[repr(C)]
-#[derive(Drop)]
+#[derive(Clone, Copy)]
 pub struct RefuteReply {
     pub number: u8,
     pub line: usize,
@@ -83,7 +85,7 @@ pub struct RefuteReply {
 
 // The number of the refusal, or 0, the line of the text, or 0, and a state.
 #[repr(C)]
-#[derive(Drop)]
+#[derive(Clone, Copy)]
 pub struct StateAnswer {
     pub number: u8,
     pub line: usize,

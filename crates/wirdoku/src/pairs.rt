@@ -34,7 +34,7 @@ use walk::{step, walk};
 
 // The number of the refusal, or 0; the text that is refused, 1 or 2, or 0; its line, or 0.
 #[repr(C)]
-#[derive(Drop)]
+#[derive(Clone, Copy)]
 pub struct PairAnswer {
     pub number: u8,
     pub text: u8,
@@ -43,7 +43,7 @@ pub struct PairAnswer {
 
 // The number of the refusal, or 0, the line of the text, or 0, and the step byte of each part, or 255 where it stands still.
 #[repr(C)]
-#[derive(Drop)]
+#[derive(Clone, Copy)]
 pub struct PartSteps {
     pub number: u8,
     pub line: usize,
@@ -52,7 +52,7 @@ pub struct PartSteps {
 }
 
 // What was read: the composed model, or the blank model.
-#[derive(Drop)]
+#[derive(Clone, Copy)]
 struct PairRead {
     number: u8,
     text: u8,
