@@ -1,0 +1,50 @@
+-- `invariants_fit`: so far every row fitted; the first that does not makes the answer false.
+use native.Mathlib.Omega.{arith}
+use borrow.Author.Rules.{rules}
+use lib.Dec.{leb}
+use mathlib.Core.Bool.{true, Bool}
+use mathlib.Core.Path.{◌≡◌, sym, ap, ◌∙◌}
+use Prim.Native.Nat.{◌+◌, ◌-◌, ℕ}
+use Rattle.model.specs.declared.Model.{Model}
+use Rattle.model.proofs.IndexedLaws.{all_none, all_stops, all_goes}
+use Rattle.model.specs.Record.{invariant_at}
+use Rattle.model.specs.Indexed.{all_below}
+use Rattle.compose.specs.Composed.{invariants_fit}
+use Rattle.compose.specs.Joined.{atom_count}
+use Rattle.compose.proofs.JoinedLaws.{atom_count_le}
+use Rattle.compose.proofs.invariants_fit.Goals as goal
+
+-- a row whose invariant in the first model has n atoms
+abbrev row : Model → ℕ → Bool
+row b n = all_below (λ j. leb (n + atom_count (invariant_at b j)) 4) b.locations
+
+abbrev row_of : Model → Model → ℕ → Bool
+row_of a b i = row b (atom_count (invariant_at a i))
+
+pub loop-i-init : goal.loop-i-init
+loop-i-init c = (search rules, all_none _)
+
+pub invariant_row_fits-requires : goal.invariant_row_fits-requires
+invariant_row_fits-requires c =
+    (omega (arith, c.atom_count.ensures, atom_count_le (invariant_at c.args.a c.loop-i.i)), c.requires.1)
+
+pub returns-then-not-invariant_row_fits : goal.returns-then-not-invariant_row_fits
+unfolding invariants_fit
+returns-then-not-invariant_row_fits c =
+    let a = c.args in
+    let answer = c.invariant_row_fits.ensures ∙ ap (row a.b) c.atom_count.ensures in
+    all_stops (row_of a.t1 a.b) c.loop-i.i a.t1.locations c.loop-i-test.true answer c.if-not-invariant_row_fits.true-raw
+
+pub loop-i-preserved : goal.loop-i-preserved
+loop-i-preserved c =
+    let loop = c.loop-i in
+    let a = c.args in
+    let answer = c.invariant_row_fits.ensures ∙ ap (row a.b) c.atom_count.ensures in
+    (search rules, all_goes (row_of a.t1 a.b) loop.i loop.invariant.1 answer c.if-not-invariant_row_fits.false-raw)
+
+pub returns : goal.returns
+unfolding invariants_fit
+returns c =
+    let loop = c.loop-i in
+    let end : loop.i ≡ c.args.a.locations = omega arith in
+    sym (rw end at loop.invariant.1)

@@ -1,0 +1,14 @@
+-- `joined_invariants`: the loop has stored the rows of the locations so far, each as long as the second model has locations.
+use Prim.Native.Nat.{◌≤◌, ◌-◌}
+use mathlib.Core.Path.{◌≡◌}
+use lib.ListN.{replicate}
+use Rattle.model.specs.Indexed.{each}
+use Rattle.model.specs.Record.{blank_invariant}
+use Rattle.compose.specs.Moves.{placed}
+use Rattle.compose.proofs.joined_invariants.Given as goal
+
+abbrev pub invariant-loop-i : goal.invariant-loop-i
+invariant-loop-i l = (l.i ≤ l.a.locations) × (l.list.slots ≡ placed (replicate 16 blank_invariant) 0 (each l.i (row l.a l.b)))
+
+abbrev pub decreases-loop-i : goal.decreases-loop-i
+decreases-loop-i l = l.a.locations - l.i

@@ -1,0 +1,30 @@
+-- `first_alone`: the loop has added the moves of the locations so far.
+use borrow.Author.Rules.{rules}
+use Prim.Native.Nat.{ℕ, ◌-◌}
+use mathlib.Core.Path.{◌≡◌}
+use native.Mathlib.Omega.{arith}
+use Rattle.model.specs.Indexed.{list_below}
+use Rattle.model.proofs.IndexedLaws.{length_list}
+use Rattle.compose.specs.declared.moves.Move.{Move}
+use Rattle.compose.specs.declared.moves.Move.TheVariants.{FirstAlone}
+use Rattle.compose.proofs.Adding.{counted, list_start, list_turn}
+use Rattle.compose.proofs.moves.first_alone.Goals as goal
+
+pub loop-j-init : goal.loop-j-init
+loop-j-init c = (search rules, list_start _ _)
+
+pub add-moves-requires : goal.add-moves-requires
+add-moves-requires c =
+    let loop = c.loop-j in
+    let way : ℕ → Move = λ k. FirstAlone c.args.edge k in
+    omega (arith, c.requires, counted c.args.list (list_below way loop.j) loop.invariant.1, length_list way loop.j)
+
+pub loop-j-preserved : goal.loop-j-preserved
+loop-j-preserved c =
+    let loop = c.loop-j in
+    let entry = c.args in
+    (search rules, list_turn entry.list (λ k. FirstAlone entry.edge k) loop.j loop.invariant.1 c.add-moves.ensures)
+
+pub returns : goal.returns
+returns c = let e : c.loop-j.j ≡ c.args.locations = omega arith in
+    rw e at c.loop-j.invariant.1

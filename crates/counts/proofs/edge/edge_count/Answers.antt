@@ -1,0 +1,53 @@
+-- edge_count: part after part; a part is counted at block 0 and has the same count at every other.
+use native.Mathlib.Omega.{arith}
+use Prim.Native.Nat.{ℕ, ◌+◌, ◌-◌, ◌≤◌}
+use mathlib.Core.Path.{◌≡◌, sym, ap, subst, ◌∙◌}
+use Rattle.model.specs.Indexed.{each}
+use Rattle.parts.specs.declared.Part.{Part}
+use Rattle.parts.specs.Pieces.{edge_piece}
+use Rattle.counts.specs.Counted.{Counted}
+use Rattle.counts.specs.PartCounts.{part_count, part_words}
+use Rattle.counts.proofs.CountLaws.{counted_each_none, counted_each_more, Most, clauses_le, words_le}
+use Rattle.counts.proofs.EdgeLaws.{edge_part_counted, edge_small, edge_parts_most}
+use Rattle.counts.proofs.edge.edge_count.Goals as goal
+
+-- with one part more
+next : (c : goal.After-count-part invariant-loop decreases-loop)
+    → let l = c.before.before.before.loop in let a = c.before.before.before.before.before.args in
+    (x o : ℕ) → Counted (each (l.j + 1) (edge_piece x a.b a.e o)) (l.clauses + c.count-part.result.clauses) (l.words + c.count-part.result.words)
+next c x o =
+    let l = c.before.before.before.loop in
+    let a = c.before.before.before.before.before.args in
+    let r = c.before.edge_part_lem.ensures in
+    let n = c.count-part.ensures in
+    counted_each_more _ (l.invariant.1 x o) (edge_part_counted a.b o x a.e l.j (n.0 ∙ ap part_count r) (n.1 ∙ ap part_words r))
+
+most : (c : goal.After-count-part invariant-loop decreases-loop)
+    → let l = c.before.before.before.loop in let a = c.before.before.before.before.before.args in
+    Most (each (l.j + 1) (edge_piece 0 a.b a.e 0)) 448 1792
+most c =
+    let p = c.before.before.before in
+    let q = p.before.before in
+    edge_parts_most q.args.b q.requires 0 0 q.args.e (p.loop.j + 1) (omega (arith, q.requires.groups_le, q.requires.vars_le))
+
+pub loop-j-init : goal.loop-j-init
+loop-j-init c = (omega arith, λ x o. counted_each_none _)
+
+pub count_part-part-requires : goal.count_part-part-requires
+count_part-part-requires c =
+    let a = c.args in
+    subst (λ (q : Part). q.size ≤ 32) (sym c.edge_part.ensures) (edge_small a.b c.requires 0 a.e c.loop-j.j)
+
+pub overflow_add-clauses : goal.overflow_add-clauses
+overflow_add-clauses c = omega (arith, clauses_le (next c.before 0 0) (most c.before))
+
+pub overflow_add-words : goal.overflow_add-words
+overflow_add-words c = omega (arith, words_le (next c.before.before 0 0) (most c.before.before))
+
+pub loop-j-preserved : goal.loop-j-preserved
+loop-j-preserved c = (omega arith, next c.before.before)
+
+pub returns : goal.returns
+returns c =
+    let done : c.loop-j.j ≡ c.args.b.groups + 5 = omega arith in
+    λ x o. rw done at (c.loop-j.invariant.1 x o)

@@ -1,0 +1,97 @@
+-- list_counts: start, the bound times a step, end; every sum on the way is at most the total, and that has its bound.
+use native.Mathlib.Omega.{arith}
+use Prim.Native.Nat.{◌+◌, ◌*◌, ◌≤◌}
+use Rattle.model.proofs.FormLaws.{formed, variables_le}
+use Rattle.list.specs.Clauses.{clauses}
+use Rattle.parts.specs.Numbering.{most_variables}
+use Rattle.counts.specs.Counted.{Counted}
+use Rattle.counts.specs.KnownCounts.{most_clauses, most_words}
+use Rattle.counts.proofs.CountLaws.{Most, clauses_le, words_le}
+use Rattle.counts.proofs.CountedList.{list_counted, list_words, known_variables}
+use Rattle.counts.proofs.PieceBounds.{state_most, moves_most, list_most}
+use Rattle.counts.proofs.list_counts.Goals as goal
+
+variables-le-most : (c : goal.After-moves-count)
+    → let a = c.before.before.args in a.z.state + a.bound * (a.z.state + a.z.choices) ≤ most_variables
+variables-le-most c =
+    let p = c.before.before in
+    let a = p.args in
+    omega (arith, known_variables a.m a.z p.requires.0 a.bound, variables_le a.m (formed a.m p.requires.1.formed) a.bound p.requires.2)
+
+counted : (c : goal.After-moves-count)
+    → let a = c.before.before.args in
+    let s = c.before.state-count.result in
+    let t = c.moves-count.result in
+    Counted (clauses a.m a.bound) (s.clauses + a.b.groups + a.bound * (t.clauses + s.clauses) + 1)
+    (s.words + a.b.groups * 2 + a.bound * (t.words + s.words) + 2)
+counted c = let p = c.before.before in list_counted p.requires.1 p.args.bound c.before.state-count.ensures c.moves-count.ensures
+
+most : (c : goal.After-moves-count) → let a = c.before.before.args in Most (clauses a.m a.bound) most_clauses most_words
+most c = let p = c.before.before in list_most p.args.m p.requires.1.formed p.args.bound p.requires.2
+
+-- a step
+step-clauses : (c : goal.After-moves-count) → c.moves-count.result.clauses + c.before.state-count.result.clauses ≤ 29218
+step-clauses c =
+    let p = c.before.before in
+    let s = clauses_le (c.before.state-count.ensures 0) (state_most p.args.m p.requires.1.formed 0) in
+    let t = clauses_le (c.moves-count.ensures 0) (moves_most p.args.m p.requires.1.formed 0) in
+    omega (arith, s, t)
+
+step_words : (c : goal.After-moves-count) → c.moves-count.result.words + c.before.state-count.result.words ≤ 104866
+step_words c =
+    let p = c.before.before in
+    let s = words_le (c.before.state-count.ensures 0) (state_most p.args.m p.requires.1.formed 0) in
+    let t = words_le (c.moves-count.ensures 0) (moves_most p.args.m p.requires.1.formed 0) in
+    omega (arith, s, t)
+
+pub overflow_mul-result : goal.overflow_mul-result
+overflow_mul-result c = omega (arith, variables-le-most c.before)
+
+pub overflow_add-result-2 : goal.overflow_add-result-2
+overflow_add-result-2 c = omega (arith, variables-le-most c.before.before)
+
+pub overflow_add-result-3 : goal.overflow_add-result-3
+overflow_add-result-3 c = omega (arith, clauses_le (counted c.before.before.before) (most c.before.before.before))
+
+pub overflow_add-result-4 : goal.overflow_add-result-4
+overflow_add-result-4 c = omega (arith, step-clauses c.before.before.before.before.before)
+
+pub overflow_mul-result-2 : goal.overflow_mul-result-2
+overflow_mul-result-2 c = omega (arith, clauses_le (counted c.before.before.before.before.before) (most c.before.before.before.before.before))
+
+pub overflow_add-result-5 : goal.overflow_add-result-5
+overflow_add-result-5 c = omega (arith, clauses_le (counted c.before.before.before.before.before) (most c.before.before.before.before.before))
+
+pub overflow_add-result-6 : goal.overflow_add-result-6
+overflow_add-result-6 c = omega (arith, clauses_le (counted c.before.before.before.before.before) (most c.before.before.before.before.before))
+
+pub overflow_mul-result-3 : goal.overflow_mul-result-3
+overflow_mul-result-3 c = omega (arith, words_le (counted c.before.before.before.before.before) (most c.before.before.before.before.before))
+
+pub overflow_add-result-7 : goal.overflow_add-result-7
+overflow_add-result-7 c = omega (arith, words_le (counted c.before.before.before.before.before.before) (most c.before.before.before.before.before.before))
+
+pub overflow_add-result-8 : goal.overflow_add-result-8
+overflow_add-result-8 c = omega (arith, step_words c.before.before.before.before.before.before.before.before)
+
+pub overflow_mul-result-4 : goal.overflow_mul-result-4
+overflow_mul-result-4 c = omega (arith, words_le (counted c.before.before.before.before.before.before.before.before) (most c.before.before.before.before.before.before.before.before))
+
+pub overflow_add-result-9 : goal.overflow_add-result-9
+overflow_add-result-9 c = omega (arith, words_le (counted c.before.before.before.before.before.before.before.before) (most c.before.before.before.before.before.before.before.before))
+
+pub overflow_add-result-10 : goal.overflow_add-result-10
+overflow_add-result-10 c = omega (arith, words_le (counted c.before.before.before.before.before.before.before.before) (most c.before.before.before.before.before.before.before.before))
+
+pub returns : goal.returns
+returns c =
+    let a = c.args in
+    let n = counted c.before.before.before.before.before.before.before.before in
+    record {
+      variables = known_variables a.m a.z c.requires.0 a.bound;
+      clauses = n.clauses_are;
+      words = list_words a.m a.bound n;
+      variables_most = variables-le-most c.before.before.before.before.before.before.before.before;
+      clauses_most = clauses_le n (most c.before.before.before.before.before.before.before.before);
+      words_most = words_le n (most c.before.before.before.before.before.before.before.before);
+    }

@@ -1,0 +1,56 @@
+-- count_part: for each rule the sum over the values in closed form.
+use native.Mathlib.Omega.{arith}
+use mathlib.Core.Path.{◌≡◌, ap, sym, ◌∙◌}
+use Prim.Native.Nat.{ℕ, ◌*◌}
+use lib.IntN.{ℤ}
+use mir.Syntax.{w8}
+use mir.Val.{to_z, of_z}
+use Rattle.model.specs.Indexed.{sum_below}
+use Rattle.model.proofs.IndexedLaws.{sum_const}
+use Rattle.parts.specs.declared.Rule.TheVariants.{Exclude, Shift}
+use Rattle.counts.specs.PartCounts.{rule_words}
+use Rattle.counts.proofs.PartLaws.{rule_sum_le, exclude_words}
+use borrow.Author.Rules.{rules}
+use Rattle.counts.proofs.part.count_part.Goals as goal
+
+pub overflow_mul-result : goal.overflow_mul-result
+overflow_mul-result c =
+    let u = c.rule-1.given.0 in
+    omega (arith, c.failing_count-failing.ensures, rule_sum_le (Exclude u.0 u.1.0) c.args.p.size)
+
+pub returns-in-Exclude : goal.returns-in-Exclude
+returns-in-Exclude c =
+    let u = c.rule-1.given.0 in
+    let n = c.args.p.size in
+    rw c.rule-1.given.1
+    (c.failing_count-failing.ensures, ap (λ (k : ℕ). k * 3) c.failing_count-failing.ensures ∙ sym (exclude_words u.0 u.1.0 n))
+
+pub returns-in-Keep : goal.returns-in-Keep
+returns-in-Keep c =
+    let n = c.args.p.size in
+    rw c.enum_told-1.given.1 (omega (arith, sum_const n 1), sym (sum_const n 4))
+
+pub returns-in-Rise : goal.returns-in-Rise
+returns-in-Rise c =
+    let n = c.args.p.size in
+    rw c.enum_told-in-Rise-1.given.1 (omega (arith, sum_const n 1), sym (sum_const n 4))
+
+pub returns-in-Shift : goal.returns-in-Shift
+returns-in-Shift c =
+    let u = c.rule-in-Shift-1.given.0 in
+    let n = c.args.p.size in
+    let exact : to_z w8 (of_z w8 u.0) ≡ u.0 = search rules in
+    rw c.rule-in-Shift-1.given.1 (
+      omega (arith, sum_const n 1),
+      c.shift_words.ensures ∙ ap (λ (z : ℤ). sum_below (rule_words (Shift z u.1.0)) n) exact,
+    )
+
+pub returns-in-Set : goal.returns-in-Set
+returns-in-Set c =
+    let n = c.args.p.size in
+    rw c.enum_told-in-Set-1.given.1 (omega (arith, sum_const n 1), sym (sum_const n 3))
+
+pub returns-in-Forbid : goal.returns-in-Forbid
+returns-in-Forbid c =
+    let n = c.args.p.size in
+    rw c.enum_told-in-Forbid-1.given.1 (omega (arith, sum_const n 1), sym (sum_const n 2))

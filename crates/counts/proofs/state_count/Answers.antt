@@ -1,0 +1,30 @@
+-- state_count: the groups, then the invariants.
+use native.Mathlib.Omega.{arith}
+use Prim.Native.Nat.{ℕ, ◌+◌}
+use Rattle.list.specs.Items.{state_items}
+use Rattle.list.specs.Clauses.{one_hot_width, clauses_of}
+use Rattle.parts.proofs.KnownLaws.{known_bounded}
+use Rattle.counts.specs.Counted.{Counted}
+use Rattle.counts.proofs.CountLaws.{clauses_le, words_le}
+use Rattle.counts.proofs.CountedList.{state_counted}
+use Rattle.counts.proofs.PieceBounds.{state_most}
+use Rattle.counts.proofs.state_count.Goals as goal
+
+counted : (c : goal.After-invariants-count)
+    → let g = c.before.groups-count.result in let i = c.invariants-count.result in
+    (o : ℕ) → Counted (clauses_of (state_items one_hot_width c.before.before.args.m o)) (g.clauses + i.clauses) (g.words + i.words)
+counted c o = state_counted c.before.before.requires o (c.before.groups-count.ensures o) (c.invariants-count.ensures o)
+
+pub groups_count-g-requires : goal.groups_count-g-requires
+groups_count-g-requires c = known_bounded c.requires
+
+pub overflow_add-result : goal.overflow_add-result
+overflow_add-result c =
+    omega (arith, clauses_le (counted c.before.before 0) (state_most c.args.m c.requires.formed 0))
+
+pub overflow_add-result-2 : goal.overflow_add-result-2
+overflow_add-result-2 c =
+    omega (arith, words_le (counted c.before.before.before.before 0) (state_most c.args.m c.requires.formed 0))
+
+pub returns : goal.returns
+returns c = counted c.before.before.before.before

@@ -1,0 +1,116 @@
+-- `assignment_to_run`: the refusals 20, 21, 23, 24, 25, 26 in the report's order, each where its test fails first; then the run.
+use mathlib.Core.Path.{refl, sym, ◌∙◌, ap}
+use lib.ListN.{length}
+use lib.Dec.{eqb}
+use Rattle.model.proofs.IndexedLaws.{T_true, told_false, told_true}
+use borrow.Author.Tests.{lt-ltb, le-ltb, eq-eqb, ne_eqb}
+use Rattle.search.specs.Answer.{found}
+use Rattle.decode.proofs.Reports.{report_20, report_21, report-23, report-24, report-25, report-26, report_0, refused, written}
+use Rattle.decode.proofs.assignment_to_run.Goals as goal
+
+pub returns-then-not-well_formed : goal.returns-then-not-well_formed
+returns-then-not-well_formed c =
+    let args = c.args in
+    let m = args.m in
+    let bound = args.bound in
+    let a-now = args.a.now in
+    let run-now = args.run.now in
+    refused m bound a-now run-now (report_20 m bound a-now (length run-now) (told_false c.well_formed-2.ensures c.if-not-well_formed.taken)) refl
+
+pub returns-then-bound-gt-STEPS : goal.returns-then-bound-gt-STEPS
+returns-then-bound-gt-STEPS c =
+    let args = c.args in
+    let bound = args.bound in
+    let m = args.m in
+    let a-now = args.a.now in
+    let run-now = args.run.now in
+    refused m bound a-now run-now (report_21 m bound a-now (length run-now) (told_true c.well_formed-2.ensures c.if-not-well_formed.left)
+    (lt-ltb 64 bound c.if-bound-gt-STEPS.taken)) refl
+
+pub returns-then-a-variables : goal.returns-then-a-variables
+returns-then-a-variables c =
+    let well_formed_lem = c.well_formed-2 in
+    let args = c.args in
+    let bound = args.bound in
+    let m = args.m in
+    let a-now = args.a.now in
+    let run-now = args.run.now in
+    refused m bound a-now run-now (report-23 m bound a-now (length run-now) (told_true well_formed_lem.ensures c.if-not-well_formed.left)
+    (le-ltb 64 bound c.if-bound-gt-STEPS.left) (ap (eqb (length a-now)) (sym c.variables.ensures) ∙ ne_eqb _ _ c.if-a-variables.taken)) refl
+
+pub returns-in-At : goal.returns-in-At
+returns-in-At c =
+    let well_formed_lem = c.well_formed-2 in
+    let args = c.args in
+    let bound = args.bound in
+    let m = args.m in
+    let a-now = args.a.now in
+    let run-now = args.run.now in
+    refused m bound a-now run-now (report-24 m bound a-now (length run-now) (told_true well_formed_lem.ensures c.if-not-well_formed.left)
+    (le-ltb 64 bound c.if-bound-gt-STEPS.left)
+    (ap (eqb (length a-now)) (sym c.variables.ensures) ∙ eq-eqb _ _ c.if-a-variables.left)
+    (sym c.first_wrong_byte-wrong.ensures ∙ ap found c.wrong-1.given.1)) refl
+
+pub returns-then-run-bound : goal.returns-then-run-bound
+returns-then-run-bound c =
+    let well_formed_lem = c.well_formed-2 in
+    let args = c.args in
+    let bound = args.bound in
+    let m = args.m in
+    let a-now = args.a.now in
+    let run-now = args.run.now in
+    refused m bound a-now run-now (report-25 m bound a-now (length run-now) (told_true well_formed_lem.ensures c.if-not-well_formed.left)
+    (le-ltb 64 bound c.if-bound-gt-STEPS.left)
+    (ap (eqb (length a-now)) (sym c.variables.ensures) ∙ eq-eqb _ _ c.if-a-variables.left)
+    (sym c.first_wrong_byte-wrong.ensures ∙ ap found c.enum_told-1.given.1)
+    (lt-ltb (length run-now) bound c.if-run-bound.taken)) refl
+
+pub first_false-failing-requires : goal.first_false-failing-requires
+first_false-failing-requires c =
+    let well_formed_lem = c.well_formed-2 in (
+      (T_true _).1 (told_true well_formed_lem.ensures c.if-not-well_formed.left),
+      c.if-bound-gt-STEPS.left,
+      c.if-a-variables.left ∙ c.variables.ensures,
+    )
+
+pub returns-in-At-failing : goal.returns-in-At-failing
+returns-in-At-failing c =
+    let well_formed_lem = c.well_formed-2 in
+    let args = c.args in
+    let bound = args.bound in
+    let m = args.m in
+    let a-now = args.a.now in
+    let run-now = args.run.now in
+    refused m bound a-now run-now (report-26 m bound a-now (length run-now) (told_true well_formed_lem.ensures c.if-not-well_formed.left)
+    (le-ltb 64 bound c.if-bound-gt-STEPS.left)
+    (ap (eqb (length a-now)) (sym c.variables.ensures) ∙ eq-eqb _ _ c.if-a-variables.left)
+    (sym c.first_wrong_byte-wrong.ensures ∙ ap found c.enum_told-1.given.1)
+    (le-ltb (length run-now) bound c.if-run-bound.left)
+    (sym c.first_false-failing.ensures ∙ ap found c.failing-1.given.1)) refl
+
+pub put_run-requires : goal.put_run-requires
+put_run-requires c =
+    let if4-left = c.if-run-bound.left in
+    let well_formed_lem = c.well_formed-2 in (
+      (T_true _).1 (told_true well_formed_lem.ensures c.if-not-well_formed.left),
+      c.if-bound-gt-STEPS.left,
+      c.if-a-variables.left ∙ c.variables.ensures,
+      if4-left,
+    )
+
+pub returns : goal.returns
+returns c =
+    let enum-told2 = c.enum_told-in_default-failing-1 in
+    let first-false = c.first_false-failing in
+    let well_formed_lem = c.well_formed-2 in
+    let args = c.args in
+    let bound = args.bound in
+    let m = args.m in
+    let a-now = args.a.now in
+    let run-now = args.run.now in
+    written m bound a-now run-now (report_0 m bound a-now (length run-now) (told_true well_formed_lem.ensures c.if-not-well_formed.left)
+    (le-ltb 64 bound c.if-bound-gt-STEPS.left)
+    (ap (eqb (length a-now)) (sym c.variables.ensures) ∙ eq-eqb _ _ c.if-a-variables.left)
+    (sym c.first_wrong_byte-wrong.ensures ∙ ap found c.enum_told-1.given.1)
+    (le-ltb (length run-now) bound c.if-run-bound.left) (sym first-false.ensures ∙ ap found enum-told2.given.1))
+    c.put_run.ensures

@@ -1,0 +1,56 @@
+-- page: nothing without such a row, such a page or room for it; else written_page.
+use native.Mathlib.Omega.{arith}
+use Prim.Native.Nat.{◌<◌, ◌≤◌}
+use lib.ListN.{length}
+use Rattle.dimacs.specs.Pages.{rows_to_print, pages_to_print}
+use Rattle.dimacs.proofs.PrintLaws.{row_of_file, file_formed, file_small, rows_are, pages_are, no_row, no_page, no_room, some_page}
+use Rattle.dimacs.proofs.PrintLaws.{printed_none, printed_as}
+use Rattle.dimacs.proofs.page.Goals as goal
+
+-- past the first test there is such a row
+in-file : (c : goal.Else-rows_to_print-row → c.before.before.before.args.row < rows_to_print c.before.before.before.args.m c.before.before.before.args.bound
+in-file c = omega (arith, c.before.rows-to-print.ensures.0, c.if1.false)
+
+-- past the second test there is such a page
+in_row : (c : goal.Else-pages_to_print-p → let a = c.before.before.before.before.before.args in a.p < pages_to_print a.m a.bound a.row
+in_row c = omega (arith, c.before.pages-to-print.ensures.0, c.if2.false)
+
+pub returns-then-rows_to_print-row : goal.returns-then-rows_to_print-row
+returns-then-rows_to_print-row c =
+    let a = c.args in
+    let h : rows_to_print a.m a.bound ≤ a.row = omega (arith, c.rows_to_print.ensures.0, c.if-rows_to_print-row.true) in
+    printed_none a.out.now (no_row a.m a.bound a.row a.p (length a.out.now) h)
+
+pub returns-then-pages_to_print-p : goal.returns-then-pages_to_print-p
+returns-then-pages_to_print-p c =
+    let a = c.args in
+    let l : pages_to_print a.m a.bound a.row ≤ a.p = omega (arith, c.pages_to_print.ensures.0, c.if-pages_to_print-p.true) in
+    printed_none a.out.now (no_page a.m a.bound a.row a.p (length a.out.now) (in-file c.before.before) l)
+
+pub returns-then-out-lt-PAGE : goal.returns-then-out-lt-PAGE
+returns-then-out-lt-PAGE c =
+    let a = c.args in
+    printed_none a.out.now (no_room a.m a.bound a.row a.p (length a.out.now) (in-file c.before.before.before) (in_row c.before) c.if-out-lt-PAGE.true)
+
+pub group_table-b-requires : goal.group_table-b-requires
+group_table-b-requires c =
+    let a = c.args in
+    (file_formed a.m a.bound (row_of_file a.m a.bound a.row (in-file c.before.before.before.before)), c.totals-z.ensures)
+
+pub written_page-requires : goal.written_page-requires
+written_page-requires c =
+    let a = c.args in
+    let has = row_of_file a.m a.bound a.row (in-file c.before.before.before.before.before.before) in (
+      record { formed = file_formed a.m a.bound has; is = c.group_table-b.ensures },
+      c.totals-z.ensures,
+      file_small a.m a.bound has,
+      omega (arith, in-file c.before.before.before.before.before.before, rows_are a.m a.bound has),
+      omega (arith, in_row c.before.before.before.before, pages_are a.m a.bound a.row has),
+      omega (arith, c.if-out-lt-PAGE.false),
+    )
+
+pub returns : goal.returns
+returns c =
+    let a = c.args in
+    printed_as (some_page a.m a.bound a.row a.p (length a.out.now) (in-file c.before.before.before.before.before.before.before.before.before) (in_row c.before.before.before.before.before.before.before) c.if-out-lt-PAGE.false)
+    c.written_page.ensures

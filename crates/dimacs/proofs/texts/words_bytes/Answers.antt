@@ -1,0 +1,50 @@
+-- `words_bytes`: the loop has counted the first words, at most 7 bytes each.
+use mathlib.Core.Path.{◌≡◌, sym, ap}
+use Prim.Native.Nat.{◌≤◌, ◌-◌, ◌/◌, ◌^◌}
+use native.Mathlib.Omega.{arith}
+use lib.IntN.{pos}
+use lib.ListN.{length, take, get_or, length-append}
+use Rattle.dimacs.specs.Texts.{text_of, entry_text, entries_text}
+use Rattle.dimacs.proofs.TextLaws.{text_long, entries_none, entries_more, first_at_lem, word_near, entry_known}
+use Rattle.dimacs.proofs.texts.words_bytes.Goals as goal
+
+-- the entry that was read is that of the word
+known : (c : goal.After-entry invariant-loop decreases-loop) →
+    let args = c.before.before.before.before.before.args in
+    let z = get_or args.words.now c.before.before.before.loop.i (pos 0) in
+    let x = c.entry.result in
+    (text_of x ≡ entry_text args.texts.now z) × (2 ≤ x / 2 ^ 56) × (x / 2 ^ 56 ≤ 7)
+known c =
+    let start = c.before.before.before.before.before in
+    let args = start.args in
+    let i = c.before.before.before.loop.i in
+    let has = first_at_lem args.texts.now args.words.now args.n i start.requires.0 (omega arith) start.requires.3 in
+    entry_known args.texts.now has (record { sfits = c.before.entry-arg.given }) c.entry.ensures
+
+pub loop-i-init : goal.loop-i-init
+loop-i-init c = (omega arith, omega arith, sym (ap length (entries_none c.args.texts.now)))
+
+pub entry-requires : goal.entry-requires
+entry-requires c =
+    let args = c.args in
+    let has = first_at_lem args.texts.now args.words.now args.n c.loop-i.i c.requires.0 (omega arith) c.requires.3 in
+    (word_near has (record { sfits = c.entry-arg-1.given }), c.requires.2)
+
+pub overflow_add-bytes : goal.overflow_add-bytes
+overflow_add-bytes c = let most = (known c).2 in omega (arith, most, c.requires.1)
+
+pub loop-i-preserved : goal.loop-i-preserved
+loop-i-preserved c =
+    let texts = c.args.texts.now in
+    let words = c.args.words.now in
+    let i = c.loop-i.i in
+    let is = known c in
+    let most = is.2 in
+    let more = ap length (entries_more texts words i (omega (arith, c.requires.0))) in
+    let sum = length-append (entries_text texts (take i words)) (entry_text texts (get_or words i (pos 0))) in
+    (omega arith, omega (arith, most), omega (arith, more, sum, ap length is.0, text_long c.entry.result))
+
+pub returns : goal.returns
+returns c =
+    let done : c.loop-i.i ≡ c.args.n = omega arith in
+    rw done at c.loop-i.invariant.2

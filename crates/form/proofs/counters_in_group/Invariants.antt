@@ -1,0 +1,15 @@
+-- `counters_in_group`: so far every counter was within its group; the first that is not makes the answer false.
+use Rattle.model.specs.Form.{slot_in_group}
+use Rattle.model.specs.Record.{blank_counter}
+use Rattle.model.specs.Indexed.{all_below}
+use lib.ListN.{get_or}
+use mathlib.Core.Bool.{true}
+use mathlib.Core.Path.{◌≡◌}
+use Prim.Native.Nat.{◌≤◌, ◌-◌}
+use Rattle.form.proofs.counters_in_group.Given as goal
+
+abbrev pub invariant-loop-i : goal.invariant-loop-i
+invariant-loop-i l = (l.i ≤ 4) × (all_below (λ j. slot_in_group l.vars (get_or l.counters j blank_counter).greatest (get_or l.values j 0) j) l.i ≡ true)
+
+abbrev pub decreases-loop-i : goal.decreases-loop-i
+decreases-loop-i l = 4 - l.i

@@ -1,0 +1,5 @@
+-- `ClockUpdate::next`, by the kind of update: the own value, 0, or the value that `slot` gives of the source.
+use Rattle.model.proofs.ClockUpdate.next.Goals as goal
+
+pub returns-in-Copy : goal.returns-in-Copy
+returns-in-Copy c = rw c.self-1.given.1 c.slot.ensures

@@ -1,0 +1,8 @@
+-- `blank` builds the very record that `blank_model` defines.
+use mathlib.Core.Path.{refl}
+use Rattle.model.specs.Record.{blank_model}
+use Rattle.model.proofs.Model.blank.Goals as goal
+
+pub returns : goal.returns
+unfolding blank_model
+returns c = refl

@@ -1,0 +1,20 @@
+-- `Relation::holds`: each relation's test is the definition's.
+use Rattle.model.proofs.Relation.holds.Goals as goal
+
+pub returns-in-Less : goal.returns-in-Less
+returns-in-Less c = rw c.enum_told-1.given.1
+
+pub returns-in-LessEqual : goal.returns-in-LessEqual
+returns-in-LessEqual c = rw c.enum_told-in-LessEqual-1.given.1
+
+pub returns-in-Equal : goal.returns-in-Equal
+returns-in-Equal c = rw c.enum_told-in-Equal-1.given.1
+
+pub returns-in-GreaterEqual : goal.returns-in-GreaterEqual
+returns-in-GreaterEqual c = rw c.enum_told-in-GreaterEqual-1.given.1
+
+pub returns-in-Greater : goal.returns-in-Greater
+returns-in-Greater c = rw c.enum_told-in-Greater-1.given.1
+
+pub returns-in-NotEqual : goal.returns-in-NotEqual
+returns-in-NotEqual c = rw c.enum_told-in-NotEqual-1.given.1

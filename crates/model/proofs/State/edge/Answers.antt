@@ -1,0 +1,48 @@
+-- `edge`: the updates, then the three tests in the order of the definition's conjunction; the first that fails refuses, and all allow.
+use mathlib.Core.Path.{◌≡◌, refl, sym, ◌∙◌, ap}
+use borrow.Author.Tests.{eq-eqb, ne_eqb, not-true, not-false}
+use Rattle.model.specs.declared.Stepped.{Stepped}
+use Rattle.model.specs.Indexed.{only_if}
+use Rattle.model.specs.Automaton.{invariant_holds, edge_allowed, after_edge, edge_step, stepped}
+use Rattle.model.proofs.Answers.{refused, taken, allowed_is, no_update, one_update}
+use Rattle.model.proofs.NewValues.{updated_some, updated_none}
+use Rattle.model.proofs.IndexedLaws.{told_false, told_true}
+use Rattle.model.proofs.State.edge.Goals as goal
+
+-- the answer where no update leaves its range
+answer : (c : goal.Else-not-updated {r : Stepped} →
+    let a = c.before.before.before.before.before.args in
+    let vs = c.before.before.updated.result.values in
+    r ≡ stepped a.self (only_if (edge_allowed a.m a.e a.self vs) (after_edge a.e a.self vs))
+    → r ≡ stepped a.self (edge_step a.m a.e a.self)
+answer c h =
+    let a = c.before.before.before.before.before.args in
+    one_update a.m a.e a.self (updated_some _ _ c.before.before.updated.ensures (not-false _ c.if1.left)) h
+
+pub returns-then-not-updated : goal.returns-then-not-updated
+returns-then-not-updated c =
+    let a = c.args in
+    no_update a.m a.e a.self (updated_none _ _ c.updated-updated.ensures (not-true _ c.if-not-updated.taken))
+
+pub returns-then-self-e : goal.returns-then-self-e
+returns-then-self-e c =
+    answer c.before.before.before.before.before (refused _ _ _ (allowed_is _ _ _ _ (ne_eqb _ _ c.if-self-e.taken) refl refl))
+
+pub returns-then-not-all_hold : goal.returns-then-not-all_hold
+returns-then-not-all_hold c =
+    answer c.before.before.before.before.before.before.before.before (refused _ _ _ (allowed_is _ _ _ _ (eq-eqb _ _ c.if-self-e.left) (told_false c.all_hold.ensures c.if-not-all_hold.taken) refl))
+
+pub returns-then-not-invariant_holds : goal.returns-then-not-invariant_holds
+returns-then-not-invariant_holds c =
+    let after-edge = c.after_edge-next in
+    answer c.before.before.before.before.before.before.before.before.before.before (refused _ _ _
+    (allowed_is _ _ _ _ (eq-eqb _ _ c.if-self-e.left) (told_true c.all_hold.ensures c.if-not-all_hold.left)
+    (ap (invariant_holds _) (sym after-edge.ensures) ∙ told_false c.invariant_holds.ensures c.if-not-invariant_holds.taken)))
+
+pub returns : goal.returns
+returns c =
+    let after-edge = c.after_edge-next in
+    answer c.before.before.before.before.before.before.before.before.before.before (taken _ _ _ _
+    (allowed_is _ _ _ _ (eq-eqb _ _ c.if-self-e.left) (told_true c.all_hold.ensures c.if-not-all_hold.left)
+    (ap (invariant_holds _) (sym after-edge.ensures) ∙ told_true c.invariant_holds.ensures c.if-not-invariant_holds.left))
+    after-edge.ensures)

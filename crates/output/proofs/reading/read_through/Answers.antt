@@ -1,0 +1,80 @@
+-- `read_through`: each turn of the loop judges the line up to the next LF. The invariant is `Passing`, and that at most i lines were judged:
+-- what is left, judged from here, comes to the whole text. A fault ends it, since no token changes a reading with a fault.
+use Prim.Native.Nat.{◌-◌, ◌+◌, ◌≤◌, ◌<◌}
+use mathlib.Core.Path.{◌≡◌, sym, ap, ◌∙◌}
+use mathlib.Core.Bool.{false}
+use mathlib.Core.List.{foldl}
+use native.Mathlib.Omega.{arith}
+use lib.ListN.{take, drop}
+use borrow.Author.Tests.{not-true}
+use Rattle.output.specs.Tokens.{part_tokens, tokens_of}
+use Rattle.output.specs.OutputCall.{is_no_fault}
+use Rattle.output.specs.Counting.{literal_up_to, no_reading, count}
+use Rattle.output.specs.declared.lines.LineForm.TheVariants.{Malformed}
+use Rattle.output.specs.declared.reading.Reading.{Reading}
+use Rattle.output.proofs.TokenLaws.{tokens_by_line, last_none, last_some, fault_stays, line_grows, one_line}
+use Rattle.output.proofs.TokenLaws.{Passing, pass_none, pass_last, pass_more, pass_stays}
+use Rattle.output.proofs.reading.read_through.Goals as goal
+
+-- a line more
+turned : (c : goal.After-judge-whole-line invariant-loop decreases-loop)
+    → let at-find = c.before.before.before in
+    let a = at-find.before.before.before.before.args in
+    let r = c.judge-whole-line.result in
+    let e = at-find.find.result in
+    Passing (count a.most a.limit) (part_tokens (literal_up_to a.most)) no_reading a.text.now r (e + 1) × (r.line ≤ e + 1)
+turned c =
+    let at-find = c.before.before.before in
+    let loop = at-find.before.loop in
+    let a = at-find.before.before.before.before.args in
+    let first = at-find.find.ensures in
+    let l = take (at-find.find.result - loop.i) (drop loop.i a.text.now) in
+    let line = ap (λ (r : Reading). r.line) c.judge-whole-line.ensures in (
+      pass_more loop.invariant.0 (tokens_by_line _) first c.judge-whole-line.ensures c.before.before.if1.false,
+      omega (arith, line, one_line a.most a.limit (literal_up_to a.most) l loop.r, loop.invariant.1, first.low),
+    )
+
+pub loop-r-init : goal.loop-r-init
+loop-r-init c = (pass_none c.none-r.ensures, rw c.none-r.ensures (omega arith))
+
+pub find-e-requires : goal.find-e-requires
+find-e-requires c = c.loop-r.invariant.0.within
+
+pub returns-then-i-e : goal.returns-then-i-e
+unfolding tokens_of
+returns-then-i-e c =
+    let loop = c.loop-r in
+    let a = c.args in
+    let nothing = ap (foldl (count a.most a.limit) loop.r) (sym (last_none a.text.now c.if-i-e.true)) in
+    (nothing ∙ pass_last loop.invariant.0 (tokens_by_line _) c.find-e.ensures c.if-e-text.true, omega (arith, loop.invariant.1, loop.invariant.0.within))
+
+pub returns-then-e-text : goal.returns-then-e-text
+unfolding tokens_of
+returns-then-e-text c =
+    let loop = c.loop-r in
+    let a = c.args in
+    let first = c.find-e.ensures in
+    let some : loop.i < c.find-e.result = omega (arith, first.low, c.if-i-e.false) in
+    let one = ap (foldl (count a.most a.limit) loop.r) (sym (last_some a.text.now some first.high)) in
+    let line = ap (λ (r : Reading). r.line) c.judge_line.ensures in (
+      c.judge_line.ensures ∙ one ∙ pass_last loop.invariant.0 (tokens_by_line _) first c.if-e-text.true,
+      omega (arith, line, line_grows Malformed loop.r, loop.invariant.1, some, first.high),
+    )
+
+pub returns-then-not-is_none : goal.returns-then-not-is_none
+unfolding tokens_of
+returns-then-not-is_none c =
+    let a = c.args in
+    let r = c.judge_whole_line-r.result in
+    let fault : is_no_fault r.fault ≡ false = sym c.is_none.ensures ∙ not-true _ c.if-not-is_none.true-raw in
+    let after = turned c.before.before in
+    (pass_stays after.0 (fault_stays a.most a.limit r fault), omega (arith, after.1, after.0.within))
+
+pub overflow_add-i : goal.overflow_add-i
+overflow_add-i c = omega (arith, c.if-e-text.false)
+
+pub loop-r-smaller : goal.loop-r-smaller
+loop-r-smaller c = omega (arith, c.if-e-text.false)
+
+pub loop-r-preserved : goal.loop-r-preserved
+loop-r-preserved c = turned c.before.before

@@ -1,0 +1,37 @@
+-- `refute`: emission's refusal, or the outcome for the words that it leaves; one law for each case of its answer.
+use Rattle.refute.proofs.RefuteLaws.{after_is}
+use mathlib.Core.Path.{refl}
+use Rattle.refute.proofs.refute.Goals as goal
+
+pub returns-in-NotWellFormed : goal.returns-in-NotWellFormed
+returns-in-NotWellFormed c =
+    let args = c.args in
+    let emit = c.emit-written in
+    let a = args in
+    let told = emit.ensures in
+    (after_is a.m a.bound a.words.now _ a.hints.now c.enum_told-1.given.1 told.0 told.1 refl, told.1)
+
+pub returns-in-BoundTooLarge : goal.returns-in-BoundTooLarge
+returns-in-BoundTooLarge c =
+    let args = c.args in
+    let emit = c.emit-written in
+    let a = args in
+    let told = emit.ensures in
+    (after_is a.m a.bound a.words.now _ a.hints.now c.enum_told-in-BoundTooLarge-1.given.1 told.0 told.1 refl, told.1)
+
+pub returns-in-BufferTooShort : goal.returns-in-BufferTooShort
+returns-in-BufferTooShort c =
+    let args = c.args in
+    let emit = c.emit-written in
+    let a = args in
+    let told = emit.ensures in
+    (after_is a.m a.bound a.words.now _ a.hints.now c.written-1.given.1 told.0 told.1 refl, told.1)
+
+pub returns-in-Written : goal.returns-in-Written
+returns-in-Written c =
+    let args = c.args in
+    let emit = c.emit-written in
+    let written2 = c.written-in-Written-1 in
+    let a = args in
+    let told = emit.ensures in
+    (after_is a.m a.bound a.words.now _ a.hints.now written2.given.1 told.0 told.1 c.checked.ensures, told.1)

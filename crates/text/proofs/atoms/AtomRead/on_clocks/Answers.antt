@@ -1,0 +1,5 @@
+-- `on_clocks`: case by case; the atom is what the match says.
+use Rattle.text.proofs.atoms.AtomRead.on_clocks.Goals as goal
+
+pub returns-in-ClockAtom : goal.returns-in-ClockAtom
+returns-in-ClockAtom c = rw c.self-1.given.1

@@ -1,0 +1,5 @@
+-- `is_undeclared`: a number is read, or not.
+use Rattle.text.proofs.line.is_undeclared.Goals as goal
+
+pub returns-in-Number : goal.returns-in-Number
+returns-in-Number c = rw c.n-1.given.1

@@ -1,0 +1,8 @@
+-- `is_undeclared`: case by case; the item is what the match says.
+use Rattle.text.proofs.resets.ResetRead.is_undeclared.Goals as goal
+
+pub returns-in-ToZero : goal.returns-in-ToZero
+returns-in-ToZero c = rw c.self-1.given.1
+
+pub returns-in-ToCopy : goal.returns-in-ToCopy
+returns-in-ToCopy c = rw c.self-in-ToCopy-1.given.1

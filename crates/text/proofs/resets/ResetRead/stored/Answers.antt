@@ -1,0 +1,5 @@
+-- `stored`: case by case; the number of a clock copied is narrowed to a byte.
+use Rattle.text.proofs.resets.ResetRead.stored.Goals as goal
+
+pub returns-in-ToCopy : goal.returns-in-ToCopy
+returns-in-ToCopy c = rw (c.self-1.given.1, c.narrow.ensures)

@@ -1,0 +1,8 @@
+-- `is_undeclared`: case by case; the item is what the match says.
+use Rattle.text.proofs.updates.SetRead.is_undeclared.Goals as goal
+
+pub returns-in-ToConstant : goal.returns-in-ToConstant
+returns-in-ToConstant c = rw c.self-1.given.1
+
+pub returns-in-ToSum : goal.returns-in-ToSum
+returns-in-ToSum c = rw c.self-in-ToSum-1.given.1

@@ -1,0 +1,5 @@
+-- `set_named`: the counter is read, or not.
+use Rattle.text.proofs.updates.set_named.Goals as goal
+
+pub returns-in-Number : goal.returns-in-Number
+returns-in-Number c = rw c.v-1.given.1 c.set_to.ensures

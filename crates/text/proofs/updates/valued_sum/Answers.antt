@@ -1,0 +1,5 @@
+-- `valued_sum`: the offset is read, or not.
+use Rattle.text.proofs.updates.valued_sum.Goals as goal
+
+pub returns-in-Number : goal.returns-in-Number
+returns-in-Number c = rw c.n-1.given.1 c.signed_sum.ensures
