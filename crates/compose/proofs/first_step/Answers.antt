@@ -4,16 +4,16 @@ use Rattle.compose.proofs.first_step.Goals as goal
 
 pub overflow_add-result-in-FirstAlone : goal.overflow_add-result-in-FirstAlone
 overflow_add-result-in-FirstAlone c =
-    let small = rw c.way-1.given.1 at c.requires.1 in
+    let small = rw c.in-FirstAlone.is at c.requires.1 in
     record { fits = omega (arith, small) }
 
 pub overflow_add-result-in-Together-2 : goal.overflow_add-result-in-Together-2
 overflow_add-result-in-Together-2 c =
-    let small = rw c.way-in-Together-1.given.1 at c.requires.1 in
+    let small = rw c.in-Together.is at c.requires.1 in
     record { fits = omega (arith, small) }
 
 pub returns-in-FirstAlone : goal.returns-in-FirstAlone
-returns-in-FirstAlone c = rw c.way-1.given.1
+returns-in-FirstAlone c = rw c.in-FirstAlone.is
 
 pub returns-in-Together : goal.returns-in-Together
-returns-in-Together c = rw c.way-in-Together-1.given.1
+returns-in-Together c = rw c.in-Together.is

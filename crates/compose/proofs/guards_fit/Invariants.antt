@@ -7,7 +7,7 @@ use Rattle.compose.specs.Composed.{guard_fits}
 use Rattle.compose.proofs.guards_fit.Given as goal
 
 abbrev pub invariant-loop-e : goal.invariant-loop-e
-invariant-loop-e l = (l.e ≤ l.a.used) × (all_below (λ l.e. all_below (guard_fits l.a l.b l.e) l.b.used) l.e ≡ true)
+invariant-loop-e l = (l.e ≤ l.a.used) × (all_below (λ e'. all_below (guard_fits l.a l.b e') l.b.used) l.e ≡ true)
 
 abbrev pub decreases-loop-e : goal.decreases-loop-e
 decreases-loop-e l = l.a.used - l.e

@@ -18,7 +18,7 @@ slot a b = in_two a.vars (counter_at a) (counter_at b)
 
 pub loop-i-init : goal.loop-i-init
 loop-i-init c =
-    (search rules, (lengths c.args.a _ c.well_formed_lem.0).counters, filled_none _ _ _)
+    (search rules, (lengths c.args.a _ c.well_formed.0).counters, filled_none _ _ _)
 
 pub loop-i-preserved : goal.loop-i-preserved
 loop-i-preserved c =

@@ -4,16 +4,16 @@ use Rattle.compose.proofs.second_step.Goals as goal
 
 pub overflow_add-result-in-SecondAlone : goal.overflow_add-result-in-SecondAlone
 overflow_add-result-in-SecondAlone c =
-    let small = rw c.way-1.given.1 at c.requires.1 in
+    let small = rw c.in-SecondAlone.is at c.requires.1 in
     record { fits = omega (arith, small) }
 
 pub overflow_add-result-in-Together-2 : goal.overflow_add-result-in-Together-2
 overflow_add-result-in-Together-2 c =
-    let small = rw c.way-in-Together-1.given.1 at c.requires.1 in
+    let small = rw c.in-Together.is at c.requires.1 in
     record { fits = omega (arith, small) }
 
 pub returns-in-SecondAlone : goal.returns-in-SecondAlone
-returns-in-SecondAlone c = rw c.way-1.given.1
+returns-in-SecondAlone c = rw c.in-SecondAlone.is
 
 pub returns-in-Together : goal.returns-in-Together
-returns-in-Together c = rw c.way-in-Together-1.given.1
+returns-in-Together c = rw c.in-Together.is

@@ -8,8 +8,8 @@ use Rattle.counts.specs.CountsCall.{list_report, list_reported}
 use Rattle.counts.proofs.counts_of.Goals as goal
 
 -- past the first test the record is well formed
-accepted : (c : goal.Else-bound-gt-STEPS → well_formed c.before.before.before.args.m ≡ true
-accepted c = sym c.before.before.well-formed-2.ensures ∙ not-false _ c.before.if1.false
+accepted : (c : goal.Else-bound-gt-STEPS) → well_formed c.args.m ≡ true
+accepted c = sym c.well_formed-2.ensures ∙ not-false _ c.if-not-well_formed.false-raw
 
 pub returns-then-not-well_formed : goal.returns-then-not-well_formed
 unfolding list_report
@@ -29,5 +29,5 @@ list_counts-n-requires c =
 pub returns : goal.returns
 unfolding list_report
 returns c =
-    let n = c.list_Counts.ensures in
+    let n = c.list_counts-n.ensures in
     rw (accepted c.before.before.before, le-ltb _ _ c.if-bound-gt-STEPS.false) (λ i. list_reported 0 (n.variables i) (n.clauses i) (n.words i))

@@ -12,7 +12,7 @@ use Rattle.counts.proofs.CountedList.{moves_counted}
 use Rattle.counts.proofs.PieceBounds.{moves_most}
 use Rattle.counts.proofs.moves_count.Goals as goal
 
-delays-le : (c : goal.Start → (c.args.b.top + 1) * c.args.b.state ≤ 8704
+delays-le : (c : goal.Start) → (c.args.b.top + 1) * c.args.b.state ≤ 8704
 delays-le c =
     let h = known_bounded c.requires in
     let t : c.args.b.top + 1 ≤ 32 = omega (arith, h.top_le) in

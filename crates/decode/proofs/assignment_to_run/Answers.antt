@@ -15,7 +15,7 @@ returns-then-not-well_formed c =
     let bound = args.bound in
     let a-now = args.a.now in
     let run-now = args.run.now in
-    refused m bound a-now run-now (report_20 m bound a-now (length run-now) (told_false c.well_formed-2.ensures c.if-not-well_formed.taken)) refl
+    refused m bound a-now run-now (report_20 m bound a-now (length run-now) (told_false c.well_formed-2.ensures c.if-not-well_formed.true-raw)) refl
 
 pub returns-then-bound-gt-STEPS : goal.returns-then-bound-gt-STEPS
 returns-then-bound-gt-STEPS c =
@@ -24,8 +24,8 @@ returns-then-bound-gt-STEPS c =
     let m = args.m in
     let a-now = args.a.now in
     let run-now = args.run.now in
-    refused m bound a-now run-now (report_21 m bound a-now (length run-now) (told_true c.well_formed-2.ensures c.if-not-well_formed.left)
-    (lt-ltb 64 bound c.if-bound-gt-STEPS.taken)) refl
+    refused m bound a-now run-now (report_21 m bound a-now (length run-now) (told_true c.well_formed-2.ensures c.if-not-well_formed.false-raw)
+    (lt-ltb 64 bound c.if-bound-gt-STEPS.true)) refl
 
 pub returns-then-a-variables : goal.returns-then-a-variables
 returns-then-a-variables c =
@@ -35,8 +35,8 @@ returns-then-a-variables c =
     let m = args.m in
     let a-now = args.a.now in
     let run-now = args.run.now in
-    refused m bound a-now run-now (report-23 m bound a-now (length run-now) (told_true well_formed_lem.ensures c.if-not-well_formed.left)
-    (le-ltb 64 bound c.if-bound-gt-STEPS.left) (ap (eqb (length a-now)) (sym c.variables.ensures) ∙ ne_eqb _ _ c.if-a-variables.taken)) refl
+    refused m bound a-now run-now (report-23 m bound a-now (length run-now) (told_true well_formed_lem.ensures c.if-not-well_formed.false-raw)
+    (le-ltb 64 bound c.if-bound-gt-STEPS.false) (ap (eqb (length a-now)) (sym c.variables.ensures) ∙ ne_eqb _ _ c.if-a-variables.true)) refl
 
 pub returns-in-At : goal.returns-in-At
 returns-in-At c =
@@ -46,10 +46,10 @@ returns-in-At c =
     let m = args.m in
     let a-now = args.a.now in
     let run-now = args.run.now in
-    refused m bound a-now run-now (report-24 m bound a-now (length run-now) (told_true well_formed_lem.ensures c.if-not-well_formed.left)
-    (le-ltb 64 bound c.if-bound-gt-STEPS.left)
-    (ap (eqb (length a-now)) (sym c.variables.ensures) ∙ eq-eqb _ _ c.if-a-variables.left)
-    (sym c.first_wrong_byte-wrong.ensures ∙ ap found c.wrong-1.given.1)) refl
+    refused m bound a-now run-now (report-24 m bound a-now (length run-now) (told_true well_formed_lem.ensures c.if-not-well_formed.false-raw)
+    (le-ltb 64 bound c.if-bound-gt-STEPS.false)
+    (ap (eqb (length a-now)) (sym c.variables.ensures) ∙ eq-eqb _ _ c.if-a-variables.false)
+    (sym c.first_wrong_byte-wrong.ensures ∙ ap found c.in-At.is)) refl
 
 pub returns-then-run-bound : goal.returns-then-run-bound
 returns-then-run-bound c =
@@ -59,18 +59,18 @@ returns-then-run-bound c =
     let m = args.m in
     let a-now = args.a.now in
     let run-now = args.run.now in
-    refused m bound a-now run-now (report-25 m bound a-now (length run-now) (told_true well_formed_lem.ensures c.if-not-well_formed.left)
-    (le-ltb 64 bound c.if-bound-gt-STEPS.left)
-    (ap (eqb (length a-now)) (sym c.variables.ensures) ∙ eq-eqb _ _ c.if-a-variables.left)
-    (sym c.first_wrong_byte-wrong.ensures ∙ ap found c.enum_told-1.given.1)
-    (lt-ltb (length run-now) bound c.if-run-bound.taken)) refl
+    refused m bound a-now run-now (report-25 m bound a-now (length run-now) (told_true well_formed_lem.ensures c.if-not-well_formed.false-raw)
+    (le-ltb 64 bound c.if-bound-gt-STEPS.false)
+    (ap (eqb (length a-now)) (sym c.variables.ensures) ∙ eq-eqb _ _ c.if-a-variables.false)
+    (sym c.first_wrong_byte-wrong.ensures ∙ ap found c.in_default.is)
+    (lt-ltb (length run-now) bound c.if-run-bound.true)) refl
 
 pub first_false-failing-requires : goal.first_false-failing-requires
 first_false-failing-requires c =
     let well_formed_lem = c.well_formed-2 in (
-      (T_true _).1 (told_true well_formed_lem.ensures c.if-not-well_formed.left),
-      c.if-bound-gt-STEPS.left,
-      c.if-a-variables.left ∙ c.variables.ensures,
+      (T_true _).1 (told_true well_formed_lem.ensures c.if-not-well_formed.false-raw),
+      c.if-bound-gt-STEPS.false,
+      c.if-a-variables.false ∙ c.variables.ensures,
     )
 
 pub returns-in-At-failing : goal.returns-in-At-failing
@@ -81,26 +81,25 @@ returns-in-At-failing c =
     let m = args.m in
     let a-now = args.a.now in
     let run-now = args.run.now in
-    refused m bound a-now run-now (report-26 m bound a-now (length run-now) (told_true well_formed_lem.ensures c.if-not-well_formed.left)
-    (le-ltb 64 bound c.if-bound-gt-STEPS.left)
-    (ap (eqb (length a-now)) (sym c.variables.ensures) ∙ eq-eqb _ _ c.if-a-variables.left)
-    (sym c.first_wrong_byte-wrong.ensures ∙ ap found c.enum_told-1.given.1)
-    (le-ltb (length run-now) bound c.if-run-bound.left)
-    (sym c.first_false-failing.ensures ∙ ap found c.failing-1.given.1)) refl
+    refused m bound a-now run-now (report-26 m bound a-now (length run-now) (told_true well_formed_lem.ensures c.if-not-well_formed.false-raw)
+    (le-ltb 64 bound c.if-bound-gt-STEPS.false)
+    (ap (eqb (length a-now)) (sym c.variables.ensures) ∙ eq-eqb _ _ c.if-a-variables.false)
+    (sym c.first_wrong_byte-wrong.ensures ∙ ap found c.in_default.is)
+    (le-ltb (length run-now) bound c.if-run-bound.false)
+    (sym c.first_false-failing.ensures ∙ ap found c.in-At-failing.is)) refl
 
 pub put_run-requires : goal.put_run-requires
 put_run-requires c =
-    let if4-left = c.if-run-bound.left in
+    let if4-left = c.if-run-bound.false in
     let well_formed_lem = c.well_formed-2 in (
-      (T_true _).1 (told_true well_formed_lem.ensures c.if-not-well_formed.left),
-      c.if-bound-gt-STEPS.left,
-      c.if-a-variables.left ∙ c.variables.ensures,
+      (T_true _).1 (told_true well_formed_lem.ensures c.if-not-well_formed.false-raw),
+      c.if-bound-gt-STEPS.false,
+      c.if-a-variables.false ∙ c.variables.ensures,
       if4-left,
     )
 
 pub returns : goal.returns
 returns c =
-    let enum-told2 = c.enum_told-in_default-failing-1 in
     let first-false = c.first_false-failing in
     let well_formed_lem = c.well_formed-2 in
     let args = c.args in
@@ -108,9 +107,9 @@ returns c =
     let m = args.m in
     let a-now = args.a.now in
     let run-now = args.run.now in
-    written m bound a-now run-now (report_0 m bound a-now (length run-now) (told_true well_formed_lem.ensures c.if-not-well_formed.left)
-    (le-ltb 64 bound c.if-bound-gt-STEPS.left)
-    (ap (eqb (length a-now)) (sym c.variables.ensures) ∙ eq-eqb _ _ c.if-a-variables.left)
-    (sym c.first_wrong_byte-wrong.ensures ∙ ap found c.enum_told-1.given.1)
-    (le-ltb (length run-now) bound c.if-run-bound.left) (sym first-false.ensures ∙ ap found enum-told2.given.1))
+    written m bound a-now run-now (report_0 m bound a-now (length run-now) (told_true well_formed_lem.ensures c.if-not-well_formed.false-raw)
+    (le-ltb 64 bound c.if-bound-gt-STEPS.false)
+    (ap (eqb (length a-now)) (sym c.variables.ensures) ∙ eq-eqb _ _ c.if-a-variables.false)
+    (sym c.first_wrong_byte-wrong.ensures ∙ ap found c.in_default.is)
+    (le-ltb (length run-now) bound c.if-run-bound.false) (sym first-false.ensures ∙ ap found c.in_default-failing.is))
     c.put_run.ensures

@@ -8,12 +8,12 @@ use Rattle.dimacs.proofs.PrintLaws.{printed_none, printed_as}
 use Rattle.dimacs.proofs.page.Goals as goal
 
 -- past the first test there is such a row
-in-file : (c : goal.Else-rows_to_print-row → c.before.before.before.args.row < rows_to_print c.before.before.before.args.m c.before.before.before.args.bound
-in-file c = omega (arith, c.before.rows-to-print.ensures.0, c.if1.false)
+in-file : (c : goal.Else-rows_to_print-row) → c.args.row < rows_to_print c.args.m c.args.bound
+in-file c = omega (arith, c.rows_to_print.ensures.0, c.if-rows_to_print-row.false)
 
 -- past the second test there is such a page
-in_row : (c : goal.Else-pages_to_print-p → let a = c.before.before.before.before.before.args in a.p < pages_to_print a.m a.bound a.row
-in_row c = omega (arith, c.before.pages-to-print.ensures.0, c.if2.false)
+in_row : (c : goal.Else-pages_to_print-p) → let a = c.args in a.p < pages_to_print a.m a.bound a.row
+in_row c = omega (arith, c.pages_to_print.ensures.0, c.if-pages_to_print-p.false)
 
 pub returns-then-rows_to_print-row : goal.returns-then-rows_to_print-row
 returns-then-rows_to_print-row c =

@@ -8,8 +8,8 @@ use Rattle.dimacs.proofs.PrintLaws.{file_small, rows_none, rows_are}
 use Rattle.dimacs.proofs.rows_to_print.Goals as goal
 
 -- past the test there is a file
-has : (c : goal.Else-not-has_file → has_file c.before.before.args.m c.before.before.args.bound ≡ true
-has c = sym c.before.has-file.ensures ∙ not-false _ c.if1.false
+has : (c : goal.Else-not-has_file) → has_file c.args.m c.args.bound ≡ true
+has c = sym c.has_file.ensures ∙ not-false _ c.if-not-has_file.false-raw
 
 pub returns-then-not-has_file : goal.returns-then-not-has_file
 returns-then-not-has_file c =

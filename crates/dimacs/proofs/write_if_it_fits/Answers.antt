@@ -26,7 +26,7 @@ bytes_needed-needed-requires c =
     let pre = c.requires in
     let table : Known c.args.m c.group_table-b.result =
     record { formed = pre.0; is = c.group_table-b.ensures } in
-    (table, pre.1, c.before.before.before.before.before.before.before.list_Counts.ensures, c.list_counts-one.ensures, lent table, pre.2, omega arith, omega arith)
+    (table, pre.1, c.list_counts-n.ensures, c.list_counts-one.ensures, lent table, pre.2, omega arith, omega arith)
 
 pub returns-then-room-needed : goal.returns-then-room-needed
 returns-then-room-needed c =
@@ -47,7 +47,7 @@ put_file-bytes-requires c =
     let room = has_room a.m a.bound a.out.now ok pre.2 needed.result needed.ensures.0 c.if-room-needed.false in (
       table,
       pre.1,
-      c.before.before.before.before.before.before.before.before.before.before.before.before.before.before.list_Counts.ensures,
+      c.list_counts-n.ensures,
       c.list_counts-one.ensures,
       lent table,
       pre.2,

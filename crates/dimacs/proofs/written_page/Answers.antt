@@ -10,7 +10,7 @@ put_page-requires c =
     let a = c.args in
     let p = c.requires in
     let most = page_most a.m p.0.formed a.bound p.2 a.row a.p p.3 p.4 in
-    (p.0, p.1, c.before.before.before.before.before.before.before.list_Counts.ensures, lent p.0, p.2, p.3, p.4, omega arith, omega arith, page_room most p.5)
+    (p.0, p.1, c.list_counts-n.ensures, lent p.0, p.2, p.3, p.4, omega arith, omega arith, page_room most p.5)
 
 pub returns : goal.returns
 returns c =

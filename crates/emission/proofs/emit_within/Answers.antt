@@ -11,8 +11,8 @@ use mathlib.Core.Path.{◌≡◌, sym, ◌∙◌}
 use Rattle.emission.proofs.emit_within.Goals as goal
 
 -- past the first two tests the record is well formed
-formed_is : (c : goal.Else-bound-gt-STEPS → well_formed c.before.before.before.before.args.m ≡ true
-formed_is c = sym c.before.before.well-formed-2.ensures ∙ not-false _ c.before.if1.false
+formed_is : (c : goal.Else-bound-gt-STEPS) → well_formed c.args.m ≡ true
+formed_is c = sym c.well_formed-2.ensures ∙ not-false _ c.if-not-well_formed.false-raw
 
 pub returns-then-not-well_formed : goal.returns-then-not-well_formed
 returns-then-not-well_formed c =
@@ -38,7 +38,7 @@ list_counts-n-requires c =
 
 pub returns-then-room-words : goal.returns-then-room-words
 returns-then-room-words c =
-    let n = c.before.list_Counts in
+    let n = c.list_counts-n in
     let a = c.args in
     let x = room_is _ _ c.smaller-room.ensures
     (refused_22 a.m a.bound c.smaller-room.result a.out.now (formed_is c.before.before.before.before) c.if-bound-gt-STEPS.false n.result n.ensures c.if-room-words.true) in
@@ -46,7 +46,7 @@ returns-then-room-words c =
 
 pub put_list-requires : goal.put_list-requires
 put_list-requires c =
-    let n = c.before.before.list_Counts in
+    let n = c.list_counts-n in
     let a = c.args in
     let l : n.result.words ≤ length a.out.now = omega (arith, c.smaller-room.ensures, c.if-room-words.false) in (
       record { formed = (T_true _).1 (formed_is c.before.before.before.before.before); is = c.group_table-b.ensures },
@@ -57,7 +57,7 @@ put_list-requires c =
 
 pub returns : goal.returns
 returns c =
-    let n = c.before.before.before.before.list_Counts in
+    let n = c.list_counts-n in
     let a = c.args in
     let x = room_is _ _ c.smaller-room.ensures
     (accepted a.m a.bound c.smaller-room.result a.out.now (formed_is c.before.before.before.before.before.before.before) c.if-bound-gt-STEPS.false n.result n.ensures c.if-room-words.false _ _

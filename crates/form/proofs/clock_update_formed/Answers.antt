@@ -2,4 +2,4 @@
 use Rattle.form.proofs.clock_update_formed.Goals as goal
 
 pub returns-in-Copy : goal.returns-in-Copy
-returns-in-Copy c = rw c.u-1.given.1
+returns-in-Copy c = rw c.in-Copy.is

@@ -9,8 +9,8 @@ use Rattle.form.proofs.FormParts.{slot_is}
 use Rattle.form.proofs.order_slot_formed.Goals as goal
 
 -- the slot is used
-used : (c : goal.Else-k-n → ltb c.before.before.args.k (listed c.before.before.args.t1) ≡ true
-used c = ap (ltb c.before.before.args.k) (sym c.before.before.requires.0) ∙ lt-ltb _ _ c.if1.false
+used : (c : goal.Else-k-n) → ltb c.args.k (listed c.args.e) ≡ true
+used c = ap (ltb c.args.k) (sym c.requires.0) ∙ lt-ltb _ _ c.if-k-n.false
 
 pub returns-then-k-n : goal.returns-then-k-n
 returns-then-k-n c =

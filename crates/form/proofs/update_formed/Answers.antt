@@ -10,14 +10,12 @@ use borrow.Author.Rules.{rules}
 use Rattle.form.proofs.update_formed.Goals as goal
 
 pub returns-in-Constant : goal.returns-in-Constant
-returns-in-Constant c = rw c.u-1.given.1
+returns-in-Constant c = rw c.in-Constant.is
 
 pub returns-then-source-vars : goal.returns-then-source-vars
 returns-then-source-vars c =
-    let u2 = c.u-in-Sum-1 in
-    let v = u2.given.0 in
-    let back : to_z w8 (of_z w8 v.1.0) ≡ v.1.0 = search rules in
-    rw (u2.given.1, lt-ltb _ _ c.if-source-vars.true) (ap (λ (n : ℕ). leb n 31) (c.amount.ensures ∙ ap nat_abs back))
+    let back : to_z w8 (of_z w8 c.in-Sum.offset) ≡ c.in-Sum.offset = search rules in
+    rw (c.in-Sum.is, lt-ltb _ _ c.if-source-vars.true) (ap (λ (n : ℕ). leb n 31) (c.amount.ensures ∙ ap nat_abs back))
 
 pub returns-else-source-vars : goal.returns-else-source-vars
-returns-else-source-vars c = rw (c.u-in-Sum-1.given.1, le-ltb _ _ c.if-source-vars.false)
+returns-else-source-vars c = rw (c.in-Sum.is, le-ltb _ _ c.if-source-vars.false)

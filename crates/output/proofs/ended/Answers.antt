@@ -2,13 +2,13 @@
 use Rattle.output.proofs.ended.Goals as goal
 
 pub returns-in-BeforeStatus : goal.returns-in-BeforeStatus
-returns-in-BeforeStatus c = rw c.enum_told-1.given.1
+returns-in-BeforeStatus c = rw c.in-BeforeStatus.is
 
 pub returns-in-InValues : goal.returns-in-InValues
-returns-in-InValues c = rw c.enum_told-in-InValues-1.given.1
+returns-in-InValues c = rw c.in-InValues.is
 
 pub returns-in-Closed : goal.returns-in-Closed
-returns-in-Closed c = rw c.enum_told-in-Closed-1.given.1
+returns-in-Closed c = rw c.in-Closed.is
 
 pub returns-in-Refuted : goal.returns-in-Refuted
-returns-in-Refuted c = rw c.enum_told-in-Refuted-1.given.1
+returns-in-Refuted c = rw c.in-Refuted.is

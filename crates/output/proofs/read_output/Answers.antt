@@ -12,16 +12,16 @@ use Rattle.output.proofs.LiteralLaws.{counted_same}
 use Rattle.output.proofs.read_output.Goals as goal
 
 -- the literals that were looked at are those counted by the first pass
-looked : (c : goal.After-fresh-fresh
-    → let args = c.before.before.before.args in
-    c.fresh.result
-    ≡ fresh_after [] (take c.before.read_through.result.named (literals_in (tokens_of (literal_up_to args.most) args.text.now)))
+looked : (c : goal.After-fresh-fresh)
+    → let args = c.args in
+    c.fresh-fresh.result
+    ≡ fresh_after [] (take c.read_through-first.result.named (literals_in (tokens_of (literal_up_to args.most) args.text.now)))
 looked c =
-    let args = c.before.before.before.args in
-    let first = c.before.read_through in
+    let args = c.args in
+    let first = c.read_through-first in
     let many = ap (λ (r : Reading). r.named) first.ensures.0 in
     let same = counted_same args.most args.most (literal_up_to args.most) args.text.now first.result.named no_reading (omega (arith, many)) in
-    c.fresh.ensures ∙ ap (fresh_after []) (sym same)
+    c.fresh-fresh.ensures ∙ ap (fresh_after []) (sym same)
 
 pub returns-then-fresh-first : goal.returns-then-fresh-first
 returns-then-fresh-first c =

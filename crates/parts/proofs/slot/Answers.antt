@@ -5,4 +5,4 @@ use mathlib.Core.Path.{sym}
 use Rattle.parts.proofs.slot.Goals as goal
 
 pub returns-else-g-lt9 : goal.returns-else-g-lt9
-returns-else-g-lt9 c = sym (get_or-eq_default c.args.values 0 (omega (arith, c.well_formed_lem.0.1.0.1)))
+returns-else-g-lt9 c = sym (get_or-eq_default c.args.values 0 (omega (arith, c.well_formed.0.1.0.1)))

@@ -9,7 +9,7 @@ returns-in-NotWellFormed c =
     let emit = c.emit-written in
     let a = args in
     let told = emit.ensures in
-    (after_is a.m a.bound a.words.now _ a.hints.now c.enum_told-1.given.1 told.0 told.1 refl, told.1)
+    (after_is a.m a.bound a.words.now _ a.hints.now c.in-NotWellFormed.is told.0 told.1 refl, told.1)
 
 pub returns-in-BoundTooLarge : goal.returns-in-BoundTooLarge
 returns-in-BoundTooLarge c =
@@ -17,7 +17,7 @@ returns-in-BoundTooLarge c =
     let emit = c.emit-written in
     let a = args in
     let told = emit.ensures in
-    (after_is a.m a.bound a.words.now _ a.hints.now c.enum_told-in-BoundTooLarge-1.given.1 told.0 told.1 refl, told.1)
+    (after_is a.m a.bound a.words.now _ a.hints.now c.in-BoundTooLarge.is told.0 told.1 refl, told.1)
 
 pub returns-in-BufferTooShort : goal.returns-in-BufferTooShort
 returns-in-BufferTooShort c =
@@ -25,13 +25,12 @@ returns-in-BufferTooShort c =
     let emit = c.emit-written in
     let a = args in
     let told = emit.ensures in
-    (after_is a.m a.bound a.words.now _ a.hints.now c.written-1.given.1 told.0 told.1 refl, told.1)
+    (after_is a.m a.bound a.words.now _ a.hints.now c.in-BufferTooShort.is told.0 told.1 refl, told.1)
 
 pub returns-in-Written : goal.returns-in-Written
 returns-in-Written c =
     let args = c.args in
     let emit = c.emit-written in
-    let written2 = c.written-in-Written-1 in
     let a = args in
     let told = emit.ensures in
-    (after_is a.m a.bound a.words.now _ a.hints.now written2.given.1 told.0 told.1 c.checked.ensures, told.1)
+    (after_is a.m a.bound a.words.now _ a.hints.now c.in-Written.is told.0 told.1 c.checked.ensures, told.1)

@@ -18,14 +18,14 @@ check_start-start-requires c =
 pub returns-then-not-start : goal.returns-then-not-start
 returns-then-not-start c =
     let k : Known c.args.m c.group_table-b.result = record { formed = c.pre.0; is = c.group_table-b.ensures } in
-    let start = failed_check c.check_start-start.ensures (not-true _ c.if-not-start.taken) in
+    let start = failed_check c.check_start-start.ensures (not-true _ c.if-not-start.true) in
     found_at (failed_as (list_is k c.args.bound) (failed_more _ (failed_more _ start)))
 
 pub returns-then-not-steps : goal.returns-then-not-steps
 returns-then-not-steps c =
     let k : Known c.args.m c.group_table-b.result = record { formed = c.pre.0; is = c.group_table-b.ensures } in
-    let start = passed_check c.check_start-start.ensures (not-false _ c.if-not-start.left) in
-    let steps = failed_check c.check_steps-steps.ensures (not-true _ c.if-not-steps.taken) in
+    let start = passed_check c.check_start-start.ensures (not-false _ c.if-not-start.false) in
+    let steps = failed_check c.check_steps-steps.ensures (not-true _ c.if-not-steps.true) in
     found_at (failed_as (list_is k c.args.bound) (failed_more _ (failed_then start steps)))
 
 pub variable_number-end-requires : goal.variable_number-end-requires
@@ -50,17 +50,17 @@ is_true-requires c =
 pub returns-then-not-is_true : goal.returns-then-not-is_true
 returns-then-not-is_true c =
     let k : Known c.args.m c.group_table-b.result = record { formed = c.pre.0; is = c.group_table-b.ensures } in
-    let start = passed_check c.check_start-start.ensures (not-false _ c.if-not-start.left) in
-    let steps = passed_check c.check_steps-steps.ensures (not-false _ c.if-not-steps.left) in
+    let start = passed_check c.check_start-start.ensures (not-false _ c.if-not-start.false) in
+    let steps = passed_check c.check_steps-steps.ensures (not-false _ c.if-not-steps.false) in
     let is_false = end_looked k c.args.bound c.variable_number-end.ensures c.args.a.now c.is_true.ensures
-    (not-true _ c.if-not-is_true.taken) in
+    (not-true _ c.if-not-is_true.true-raw) in
     found_at (failed_as (list_is k c.args.bound) (failed_then (passed_then start steps) (clause_failed _ _ _ is_false)))
 
 pub returns : goal.returns
 returns c =
     let k : Known c.args.m c.group_table-b.result = record { formed = c.pre.0; is = c.group_table-b.ensures } in
-    let start = passed_check c.check_start-start.ensures (not-false _ c.if-not-start.left) in
-    let steps = passed_check c.check_steps-steps.ensures (not-false _ c.if-not-steps.left) in
+    let start = passed_check c.check_start-start.ensures (not-false _ c.if-not-start.false) in
+    let steps = passed_check c.check_steps-steps.ensures (not-false _ c.if-not-steps.false) in
     let is-so = end_looked k c.args.bound c.variable_number-end.ensures c.args.a.now c.is_true.ensures
-    (not-false _ c.if-not-is_true.left) in
+    (not-false _ c.if-not-is_true.false-raw) in
     found_nothing (passed_as (list_is k c.args.bound) (passed_then (passed_then start steps) (clause_passed _ _ _ is-so)))

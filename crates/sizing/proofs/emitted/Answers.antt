@@ -4,13 +4,13 @@ use mathlib.Core.Path.{refl}
 use Rattle.sizing.proofs.emitted.Goals as goal
 
 pub returns-in-NotWellFormed : goal.returns-in-NotWellFormed
-returns-in-NotWellFormed c = told_is c.enum_told-1.given.1 c.number-number.ensures refl c.told.ensures
+returns-in-NotWellFormed c = told_is c.in-NotWellFormed.is c.number-number.ensures refl c.told.ensures
 
 pub returns-in-BoundTooLarge : goal.returns-in-BoundTooLarge
-returns-in-BoundTooLarge c = told_is c.enum_told-in-BoundTooLarge-1.given.1 c.number-number.ensures refl c.told-in-BoundTooLarge.ensures
+returns-in-BoundTooLarge c = told_is c.in-BoundTooLarge.is c.number-number.ensures refl c.told-in-BoundTooLarge.ensures
 
 pub returns-in-BufferTooShort : goal.returns-in-BufferTooShort
-returns-in-BufferTooShort c = told_is c.e-1.given.1 c.number-number.ensures refl c.told-in-BufferTooShort.ensures
+returns-in-BufferTooShort c = told_is c.in-BufferTooShort.is c.number-number.ensures refl c.told-in-BufferTooShort.ensures
 
 pub returns-in-Written : goal.returns-in-Written
-returns-in-Written c = told_is c.e-in-Written-1.given.1 c.number-number.ensures refl c.told-in-Written.ensures
+returns-in-Written c = told_is c.in-Written.is c.number-number.ensures refl c.told-in-Written.ensures

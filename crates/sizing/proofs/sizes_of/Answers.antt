@@ -6,12 +6,11 @@ pub returns-in-NotABound : goal.returns-in-NotABound
 returns-in-NotABound c =
     let item = c.read_item-item in
     let args = c.args in
-    bound_refused_lem args.input.now item.result item.ensures args.out.now c.enum_told-1.given.1 c.number.ensures
+    bound_refused_lem args.input.now item.result item.ensures args.out.now c.in-NotABound.is c.number.ensures
     c.refused.ensures
 
 pub returns-in-Bound : goal.returns-in-Bound
 returns-in-Bound c =
     let item = c.read_item-item in
     let args = c.args in
-    let first = c.first-1 in
-    bound_accepted_lem args.input.now item.result item.ensures args.out.now _ _ first.given.1 _ _ c.read_sizes.ensures
+    bound_accepted_lem args.input.now item.result item.ensures args.out.now _ _ c.in-Bound.is _ _ c.read_sizes.ensures

@@ -7,16 +7,16 @@ use Rattle.totals.proofs.totals_of.Goals as goal
 
 pub returns-then-not-well_formed : goal.returns-then-not-well_formed
 unfolding totals_report
-returns-then-not-well_formed c = rw (told_false c.well_formed-2.ensures c.if-not-well_formed.taken)
+returns-then-not-well_formed c = rw (told_false c.well_formed-2.ensures c.if-not-well_formed.true-raw)
 
 pub returns-then-bound-gt-STEPS : goal.returns-then-bound-gt-STEPS
 unfolding totals_report
-returns-then-bound-gt-STEPS c = rw (told_true c.well_formed-2.ensures c.if-not-well_formed.left, lt-ltb _ _ c.if-bound-gt-STEPS.taken)
+returns-then-bound-gt-STEPS c = rw (told_true c.well_formed-2.ensures c.if-not-well_formed.false-raw, lt-ltb _ _ c.if-bound-gt-STEPS.true)
 
 pub returns : goal.returns
 unfolding totals_report
 returns c =
     let totals-ensures = c.totals-z.ensures in
     let well_formed_lem = c.well_formed-2 in
-    rw (told_true well_formed_lem.ensures c.if-not-well_formed.left, le-ltb _ _ c.if-bound-gt-STEPS.left)
+    rw (told_true well_formed_lem.ensures c.if-not-well_formed.false-raw, le-ltb _ _ c.if-bound-gt-STEPS.false)
     (λ i. totals_reported 0 (state_of_totals _ _ totals-ensures i) (choices_of_totals _ _ totals-ensures i) (c.variables.ensures i))

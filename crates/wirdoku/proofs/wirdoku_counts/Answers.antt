@@ -21,6 +21,6 @@ returns c =
     let number = c.number-number in
     let read-model = c.read_model-read in
     let args = c.args in
-    c.counted.ensures ∙ ap counted_sizes c.before.Counts-of.ensures
+    c.counted.ensures ∙ ap counted_sizes c.counts_of.ensures
     ∙ read_text (λ (m : Model). counted_sizes (list_report m args.bound)) refused_sizes args.text.now read-model.result read-model.ensures
     number.result number.ensures c.if-number-ne0.false

@@ -28,7 +28,7 @@ slot clocks first f i = record { update = in_two clocks (own first) (rest clocks
 
 pub loop-i-init : goal.loop-i-init
 loop-i-init c =
-    (search rules, resets_long c.args.e _ c.well_formed_lem.0, filled_none _ _ _)
+    (search rules, resets_long c.args.e _ c.well_formed.0, filled_none _ _ _)
 
 pub shifted_reset-requires : goal.shifted_reset-requires
 shifted_reset-requires c =

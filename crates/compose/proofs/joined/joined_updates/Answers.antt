@@ -29,7 +29,7 @@ slot vars first f i = record { update = in_two vars (own first) (rest vars f) i 
 
 pub loop-i-init : goal.loop-i-init
 loop-i-init c =
-    (search rules, updates_long c.args.e _ c.well_formed_lem.0, filled_none _ _ _)
+    (search rules, updates_long c.args.e _ c.well_formed.0, filled_none _ _ _)
 
 pub shifted_update-requires : goal.shifted_update-requires
 shifted_update-requires c =

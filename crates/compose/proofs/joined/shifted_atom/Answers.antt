@@ -5,14 +5,14 @@ use Rattle.compose.proofs.joined.shifted_atom.Goals as goal
 
 pub overflow_add-result : goal.overflow_add-result
 overflow_add-result c =
-    record { fits = omega (arith, c.requires.0, atom_clock c.a-1.given.1 c.requires.2) }
+    record { fits = omega (arith, c.requires.0, atom_clock c.in-OnClock.is c.requires.2) }
 
 pub overflow_add-result-in-OnCounter : goal.overflow_add-result-in-OnCounter
 overflow_add-result-in-OnCounter c =
-    record { fits = omega (arith, c.requires.1, atom_counter c.a-in-OnCounter-1.given.1 c.requires.2) }
+    record { fits = omega (arith, c.requires.1, atom_counter c.in-OnCounter.is c.requires.2) }
 
 pub returns-in-OnClock : goal.returns-in-OnClock
-returns-in-OnClock c = rw c.a-1.given.1
+returns-in-OnClock c = rw c.in-OnClock.is
 
 pub returns-in-OnCounter : goal.returns-in-OnCounter
-returns-in-OnCounter c = rw c.a-in-OnCounter-1.given.1
+returns-in-OnCounter c = rw c.in-OnCounter.is

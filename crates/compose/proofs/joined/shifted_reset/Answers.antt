@@ -5,7 +5,7 @@ use Rattle.compose.proofs.joined.shifted_reset.Goals as goal
 
 pub overflow_add-result : goal.overflow_add-result
 overflow_add-result c =
-    record { fits = omega (arith, c.requires.0, reset_source c.u-1.given.1 c.requires.1) }
+    record { fits = omega (arith, c.requires.0, reset_source c.in-Copy.is c.requires.1) }
 
 pub returns-in-Copy : goal.returns-in-Copy
-returns-in-Copy c = rw c.u-1.given.1
+returns-in-Copy c = rw c.in-Copy.is

@@ -12,13 +12,12 @@ use Rattle.compose.proofs.joined.shifted_update.Goals as goal
 
 pub overflow_add-result : goal.overflow_add-result
 overflow_add-result c =
-    record { fits = omega (arith, c.requires.0, update_source c.u-in-Sum-1.given.1 c.requires.1) }
+    record { fits = omega (arith, c.requires.0, update_source c.in-Sum.is c.requires.1) }
 
 pub returns-in-Constant : goal.returns-in-Constant
-returns-in-Constant c = rw c.u-1.given.1
+returns-in-Constant c = rw c.in-Constant.is
 
 pub returns-in-Sum : goal.returns-in-Sum
 returns-in-Sum c =
-    let v = c.u-in-Sum-1.given.0 in
-    let back : to_z w8 (of_z w8 v.1.0) ≡ v.1.0 = search rules in
-    rw c.u-in-Sum-1.given.1 (ap (λ (z : ℤ). Sum (c.args.vars + v.0) z) back)
+    let back : to_z w8 (of_z w8 c.in-Sum.offset) ≡ c.in-Sum.offset = search rules in
+    rw c.in-Sum.is (ap (λ (z : ℤ). Sum (c.args.vars + c.in-Sum.source) z) back)

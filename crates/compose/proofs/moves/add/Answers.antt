@@ -9,4 +9,4 @@ pub returns : goal.returns
 returns c =
     let list = c.args.list in
     ⊎_elim (λ w. one_stored list c.args.way w.1)
-    (λ w. one_counted list c.args.way w.1 (omega (arith, w.0, slots_long list _ c.well_formed_lem.0))) c.if-at-lt-EDGES.branch
+    (λ w. one_counted list c.args.way w.1 (omega (arith, w.0, slots_long list _ c.well_formed.0))) c.if-at-lt-EDGES.branch

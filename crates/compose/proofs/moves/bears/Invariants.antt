@@ -8,7 +8,7 @@ use Rattle.compose.specs.Moves.{label_at}
 use Rattle.compose.proofs.moves.bears.Given as goal
 
 abbrev pub invariant-loop-e : goal.invariant-loop-e
-invariant-loop-e l = (l.e ≤ l.m.used) × (all_below (λ l.e. not (eqb (label_at l.m l.e) l.label)) l.e ≡ true)
+invariant-loop-e l = (l.e ≤ l.m.used) × (all_below (λ e'. not (eqb (label_at l.m e') l.label)) l.e ≡ true)
 
 abbrev pub decreases-loop-e : goal.decreases-loop-e
 decreases-loop-e l = l.m.used - l.e

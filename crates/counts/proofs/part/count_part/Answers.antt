@@ -15,42 +15,39 @@ use Rattle.counts.proofs.part.count_part.Goals as goal
 
 pub overflow_mul-result : goal.overflow_mul-result
 overflow_mul-result c =
-    let u = c.rule-1.given.0 in
-    omega (arith, c.failing_count-failing.ensures, rule_sum_le (Exclude u.0 u.1.0) c.args.p.size)
+    omega (arith, c.failing_count-failing.ensures, rule_sum_le (Exclude c.in-Exclude.relation c.in-Exclude.constant) c.args.p.size)
 
 pub returns-in-Exclude : goal.returns-in-Exclude
 returns-in-Exclude c =
-    let u = c.rule-1.given.0 in
     let n = c.args.p.size in
-    rw c.rule-1.given.1
-    (c.failing_count-failing.ensures, ap (λ (k : ℕ). k * 3) c.failing_count-failing.ensures ∙ sym (exclude_words u.0 u.1.0 n))
+    rw c.in-Exclude.is
+    (c.failing_count-failing.ensures, ap (λ (k : ℕ). k * 3) c.failing_count-failing.ensures ∙ sym (exclude_words c.in-Exclude.relation c.in-Exclude.constant n))
 
 pub returns-in-Keep : goal.returns-in-Keep
 returns-in-Keep c =
     let n = c.args.p.size in
-    rw c.enum_told-1.given.1 (omega (arith, sum_const n 1), sym (sum_const n 4))
+    rw c.in-Keep.is (omega (arith, sum_const n 1), sym (sum_const n 4))
 
 pub returns-in-Rise : goal.returns-in-Rise
 returns-in-Rise c =
     let n = c.args.p.size in
-    rw c.enum_told-in-Rise-1.given.1 (omega (arith, sum_const n 1), sym (sum_const n 4))
+    rw c.in-Rise.is (omega (arith, sum_const n 1), sym (sum_const n 4))
 
 pub returns-in-Shift : goal.returns-in-Shift
 returns-in-Shift c =
-    let u = c.rule-in-Shift-1.given.0 in
     let n = c.args.p.size in
-    let exact : to_z w8 (of_z w8 u.0) ≡ u.0 = search rules in
-    rw c.rule-in-Shift-1.given.1 (
+    let exact : to_z w8 (of_z w8 c.in-Shift.offset) ≡ c.in-Shift.offset = search rules in
+    rw c.in-Shift.is (
       omega (arith, sum_const n 1),
-      c.shift_words.ensures ∙ ap (λ (z : ℤ). sum_below (rule_words (Shift z u.1.0)) n) exact,
+      c.shift_words.ensures ∙ ap (λ (z : ℤ). sum_below (rule_words (Shift z c.in-Shift.greatest)) n) exact,
     )
 
 pub returns-in-Set : goal.returns-in-Set
 returns-in-Set c =
     let n = c.args.p.size in
-    rw c.enum_told-in-Set-1.given.1 (omega (arith, sum_const n 1), sym (sum_const n 3))
+    rw c.in-Set.is (omega (arith, sum_const n 1), sym (sum_const n 3))
 
 pub returns-in-Forbid : goal.returns-in-Forbid
 returns-in-Forbid c =
     let n = c.args.p.size in
-    rw c.enum_told-in-Forbid-1.given.1 (omega (arith, sum_const n 1), sym (sum_const n 2))
+    rw c.in-Forbid.is (omega (arith, sum_const n 1), sym (sum_const n 2))

@@ -33,7 +33,7 @@ pub loop-i-preserved : goal.loop-i-preserved
 loop-i-preserved c =
     let k = c.requires in
     let m = c.args.m in
-    let counted = edge_counted k c.loop-i.i (omega arith) c.IsEdge-count.ensures in (
+    let counted = edge_counted k c.loop-i.i (omega arith) c.edge_count-n.ensures in (
       search rules,
       search rules,
       table_more _ c.loop-i.invariant.2 (omega (arith, (formed m k.formed).used_le)) (λ o. (counted o).clauses_are)

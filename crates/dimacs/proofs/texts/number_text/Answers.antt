@@ -8,19 +8,19 @@ use Rattle.dimacs.proofs.TextLaws.{Tail, tail_none, tail_led, tail_end}
 use Rattle.dimacs.proofs.texts.number_text.Goals as goal
 
 -- what is put before the space where there are more digits
-one : (c : goal.Else-d-lt10 → let n = c.before.before.args.n in Tail n (n / 10) c.before.led.result
-one c = tail_led _ (tail_none c.before.before.args.n) (omega arith) (omega arith) refl c.before.led.ensures
+one : (c : goal.Else-d-lt10) → let n = c.args.n in Tail n (n / 10) c.led-one.result
+one c = tail_led _ (tail_none c.args.n) (omega arith) (omega arith) refl c.led-one.ensures
 
-two : (c : goal.Else-d-lt100 → let n = c.before.before.before.before.args.n in Tail n (n / 100) c.before.led2.result
-two c = tail_led _ (one c.before.before) (omega arith) (omega arith) refl c.before.led2.ensures
+two : (c : goal.Else-d-lt100) → let n = c.args.n in Tail n (n / 100) c.led-two.result
+two c = tail_led _ (one c.before.before) (omega arith) (omega arith) refl c.led-two.ensures
 
-three : (c : goal.Else-d-lt1000 → let n = c.before.before.before.before.before.before.args.n in Tail n (n / 1000) c.before.led3.result
-three c = tail_led _ (two c.before.before) (omega arith) (omega arith) refl c.before.led3.ensures
+three : (c : goal.Else-d-lt1000) → let n = c.args.n in Tail n (n / 1000) c.led-three.result
+three c = tail_led _ (two c.before.before) (omega arith) (omega arith) refl c.led-three.ensures
 
-four : (c : goal.Else-d-lt10000 →
-    let n = c.before.before.before.before.before.before.before.before.args.n in
-    Tail n (n / 10000) c.before.led4.result
-four c = tail_led _ (three c.before.before) (omega arith) (omega arith) refl c.before.led4.ensures
+four : (c : goal.Else-d-lt10000) →
+    let n = c.args.n in
+    Tail n (n / 10000) c.led-four.result
+four c = tail_led _ (three c.before.before) (omega arith) (omega arith) refl c.led-four.ensures
 
 -- the fifth digit is the first
 fifth : (n : ℕ) → n < 100000 → n / 10000 < 10

@@ -15,17 +15,17 @@ use Rattle.emission.proofs.ClauseLaws.{wrote_as, room_as}
 use Rattle.emission.proofs.edge.put_reset.Goals as goal
 
 -- the group after begins below the most variables
-after_in : (start : goal.Start → let a = start.args in next_at a.b a.o + get_or a.first.now (1 + a.b.vars + a.i) 0 ≤ most_variables
+after_in : (start : goal.Start) → let a = start.args in next_at a.b a.o + get_or a.first.now (1 + a.b.vars + a.i) 0 ≤ most_variables
 after_in start =
     let a = start.args in
     omega (arith, first_at_lem start.requires.0 (1 + a.b.vars + a.i), reset_after a.b a.o a.i a.update start.requires.3.fits)
 
 -- the row of a copy, and the clock copied
-copy-fits : (start : goal.Start (w : ℕ) → let a = start.args in a.update ≡ Copy w
+copy-fits : (start : goal.Start) (w : ℕ) → let a = start.args in a.update ≡ Copy w
     → Fits (leads_by a.first.now a.size.now a.o (next_at a.b a.o) (1 + a.b.vars + w) (1 + a.b.vars + a.i) Keep) most_variables
 copy-fits start w e = fits_as (copy_is start.requires.0 start.args.o start.args.i w e) start.requires.3.fits
 
-source_in : (start : goal.Start (w : ℕ) → let a = start.args in a.update ≡ Copy w → 1 + a.b.vars + w < 9
+source_in : (start : goal.Start) (w : ℕ) → let a = start.args in a.update ≡ Copy w → 1 + a.b.vars + w < 9
 source_in start w e = copy_in start.requires.0 start.args.o start.args.i w e start.requires.3
 
 pub overflow_cast-block : goal.overflow_cast-block
@@ -61,54 +61,54 @@ overflow_cast-size c =
 
 pub put_kept-requires : goal.put_kept-requires
 put_kept-requires c =
-    let q = unchanged_is c.requires.0 c.args.o c.args.i c.enum_told-1.given.1 in
+    let q = unchanged_is c.requires.0 c.args.o c.args.i c.in-Unchanged.is in
     let f = fits_as q c.requires.3.fits in
     (omega arith, f.before_in, f.after_in, room_as (ap (part_clauses c.args.x) q ∙ part_is _ _ _ _ _ _) c.requires.4)
 
 pub put_implication-requires : goal.put_implication-requires
 put_implication-requires c =
-    let e = c.enum_told-in-Reset-1.given.1 in
+    let e = c.in-Reset.is in
     let f = fits_as (reset_is c.requires.0 c.args.o c.args.i e) c.requires.3.fits in
     (omega arith, omega (arith, f.after_in), room_as (reset_clause c.requires.0 c.args.o c.args.i c.args.x e) c.requires.4)
 
 pub bounds-first-w : goal.bounds-first-w
 bounds-first-w c =
-    omega (arith, c.requires.0.first_long, source_in c.before.before.before.before.before.before.before.before.before.before.before _ c.update-1.given.1)
+    omega (arith, c.requires.0.first_long, source_in c.before.before.before.before.before.before.before.before.before.before.before _ c.in-Copy.is)
 
 pub overflow_add-copied : goal.overflow_add-copied
 overflow_add-copied c =
-    omega (arith, (copy-fits c.before.before.before.before.before.before.before.before.before.before.before _ c.update-1.given.1).before_in)
+    omega (arith, (copy-fits c.before.before.before.before.before.before.before.before.before.before.before _ c.in-Copy.is).before_in)
 
 pub overflow_cast-copied : goal.overflow_cast-copied
 overflow_cast-copied c =
-    omega (arith, (copy-fits c.before.before.before.before.before.before.before.before.before.before.before _ c.update-1.given.1).before_in)
+    omega (arith, (copy-fits c.before.before.before.before.before.before.before.before.before.before.before _ c.in-Copy.is).before_in)
 
 pub bounds-size-w : goal.bounds-size-w
 bounds-size-w c =
-    omega (arith, c.requires.0.size_long, source_in c.before.before.before.before.before.before.before.before.before.before.before.before _ c.update-1.given.1)
+    omega (arith, c.requires.0.size_long, source_in c.before.before.before.before.before.before.before.before.before.before.before.before _ c.in-Copy.is)
 
 pub overflow_cast-size-in-Copy : goal.overflow_cast-size-in-Copy
 overflow_cast-size-in-Copy c =
-    omega (arith, c.type_inv.size (1 + c.args.b.vars + c.update-1.given.0.0))
+    omega (arith, c.type_inv.size (1 + c.args.b.vars + c.in-Copy.source))
 
 pub put_kept-requires-in-Copy : goal.put_kept-requires-in-Copy
 put_kept-requires-in-Copy c =
-    let e = c.update-1.given.1 in
+    let e = c.in-Copy.is in
     let q = copy_is c.requires.0 c.args.o c.args.i _ e in
     let f = copy-fits c.before.before.before.before.before.before.before.before.before.before.before.before.before _ e in
     (omega arith, f.before_in, omega (arith, f.after_in), room_as (ap (part_clauses c.args.x) q ∙ part_is _ _ _ _ _ _) c.requires.4)
 
 pub returns-in-Unchanged : goal.returns-in-Unchanged
 returns-in-Unchanged c =
-    let q = unchanged_is c.requires.0 c.args.o c.args.i c.enum_told-1.given.1 in
+    let q = unchanged_is c.requires.0 c.args.o c.args.i c.in-Unchanged.is in
     wrote_as (ap (part_clauses c.args.x) q ∙ part_is _ _ _ _ _ _) c.put_kept.ensures
 
 pub returns-in-Reset : goal.returns-in-Reset
 returns-in-Reset c =
-    wrote_as (reset_clause c.requires.0 c.args.o c.args.i c.args.x c.enum_told-in-Reset-1.given.1)
+    wrote_as (reset_clause c.requires.0 c.args.o c.args.i c.args.x c.in-Reset.is)
     c.put_implication.ensures
 
 pub returns-in-Copy : goal.returns-in-Copy
 returns-in-Copy c =
-    let q = copy_is c.requires.0 c.args.o c.args.i _ c.update-1.given.1 in
+    let q = copy_is c.requires.0 c.args.o c.args.i _ c.in-Copy.is in
     wrote_as (ap (part_clauses c.args.x) q ∙ part_is _ _ _ _ _ _) c.put_kept-in-Copy.ensures

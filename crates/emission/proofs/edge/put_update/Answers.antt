@@ -20,7 +20,7 @@ use borrow.Author.Rules.{rules}
 use Rattle.emission.proofs.edge.put_update.Goals as goal
 
 -- the group after begins below the most variables
-after_in : (start : goal.Start → let a = start.args in next_at a.b a.o + get_or a.first.now (1 + a.i) 0 ≤ most_variables
+after_in : (start : goal.Start) → let a = start.args in next_at a.b a.o + get_or a.first.now (1 + a.i) 0 ≤ most_variables
 after_in start =
     let a = start.args in
     omega (arith, first_at_lem start.requires.0 (1 + a.i), update_after a.b a.o a.i _ a.update start.requires.4.fits)
@@ -57,13 +57,13 @@ overflow_cast-size c = omega (arith, c.type_inv.size (1 + c.args.i))
 
 pub put_kept-requires : goal.put_kept-requires
 put_kept-requires c =
-    let q = keep_is c.requires.0 c.args.o c.args.order c.args.i c.enum_told-1.given.1 in
+    let q = keep_is c.requires.0 c.args.o c.args.order c.args.i c.in-Keep.is in
     let f = fits_as q c.requires.4.fits in
     (omega arith, f.before_in, f.after_in, room_as (ap (part_clauses c.args.x) q ∙ part_is _ _ _ _ _ _) c.requires.5)
 
 pub put_constant-requires : goal.put_constant-requires
 put_constant-requires c =
-    let q = constant_is c.requires.0 c.args.o c.args.order c.args.i _ c.requires.3 c.update-1.given.1 in
+    let q = constant_is c.requires.0 c.args.o c.args.order c.args.i _ c.requires.3 c.in-Constant.is in
     let f = fits_as q c.requires.4.fits in
     (omega arith, f.after_in, room_as (ap (part_clauses c.args.x) q ∙ set_is _ _ _ _) c.requires.5)
 
@@ -73,43 +73,42 @@ overflow_cast-following c = omega (arith, after_in c.before.before.before.before
 pub overflow_cast-before : goal.overflow_cast-before
 overflow_cast-before c =
     let a = c.args in
-    let q = sum_is c.requires.0 a.o a.order a.i _ _ c.read_at-from.ensures c.requires.3 c.update-in-Sum-1.given.1 in
+    let q = sum_is c.requires.0 a.o a.order a.i _ _ c.read_at-from.ensures c.requires.3 c.in-Sum.is in
     omega (arith, (fits_as q c.requires.4.fits).before_in)
 
 pub bounds-first-w : goal.bounds-first-w
 bounds-first-w c =
     let a = c.args in
-    omega (arith, c.requires.0.first_long, sum_in c.requires.0 a.o a.order a.i _ _ c.update-in-Sum-1.given.1 c.requires.4)
+    omega (arith, c.requires.0.first_long, sum_in c.requires.0 a.o a.order a.i _ _ c.in-Sum.is c.requires.4)
 
 pub overflow_add-before : goal.overflow_add-before
 overflow_add-before c =
     let a = c.args in
-    let q = sum_is c.requires.0 a.o a.order a.i _ _ c.read_at-from.ensures c.requires.3 c.update-in-Sum-1.given.1 in
+    let q = sum_is c.requires.0 a.o a.order a.i _ _ c.read_at-from.ensures c.requires.3 c.in-Sum.is in
     omega (arith, (fits_as q c.requires.4.fits).before_in)
 
 pub overflow_cast-before-in-Sum : goal.overflow_cast-before-in-Sum
 overflow_cast-before-in-Sum c =
     let a = c.args in
-    let q = sum_is c.requires.0 a.o a.order a.i _ _ c.read_at-from.ensures c.requires.3 c.update-in-Sum-1.given.1 in
+    let q = sum_is c.requires.0 a.o a.order a.i _ _ c.read_at-from.ensures c.requires.3 c.in-Sum.is in
     omega (arith, (fits_as q c.requires.4.fits).before_in)
 
 pub bounds-size-w : goal.bounds-size-w
 bounds-size-w c =
     let a = c.args in
-    omega (arith, c.requires.0.size_long, sum_in c.requires.0 a.o a.order a.i _ _ c.update-in-Sum-1.given.1 c.requires.4)
+    omega (arith, c.requires.0.size_long, sum_in c.requires.0 a.o a.order a.i _ _ c.in-Sum.is c.requires.4)
 
 pub overflow_cast-size-in-Sum : goal.overflow_cast-size-in-Sum
-overflow_cast-size-in-Sum c = omega (arith, c.type_inv.size (1 + c.update-in-Sum-1.given.0.0))
+overflow_cast-size-in-Sum c = omega (arith, c.type_inv.size (1 + c.in-Sum.source))
 
 pub put_shifted-requires : goal.put_shifted-requires
 put_shifted-requires c =
     let a = c.args in
-    let u = c.update-in-Sum-1.given.0 in
-    let back : to_z w8 (of_z w8 u.1.0) ≡ u.1.0 = search rules in
-    let q = sum_is c.requires.0 a.o a.order a.i u.0 u.1.0 c.read_at-from.ensures c.requires.3 c.update-in-Sum-1.given.1 in
+    let back : to_z w8 (of_z w8 c.in-Sum.offset) ≡ c.in-Sum.offset = search rules in
+    let q = sum_is c.requires.0 a.o a.order a.i c.in-Sum.source c.in-Sum.offset c.read_at-from.ensures c.requires.3 c.in-Sum.is in
     let f = fits_as q c.requires.4.fits in
-    let row : ℤ → List Clause = λ z. row_clauses a.x (c.read_at-from.result + get_or a.first.now (1 + u.0) 0)
-    (next_at a.b a.o + get_or a.first.now (1 + a.i) 0) (get_or a.size.now (1 + u.0) 0) (Shift z a.greatest) in (
+    let row : ℤ → List Clause = λ z. row_clauses a.x (c.read_at-from.result + get_or a.first.now (1 + c.in-Sum.source) 0)
+    (next_at a.b a.o + get_or a.first.now (1 + a.i) 0) (get_or a.size.now (1 + c.in-Sum.source) 0) (Shift z a.greatest) in (
       omega arith,
       f.size_le,
       f.before_in,
@@ -119,20 +118,19 @@ put_shifted-requires c =
 
 pub returns-in-Keep : goal.returns-in-Keep
 returns-in-Keep c =
-    let q = keep_is c.requires.0 c.args.o c.args.order c.args.i c.enum_told-1.given.1 in
+    let q = keep_is c.requires.0 c.args.o c.args.order c.args.i c.in-Keep.is in
     wrote_as (ap (part_clauses c.args.x) q ∙ part_is _ _ _ _ _ _) c.put_kept.ensures
 
 pub returns-in-Constant : goal.returns-in-Constant
 returns-in-Constant c =
-    let q = constant_is c.requires.0 c.args.o c.args.order c.args.i _ c.requires.3 c.update-1.given.1 in
+    let q = constant_is c.requires.0 c.args.o c.args.order c.args.i _ c.requires.3 c.in-Constant.is in
     wrote_as (ap (part_clauses c.args.x) q ∙ set_is _ _ _ _) c.put_constant.ensures
 
 pub returns-in-Sum : goal.returns-in-Sum
 returns-in-Sum c =
-    let u = c.update-in-Sum-1.given.0 in
-    let back : to_z w8 (of_z w8 u.1.0) ≡ u.1.0 = search rules in
+    let back : to_z w8 (of_z w8 c.in-Sum.offset) ≡ c.in-Sum.offset = search rules in
     let a = c.args in
-    let q = sum_is c.requires.0 a.o a.order a.i u.0 u.1.0 c.read_at-from.ensures c.requires.3 c.update-in-Sum-1.given.1 in
-    let row : ℤ → List Clause = λ z. row_clauses a.x (c.read_at-from.result + get_or a.first.now (1 + u.0) 0)
-    (next_at a.b a.o + get_or a.first.now (1 + a.i) 0) (get_or a.size.now (1 + u.0) 0) (Shift z a.greatest) in
+    let q = sum_is c.requires.0 a.o a.order a.i c.in-Sum.source c.in-Sum.offset c.read_at-from.ensures c.requires.3 c.in-Sum.is in
+    let row : ℤ → List Clause = λ z. row_clauses a.x (c.read_at-from.result + get_or a.first.now (1 + c.in-Sum.source) 0)
+    (next_at a.b a.o + get_or a.first.now (1 + a.i) 0) (get_or a.size.now (1 + c.in-Sum.source) 0) (Shift z a.greatest) in
     wrote_as (ap (part_clauses a.x) q ∙ part_is _ _ _ _ _ _ ∙ ap row (sym back)) c.put_shifted.ensures

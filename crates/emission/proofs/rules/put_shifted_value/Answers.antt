@@ -17,7 +17,7 @@ put_exclusion-requires c =
     let new = c.shift-new.ensures ∙ ap (λ (z : ℤ). new_value (shifted z a.greatest a.v)) back in (
       omega arith,
       omega arith,
-      room_as (shifted_out a.x a.y a.after a.v a.offset a.greatest new c.enum_told-1.given.1) c.requires.4,
+      room_as (shifted_out a.x a.y a.after a.v a.offset a.greatest new c.in-OutOfRange.is) c.requires.4,
     )
 
 pub put_joint_implication-requires : goal.put_joint_implication-requires
@@ -25,11 +25,11 @@ put_joint_implication-requires c =
     let a = c.args in
     let back : to_z w8 (of_z w8 a.offset) ≡ a.offset = search rules in
     let new = c.shift-new.ensures ∙ ap (λ (z : ℤ). new_value (shifted z a.greatest a.v)) back in
-    let u = c.new-1.given.0.0 in (
+    let u = c.in-Value.u in (
       omega arith,
       omega arith,
-      omega (arith, shifted_le a.x a.y a.after a.v a.offset a.greatest new u c.new-1.given.1),
-      room_as (shifted_to a.x a.y a.after a.v a.offset a.greatest new u c.new-1.given.1) c.requires.4,
+      omega (arith, shifted_le a.x a.y a.after a.v a.offset a.greatest new u c.in-Value.is),
+      room_as (shifted_to a.x a.y a.after a.v a.offset a.greatest new u c.in-Value.is) c.requires.4,
     )
 
 pub returns-in-OutOfRange : goal.returns-in-OutOfRange
@@ -37,12 +37,12 @@ returns-in-OutOfRange c =
     let a = c.args in
     let back : to_z w8 (of_z w8 a.offset) ≡ a.offset = search rules in
     let new = c.shift-new.ensures ∙ ap (λ (z : ℤ). new_value (shifted z a.greatest a.v)) back in
-    wrote_as (shifted_out a.x a.y a.after a.v a.offset a.greatest new c.enum_told-1.given.1) c.put_exclusion.ensures
+    wrote_as (shifted_out a.x a.y a.after a.v a.offset a.greatest new c.in-OutOfRange.is) c.put_exclusion.ensures
 
 pub returns-in-Value : goal.returns-in-Value
 returns-in-Value c =
     let a = c.args in
     let back : to_z w8 (of_z w8 a.offset) ≡ a.offset = search rules in
     let new = c.shift-new.ensures ∙ ap (λ (z : ℤ). new_value (shifted z a.greatest a.v)) back in
-    let u = c.new-1.given.0.0 in
-    wrote_as (shifted_to a.x a.y a.after a.v a.offset a.greatest new u c.new-1.given.1) c.put_joint_implication.ensures
+    let u = c.in-Value.u in
+    wrote_as (shifted_to a.x a.y a.after a.v a.offset a.greatest new u c.in-Value.is) c.put_joint_implication.ensures

@@ -8,17 +8,17 @@ use Rattle.emission.proofs.state.compared.Goals as goal
 
 pub overflow_add-g : goal.overflow_add-g
 overflow_add-g c =
-    omega (arith, subst (λ (x : Atom). (comparison c.args.vars x).group < 9) c.atom-1.given.1 c.requires)
+    omega (arith, subst (λ (x : Atom). (comparison c.args.vars x).group < 9) c.in-OnClock.is c.requires)
 
 pub overflow_add-g-in-OnClock : goal.overflow_add-g-in-OnClock
 overflow_add-g-in-OnClock c =
-    omega (arith, subst (λ (x : Atom). (comparison c.args.vars x).group < 9) c.atom-1.given.1 c.requires)
+    omega (arith, subst (λ (x : Atom). (comparison c.args.vars x).group < 9) c.in-OnClock.is c.requires)
 
 pub returns-in-Blank : goal.returns-in-Blank
-returns-in-Blank c = rw c.enum_told-1.given.1
+returns-in-Blank c = rw c.in-Blank.is
 
 pub returns-in-OnClock : goal.returns-in-OnClock
-returns-in-OnClock c = rw c.atom-1.given.1
+returns-in-OnClock c = rw c.in-OnClock.is
 
 pub returns-in-OnCounter : goal.returns-in-OnCounter
-returns-in-OnCounter c = rw c.atom-in-OnCounter-1.given.1
+returns-in-OnCounter c = rw c.in-OnCounter.is

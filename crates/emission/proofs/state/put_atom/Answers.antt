@@ -18,21 +18,19 @@ abbrev table : goal.Start → GroupTable
 table c = atom_table c.args.vars c.args.first.now c.args.size.now
 
 -- the table has the group
-in_table : (c : goal.After-compared-c → c.compared.result.group < 9
+in_table : (c : goal.After-compared-c) → c.compared-c.result.group < 9
 in_table c =
-    let start = c.before.before.before in
-    subst (λ (x : Comparison). x.group < 9) (sym c.compared.ensures) (group_in start.args.atom start.requires.2)
+    subst (λ (x : Comparison). x.group < 9) (sym c.compared-c.ensures) (group_in c.args.atom c.requires.2)
 
 -- the part of an atom that is not blank
-part : (c : goal.Else-g-eq0 → let start = c.before.before.before.before in let a = start.args in let r = c.before.compared.result in
-    atom_part (table start) a.o a.atom ≡ exclude_by a.first.now a.size.now a.o r.group r.relation r.constant
+part : (c : goal.Else-g-eq0) → let a = c.args in let r = c.compared-c.result in
+    atom_part (table c.before.before.before.before) a.o a.atom ≡ exclude_by a.first.now a.size.now a.o r.group r.relation r.constant
 part c =
-    let at-compared = c.before in
-    let start = at-compared.before.before.before in
-    let a = start.args in
+    let c.before.before.before.before = c.before.before.before.before in
+    let a = c.args in
     let P : Comparison → Type 0 = λ x. (x.group ≡ 0 → ⊥)
-    → atom_part (table start) a.o a.atom ≡ exclude_by a.first.now a.size.now a.o x.group x.relation x.constant in
-    subst P (sym at-compared.compared.ensures) (compared_is start.requires.0 a.o a.atom) c.if1.false
+    → atom_part (table c.before.before.before.before) a.o a.atom ≡ exclude_by a.first.now a.size.now a.o x.group x.relation x.constant in
+    subst P (sym c.compared-c.ensures) (compared_is c.requires.0 a.o a.atom) c.if-g-eq0.false
 
 pub compared-c-requires : goal.compared-c-requires
 compared-c-requires c =

@@ -2,7 +2,7 @@
 use Rattle.model.proofs.Atom.holds.Goals as goal
 
 pub returns-in-OnClock : goal.returns-in-OnClock
-returns-in-OnClock c = rw c.self-1.given.1 (rw c.slot.ensures at c.holds.ensures)
+returns-in-OnClock c = rw c.in-OnClock.is (rw c.slot.ensures at c.holds.ensures)
 
 pub returns-in-OnCounter : goal.returns-in-OnCounter
-returns-in-OnCounter c = rw c.self-in-OnCounter-1.given.1 (rw c.slot-in-OnCounter.ensures at c.holds-in-OnCounter.ensures)
+returns-in-OnCounter c = rw c.in-OnCounter.is (rw c.slot-in-OnCounter.ensures at c.holds-in-OnCounter.ensures)

@@ -2,4 +2,4 @@
 use Rattle.model.proofs.ClockUpdate.next.Goals as goal
 
 pub returns-in-Copy : goal.returns-in-Copy
-returns-in-Copy c = rw c.self-1.given.1 c.slot.ensures
+returns-in-Copy c = rw c.in-Copy.is c.slot.ensures

@@ -12,5 +12,5 @@ use Rattle.model.proofs.Model.counter_size.Goals as goal
 pub returns-else-i-lt-COUNTERS : goal.returns-else-i-lt-COUNTERS
 returns-else-i-lt-COUNTERS c =
     let t1 = c.args.self in
-    let h : length t1.counters ≤ c.args.i = omega (arith, (lengths t1 _ c.well_formed_lem.0).counters) in
+    let h : length t1.counters ≤ c.args.i = omega (arith, (lengths t1 _ c.well_formed.0).counters) in
     (sym (ap (λ (x : Counter). x.greatest + 1) (get_or-eq_default t1.counters blank_counter h)), search rules)

@@ -17,5 +17,5 @@ pub returns-else-at-lt-LOCATIONS : goal.returns-else-at-lt-LOCATIONS
 unfolding invariant_holds all_hold all_below
 returns-else-at-lt-LOCATIONS c =
     let t1 = c.args.self in
-    let h : length t1.invariants ≤ c.args.s.location = omega (arith, (lengths t1 _ c.well_formed_lem.0).invariants) in
+    let h : length t1.invariants ≤ c.args.s.location = omega (arith, (lengths t1 _ c.well_formed.0).invariants) in
     rw (get_or-eq_default t1.invariants past_invariant h)

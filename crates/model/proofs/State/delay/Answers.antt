@@ -7,10 +7,10 @@ use Rattle.model.proofs.State.delay.Goals as goal
 
 pub returns-then-not-invariant_holds : goal.returns-then-not-invariant_holds
 unfolding delay_step
-returns-then-not-invariant_holds c = refused _ _ _ (ap (invariant_holds _) (sym c.delayed-later.ensures) ∙ told_false c.invariant_holds.ensures c.if-not-invariant_holds.taken)
+returns-then-not-invariant_holds c = refused _ _ _ (ap (invariant_holds _) (sym c.delayed-later.ensures) ∙ told_false c.invariant_holds.ensures c.if-not-invariant_holds.true-raw)
 
 pub returns : goal.returns
 unfolding delay_step
 returns c =
     let delayed-ensures = c.delayed-later.ensures in
-    taken _ _ _ _ (ap (invariant_holds _) (sym delayed-ensures) ∙ told_true c.invariant_holds.ensures c.if-not-invariant_holds.left) delayed-ensures
+    taken _ _ _ _ (ap (invariant_holds _) (sym delayed-ensures) ∙ told_true c.invariant_holds.ensures c.if-not-invariant_holds.false-raw) delayed-ensures

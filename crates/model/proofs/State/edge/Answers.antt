@@ -10,39 +10,39 @@ use Rattle.model.proofs.IndexedLaws.{told_false, told_true}
 use Rattle.model.proofs.State.edge.Goals as goal
 
 -- the answer where no update leaves its range
-answer : (c : goal.Else-not-updated {r : Stepped} →
-    let a = c.before.before.before.before.before.args in
-    let vs = c.before.before.updated.result.values in
+answer : (c : goal.Else-not-updated) {r : Stepped} →
+    let a = c.args in
+    let vs = c.updated-updated.result.values in
     r ≡ stepped a.self (only_if (edge_allowed a.m a.e a.self vs) (after_edge a.e a.self vs))
     → r ≡ stepped a.self (edge_step a.m a.e a.self)
 answer c h =
-    let a = c.before.before.before.before.before.args in
-    one_update a.m a.e a.self (updated_some _ _ c.before.before.updated.ensures (not-false _ c.if1.left)) h
+    let a = c.args in
+    one_update a.m a.e a.self (updated_some _ _ c.updated-updated.ensures (not-false _ c.if-not-updated.false)) h
 
 pub returns-then-not-updated : goal.returns-then-not-updated
 returns-then-not-updated c =
     let a = c.args in
-    no_update a.m a.e a.self (updated_none _ _ c.updated-updated.ensures (not-true _ c.if-not-updated.taken))
+    no_update a.m a.e a.self (updated_none _ _ c.updated-updated.ensures (not-true _ c.if-not-updated.true))
 
 pub returns-then-self-e : goal.returns-then-self-e
 returns-then-self-e c =
-    answer c.before.before.before.before.before (refused _ _ _ (allowed_is _ _ _ _ (ne_eqb _ _ c.if-self-e.taken) refl refl))
+    answer c.before.before.before.before.before (refused _ _ _ (allowed_is _ _ _ _ (ne_eqb _ _ c.if-self-e.true) refl refl))
 
 pub returns-then-not-all_hold : goal.returns-then-not-all_hold
 returns-then-not-all_hold c =
-    answer c.before.before.before.before.before.before.before.before (refused _ _ _ (allowed_is _ _ _ _ (eq-eqb _ _ c.if-self-e.left) (told_false c.all_hold.ensures c.if-not-all_hold.taken) refl))
+    answer c.before.before.before.before.before.before.before.before (refused _ _ _ (allowed_is _ _ _ _ (eq-eqb _ _ c.if-self-e.false) (told_false c.all_hold.ensures c.if-not-all_hold.true-raw) refl))
 
 pub returns-then-not-invariant_holds : goal.returns-then-not-invariant_holds
 returns-then-not-invariant_holds c =
     let after-edge = c.after_edge-next in
     answer c.before.before.before.before.before.before.before.before.before.before (refused _ _ _
-    (allowed_is _ _ _ _ (eq-eqb _ _ c.if-self-e.left) (told_true c.all_hold.ensures c.if-not-all_hold.left)
-    (ap (invariant_holds _) (sym after-edge.ensures) ∙ told_false c.invariant_holds.ensures c.if-not-invariant_holds.taken)))
+    (allowed_is _ _ _ _ (eq-eqb _ _ c.if-self-e.false) (told_true c.all_hold.ensures c.if-not-all_hold.false-raw)
+    (ap (invariant_holds _) (sym after-edge.ensures) ∙ told_false c.invariant_holds.ensures c.if-not-invariant_holds.true-raw)))
 
 pub returns : goal.returns
 returns c =
     let after-edge = c.after_edge-next in
     answer c.before.before.before.before.before.before.before.before.before.before (taken _ _ _ _
-    (allowed_is _ _ _ _ (eq-eqb _ _ c.if-self-e.left) (told_true c.all_hold.ensures c.if-not-all_hold.left)
-    (ap (invariant_holds _) (sym after-edge.ensures) ∙ told_true c.invariant_holds.ensures c.if-not-invariant_holds.left))
+    (allowed_is _ _ _ _ (eq-eqb _ _ c.if-self-e.false) (told_true c.all_hold.ensures c.if-not-all_hold.false-raw)
+    (ap (invariant_holds _) (sym after-edge.ensures) ∙ told_true c.invariant_holds.ensures c.if-not-invariant_holds.false-raw))
     after-edge.ensures)

@@ -9,15 +9,13 @@ use borrow.Author.Rules.{rules}
 use Rattle.model.proofs.Update.next.Goals as goal
 
 pub returns-in-Keep : goal.returns-in-Keep
-returns-in-Keep c = rw c.enum_told-1.given.1
+returns-in-Keep c = rw c.in-Keep.is
 
 pub returns-in-Constant : goal.returns-in-Constant
-returns-in-Constant c = rw c.self-1.given.1 c.in_range.ensures
+returns-in-Constant c = rw c.in-Constant.is c.in_range.ensures
 
 pub returns-in-Sum : goal.returns-in-Sum
 returns-in-Sum c =
-    let self2 = c.self-in-Sum-1 in
     let a = c.args in
-    let v = self2.given.0 in
-    let back : to_z w8 (of_z w8 v.1.0) ≡ v.1.0 = search rules in
-    rw self2.given.1 (c.shift.ensures ∙ ap₂ (λ (n : ℕ) (z : ℤ). new_value (shifted z a.greatest n)) c.slot.ensures back)
+    let back : to_z w8 (of_z w8 c.in-Sum.offset) ≡ c.in-Sum.offset = search rules in
+    rw c.in-Sum.is (c.shift.ensures ∙ ap₂ (λ (n : ℕ) (z : ℤ). new_value (shifted z a.greatest n)) c.slot.ensures back)

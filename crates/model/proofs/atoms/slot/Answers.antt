@@ -5,4 +5,4 @@ use native.Mathlib.Omega.{arith}
 use Rattle.model.proofs.atoms.slot.Goals as goal
 
 pub returns-else-at-lt-COUNTERS : goal.returns-else-at-lt-COUNTERS
-returns-else-at-lt-COUNTERS c = sym (get_or-eq_default c.args.values 0 (omega (arith, c.well_formed_lem.0.1.0.1)))
+returns-else-at-lt-COUNTERS c = sym (get_or-eq_default c.args.values 0 (omega (arith, c.well_formed.0.1.0.1)))

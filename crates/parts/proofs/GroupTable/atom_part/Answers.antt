@@ -2,10 +2,10 @@
 use Rattle.parts.proofs.GroupTable.atom_part.Goals as goal
 
 pub returns-in-Blank : goal.returns-in-Blank
-returns-in-Blank c = rw c.enum_told-1.given.1
+returns-in-Blank c = rw c.in-Blank.is
 
 pub returns-in-OnClock : goal.returns-in-OnClock
-returns-in-OnClock c = rw c.atom-1.given.1 c.exclude_part.ensures
+returns-in-OnClock c = rw c.in-OnClock.is c.exclude_part.ensures
 
 pub returns-in-OnCounter : goal.returns-in-OnCounter
-returns-in-OnCounter c = rw c.atom-in-OnCounter-1.given.1 c.exclude_part-in-OnCounter.ensures
+returns-in-OnCounter c = rw c.in-OnCounter.is c.exclude_part-in-OnCounter.ensures

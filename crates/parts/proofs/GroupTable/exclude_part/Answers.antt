@@ -6,10 +6,9 @@ use Rattle.parts.specs.Numbering.{sixteen_bits}
 use Rattle.parts.proofs.GroupTable.exclude_part.Goals as goal
 
 -- where the group begins
-before_in : (c : goal.After-slot → c.before.before.before.args.o + c.slot.result < sixteen_bits
+before_in : (c : goal.After-slot) → c.args.o + c.slot.result < sixteen_bits
 before_in c =
-    let entry = c.before.before.before in
-    omega (arith, c.slot.ensures, entry.requires.0.first_le entry.args.g)
+    omega (arith, c.slot.ensures, c.requires.0.first_le c.args.g)
 
 pub overflow_cast-result-2 : goal.overflow_cast-result-2
 overflow_cast-result-2 c = record { fits = omega (arith, before_in c) }

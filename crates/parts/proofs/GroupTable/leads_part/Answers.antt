@@ -5,18 +5,16 @@ use Rattle.parts.specs.Numbering.{sixteen_bits}
 use Rattle.parts.proofs.GroupTable.leads_part.Goals as goal
 
 -- where the group before begins
-before_in : (c : goal.After-slot → c.before.before.before.args.from + c.slot.result < sixteen_bits
+before_in : (c : goal.After-slot) → c.args.from + c.slot.result < sixteen_bits
 before_in c =
-    let entry = c.before.before.before in
-    let small = entry.requires.0 in
-    omega (arith, c.slot.ensures, small.first_le entry.args.g, small.state_le, small.choices_le, entry.requires.1)
+    let small = c.requires.0 in
+    omega (arith, c.slot.ensures, small.first_le c.args.g, small.state_le, small.choices_le, c.requires.1)
 
 -- where the group after begins
-after_in : (c : goal.After-slot-3 → let a = c.before.before.before.before.before.before.before.args in
-    a.o + a.self.state + a.self.choices + c.slot3.result < sixteen_bits
+after_in : (c : goal.After-slot-3) → let a = c.args in
+    a.o + a.self.state + a.self.choices + c.slot-3.result < sixteen_bits
 after_in c =
-    let entry = c.before.before.before.before.before.before.before in
-    omega (arith, c.slot3.ensures, entry.requires.0.first_le entry.args.h, entry.requires.0.state_le, entry.requires.0.choices_le)
+    omega (arith, c.slot-3.ensures, c.requires.0.first_le c.args.h, c.requires.0.state_le, c.requires.0.choices_le)
 
 pub overflow_cast-result-2 : goal.overflow_cast-result-2
 overflow_cast-result-2 c = record { fits = omega (arith, before_in c) }

@@ -5,11 +5,10 @@ use Rattle.parts.specs.Numbering.{sixteen_bits}
 use Rattle.parts.proofs.GroupTable.set_part.Goals as goal
 
 -- where the group begins
-after_in : (c : goal.After-slot → let a = c.before.before.before.before.before.args in
+after_in : (c : goal.After-slot) → let a = c.args in
     a.o + a.self.state + a.self.choices + c.slot.result < sixteen_bits
 after_in c =
-    let entry = c.before.before.before.before.before in
-    omega (arith, c.slot.ensures, entry.requires.0.first_le entry.args.h, entry.requires.0.state_le, entry.requires.0.choices_le)
+    omega (arith, c.slot.ensures, c.requires.0.first_le c.args.h, c.requires.0.state_le, c.requires.0.choices_le)
 
 pub overflow_cast-result-4 : goal.overflow_cast-result-4
 overflow_cast-result-4 c = record { fits = omega (arith, after_in c) }

@@ -24,28 +24,27 @@ read-le b o l false = omega arith
 pub leads_part-requires-in-Sum : goal.leads_part-requires-in-Sum
 leads_part-requires-in-Sum c =
     let args = c.args in
-    let w = c.update-in-Sum-1.given.0.0 in
+    let w = c.in-Sum.source in
     let from_le = read-le args.self args.o c.requires.1 (set_earlier args.order w args.i) in
     (c.requires.0, subst (λ (from : ℕ). from ≤ next_at args.self most_variables) (sym c.read_at-from.ensures) from_le, c.requires.1)
 
 pub returns-in-Keep : goal.returns-in-Keep
-returns-in-Keep c = rw c.enum_told-1.given.1 c.leads_part.ensures
+returns-in-Keep c = rw c.in-Keep.is c.leads_part.ensures
 
 pub returns-in-Constant : goal.returns-in-Constant
 returns-in-Constant c =
     let args = c.args in
     let self = args.self in
     let i = args.i in
-    rw c.update-1.given.1
+    rw c.in-Constant.is
     (c.set_part.ensures ∙ ap (set_part (next_at self args.o + first_at self (1 + i)) (size_at self (1 + i))) c.constant_rule.ensures)
 
 pub returns-in-Sum : goal.returns-in-Sum
 returns-in-Sum c =
-    let v = c.update-in-Sum-1.given.0 in
     let args = c.args in
     let self = args.self in
     let i = args.i in
-    let back : to_z w8 (of_z w8 v.1.0) ≡ v.1.0 = search rules in
-    rw c.update-in-Sum-1.given.1 (c.leads_part-in-Sum.ensures
-    ∙ ap₂ (λ (from : ℕ) (rule : Rule). leads_part self from args.o (1 + v.0) (1 + i) rule) c.read_at-from.ensures
-    (c.before.Shift-rule.ensures ∙ ap (λ (z : ℤ). Shift z (greatest_at self i)) back))
+    let back : to_z w8 (of_z w8 c.in-Sum.offset) ≡ c.in-Sum.offset = search rules in
+    rw c.in-Sum.is (c.leads_part-in-Sum.ensures
+    ∙ ap₂ (λ (from : ℕ) (rule : Rule). leads_part self from args.o (1 + c.in-Sum.source) (1 + i) rule) c.read_at-from.ensures
+    (c.shift_rule-rule.ensures ∙ ap (λ (z : ℤ). Shift z (greatest_at self i)) back))

@@ -16,15 +16,14 @@ use Rattle.search.proofs.truth.check_shifted.Goals as goal
 
 pub both_lead-requires : goal.both_lead-requires
 both_lead-requires c =
-    let u-given = c.u-1.given in
     let args = c.args in
     let offset = args.offset in
     let greatest = args.greatest in
     let v = args.v in
     let back : to_z w8 (of_z w8 offset) ≡ offset = search rules in
     let e = value_some (shifted offset greatest v)
-    (sym u-given.1 ∙ c.shift.ensures ∙ ap (λ (z : ℤ). new_value (shifted z greatest v)) back) in
-    omega (arith, shifted_lt offset greatest v u-given.0.0 e)
+    (sym c.in-Value.is ∙ c.shift.ensures ∙ ap (λ (z : ℤ). new_value (shifted z greatest v)) back) in
+    omega (arith, shifted_lt offset greatest v c.in-Value.u e)
 
 pub returns-in-OutOfRange : goal.returns-in-OutOfRange
 returns-in-OutOfRange c =
@@ -35,18 +34,17 @@ returns-in-OutOfRange c =
     let v = args.v in
     let back : to_z w8 (of_z w8 offset) ≡ offset = search rules in
     let e = out_none (shifted offset greatest v)
-    (sym c.enum_told-1.given.1 ∙ shift.ensures ∙ ap (λ (z : ℤ). new_value (shifted z greatest v)) back) in
+    (sym c.in-OutOfRange.is ∙ shift.ensures ∙ ap (λ (z : ℤ). new_value (shifted z greatest v)) back) in
     rw e (checked_one args.a.now (negated args.x ∷ negated args.y ∷ []) args.at c.counted.ensures c.not_both.ensures)
 
 pub returns-in-Value : goal.returns-in-Value
 returns-in-Value c =
-    let u-given = c.u-1.given in
     let args = c.args in
     let offset = args.offset in
     let greatest = args.greatest in
     let v = args.v in
     let back : to_z w8 (of_z w8 offset) ≡ offset = search rules in
     let e = value_some (shifted offset greatest v)
-    (sym u-given.1 ∙ c.shift.ensures ∙ ap (λ (z : ℤ). new_value (shifted z greatest v)) back) in
-    rw e (checked_one args.a.now (negated args.x ∷ negated args.y ∷ bare (args.after + u-given.0.0) ∷ []) args.at c.counted-in-Value.ensures
+    (sym c.in-Value.is ∙ c.shift.ensures ∙ ap (λ (z : ℤ). new_value (shifted z greatest v)) back) in
+    rw e (checked_one args.a.now (negated args.x ∷ negated args.y ∷ bare (args.after + c.in-Value.u) ∷ []) args.at c.counted-in-Value.ensures
     c.both_lead.ensures)

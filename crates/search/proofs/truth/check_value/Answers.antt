@@ -23,25 +23,25 @@ reaches p n h e = subst (λ (r : Rule). p.after + reach p.size r ≤ n) e h
 
 pub both_lead-requires : goal.both_lead-requires
 both_lead-requires c =
-    omega (arith, reaches c.args.p (length c.args.a.now) c.pre.1.after_in c.enum_told-1.given.1, c.pre.1.before_in)
+    omega (arith, reaches c.args.p (length c.args.a.now) c.pre.1.after_in c.in-Keep.is, c.pre.1.before_in)
 
 pub both_lead-requires-in-Rise : goal.both_lead-requires-in-Rise
 both_lead-requires-in-Rise c =
     let pre₁ = c.pre.1 in
-    omega (arith, reaches c.args.p (length c.args.a.now) pre₁.after_in c.rule-in-Rise-1.given.1, pre₁.before_in)
+    omega (arith, reaches c.args.p (length c.args.a.now) pre₁.after_in c.in-Rise.is, pre₁.before_in)
 
 pub check_shifted-requires : goal.check_shifted-requires
 check_shifted-requires c =
     let pre₁ = c.pre.1 in
-    omega (arith, reaches c.args.p (length c.args.a.now) pre₁.after_in c.rule-in-Shift-1.given.1, pre₁.before_in)
+    omega (arith, reaches c.args.p (length c.args.a.now) pre₁.after_in c.in-Shift.is, pre₁.before_in)
 
 pub one_leads-requires : goal.one_leads-requires
 one_leads-requires c =
-    omega (arith, reaches c.args.p (length c.args.a.now) c.pre.1.after_in c.rule-in-Set-1.given.1)
+    omega (arith, reaches c.args.p (length c.args.a.now) c.pre.1.after_in c.in-Set.is)
 
 pub returns-in-Exclude : goal.returns-in-Exclude
 unfolding value_clauses
-returns-in-Exclude c = rw c.rule-1.given.1 c.check_excluded.ensures
+returns-in-Exclude c = rw c.in-Exclude.is c.check_excluded.ensures
 
 pub returns-in-Keep : goal.returns-in-Keep
 unfolding value_clauses
@@ -49,14 +49,14 @@ returns-in-Keep c =
     let args = c.args in
     let p = args.p in
     let v = args.v in
-    rw c.enum_told-1.given.1
+    rw c.in-Keep.is
     (checked_one args.a.now (negated args.x ∷ negated (p.before + v) ∷ bare (p.after + v) ∷ []) args.at c.counted.ensures
     c.both_lead.ensures)
 
 pub returns-in-Rise : goal.returns-in-Rise
 unfolding value_clauses
 returns-in-Rise c =
-    let rule2-given₁ = c.rule-in-Rise-1.given.1 in
+    let rule2-given₁ = c.in-Rise.is in
     let args = c.args in
     let p = args.p in
     rw (rule2-given₁, ← c.smaller-u.ensures)
@@ -67,26 +67,24 @@ pub returns-in-Shift : goal.returns-in-Shift
 unfolding value_clauses
 returns-in-Shift c =
     let check-shifted = c.check_shifted in
-    let u = c.rule-in-Shift-1.given.0 in
     let args = c.args in
     let v = args.v in
     let p = args.p in
-    let back : to_z w8 (of_z w8 u.0) ≡ u.0 = search rules in
-    rw c.rule-in-Shift-1.given.1 (subst
-    (λ (z : ℤ). Checked args.a.now (rule_clauses args.x (p.before + v) p.after v (Shift z u.1.0)) args.at 1 check-shifted.result)
+    let back : to_z w8 (of_z w8 c.in-Shift.offset) ≡ c.in-Shift.offset = search rules in
+    rw c.in-Shift.is (subst
+    (λ (z : ℤ). Checked args.a.now (rule_clauses args.x (p.before + v) p.after v (Shift z c.in-Shift.greatest)) args.at 1 check-shifted.result)
     back check-shifted.ensures)
 
 pub returns-in-Set : goal.returns-in-Set
 unfolding value_clauses
 returns-in-Set c =
-    let rule4-given = c.rule-in-Set-1.given in
     let args = c.args in
-    rw rule4-given.1 (checked_one args.a.now (negated args.x ∷ bare (args.p.after + rule4-given.0.0) ∷ []) args.at c.counted-in-Set.ensures
+    rw c.in-Set.is (checked_one args.a.now (negated args.x ∷ bare (args.p.after + c.in-Set.u) ∷ []) args.at c.counted-in-Set.ensures
     c.one_leads.ensures)
 
 pub returns-in-Forbid : goal.returns-in-Forbid
 unfolding value_clauses
 returns-in-Forbid c =
     let args = c.args in
-    rw c.enum_told-in-Forbid-1.given.1
+    rw c.in-Forbid.is
     (checked_one args.a.now (negated args.x ∷ []) args.at c.counted-in-Forbid.ensures c.not_one.ensures)

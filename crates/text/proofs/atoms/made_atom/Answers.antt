@@ -2,4 +2,4 @@
 use Rattle.text.proofs.atoms.made_atom.Goals as goal
 
 pub returns-in-Number : goal.returns-in-Number
-returns-in-Number c = rw c.i-1.given.1 c.valued_atom.ensures
+returns-in-Number c = rw c.in-Number.is c.valued_atom.ensures

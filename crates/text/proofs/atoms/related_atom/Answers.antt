@@ -2,7 +2,7 @@
 use Rattle.text.proofs.atoms.related_atom.Goals as goal
 
 pub returns-in-One : goal.returns-in-One
-returns-in-One c = rw c.r-1.given.1 c.named_atom.ensures
+returns-in-One c = rw c.in-One.is c.named_atom.ensures
 
 pub returns-in-Two : goal.returns-in-Two
-returns-in-Two c = rw c.r-in-Two-1.given.1 c.named_atom-in-Two.ensures
+returns-in-Two c = rw c.in-Two.is c.named_atom-in-Two.ensures

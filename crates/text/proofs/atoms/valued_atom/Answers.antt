@@ -2,4 +2,4 @@
 use Rattle.text.proofs.atoms.valued_atom.Goals as goal
 
 pub returns-in-Number : goal.returns-in-Number
-returns-in-Number c = rw c.c-1.given.1 c.related_atom.ensures
+returns-in-Number c = rw c.in-Number.is c.related_atom.ensures

@@ -14,4 +14,4 @@ pub returns-else-e-lt-EDGES : goal.returns-else-e-lt-EDGES
 unfolding with_source
 returns-else-e-lt-EDGES c =
     let a = c.args in
-    edge_out a.m a.e _ (omega (arith, (lengths a.m _ c.well_formed_lem.0).edges))
+    edge_out a.m a.e _ (omega (arith, (lengths a.m _ c.well_formed.0).edges))

@@ -13,4 +13,4 @@ returns-then-i-lt-COUNTERS c = refl
 pub returns-else-i-lt-COUNTERS : goal.returns-else-i-lt-COUNTERS
 returns-else-i-lt-COUNTERS c =
     let a = c.args in
-    counter_out a.m a.i a.c (omega (arith, (lengths a.m _ c.well_formed_lem.0).counters))
+    counter_out a.m a.i a.c (omega (arith, (lengths a.m _ c.well_formed.0).counters))

@@ -13,4 +13,4 @@ returns-then-l-lt-LOCATIONS c = refl
 pub returns-else-l-lt-LOCATIONS : goal.returns-else-l-lt-LOCATIONS
 returns-else-l-lt-LOCATIONS c =
     let a = c.args in
-    invariant_out a.m a.l a.atoms (omega (arith, (lengths a.m _ c.well_formed_lem.0).invariants))
+    invariant_out a.m a.l a.atoms (omega (arith, (lengths a.m _ c.well_formed.0).invariants))

@@ -2,4 +2,4 @@
 use Rattle.text.proofs.resets.reset_named.Goals as goal
 
 pub returns-in-Number : goal.returns-in-Number
-returns-in-Number c = rw c.x-1.given.1
+returns-in-Number c = rw c.in-Number.is

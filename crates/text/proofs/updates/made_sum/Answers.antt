@@ -2,4 +2,4 @@
 use Rattle.text.proofs.updates.made_sum.Goals as goal
 
 pub returns-in-Number : goal.returns-in-Number
-returns-in-Number c = rw c.w-1.given.1 c.Valued-sum.ensures
+returns-in-Number c = rw c.in-Number.is c.valued_sum.ensures

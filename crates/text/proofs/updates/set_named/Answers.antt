@@ -2,4 +2,4 @@
 use Rattle.text.proofs.updates.set_named.Goals as goal
 
 pub returns-in-Number : goal.returns-in-Number
-returns-in-Number c = rw c.v-1.given.1 c.set_to.ensures
+returns-in-Number c = rw c.in-Number.is c.set_to.ensures

@@ -2,4 +2,4 @@
 use Rattle.text.proofs.updates.valued_sum.Goals as goal
 
 pub returns-in-Number : goal.returns-in-Number
-returns-in-Number c = rw c.n-1.given.1 c.signed_sum.ensures
+returns-in-Number c = rw c.in-Number.is c.signed_sum.ensures

@@ -19,6 +19,6 @@ pub returns : goal.returns
 returns c =
     let pair = c.read_pair-pair in
     let args = c.args in
-    c.counted.ensures ∙ ap counted_sizes c.before.Counts-of.ensures
+    c.counted.ensures ∙ ap counted_sizes c.counts_of.ensures
     ∙ pair_composed_lem (λ (m : Model). counted_sizes (list_report m args.bound)) refused_sizes args.first.now args.second.now pair.result
     pair.ensures c.if-pair-ne0.false

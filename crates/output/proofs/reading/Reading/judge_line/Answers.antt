@@ -7,8 +7,8 @@ use Rattle.output.specs.OutputCall.{is_no_fault}
 use Rattle.output.specs.Counting.{count_line}
 use Rattle.output.proofs.reading.Reading.judge_line.Goals as goal
 
-faultless : (c : goal.Else-not-is_none → is_no_fault c.before.before.args.self.fault ≡ true
-faultless c = sym c.before.is_none.ensures ∙ not-false _ c.if1.false
+faultless : (c : goal.Else-not-is_none) → is_no_fault c.args.self.fault ≡ true
+faultless c = sym c.is_none.ensures ∙ not-false _ c.if-not-is_none.false-raw
 
 pub returns-then-not-is_none : goal.returns-then-not-is_none
 unfolding count_line

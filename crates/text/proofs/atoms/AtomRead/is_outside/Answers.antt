@@ -2,7 +2,7 @@
 use Rattle.text.proofs.atoms.AtomRead.is_outside.Goals as goal
 
 pub returns-in-ClockAtom : goal.returns-in-ClockAtom
-returns-in-ClockAtom c = rw c.self-1.given.1
+returns-in-ClockAtom c = rw c.in-ClockAtom.is
 
 pub returns-in-CounterAtom : goal.returns-in-CounterAtom
-returns-in-CounterAtom c = rw c.self-in-CounterAtom-1.given.1
+returns-in-CounterAtom c = rw c.in-CounterAtom.is

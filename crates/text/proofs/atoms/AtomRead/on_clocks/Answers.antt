@@ -2,4 +2,4 @@
 use Rattle.text.proofs.atoms.AtomRead.on_clocks.Goals as goal
 
 pub returns-in-ClockAtom : goal.returns-in-ClockAtom
-returns-in-ClockAtom c = rw c.self-1.given.1
+returns-in-ClockAtom c = rw c.in-ClockAtom.is

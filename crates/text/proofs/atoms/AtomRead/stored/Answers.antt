@@ -2,7 +2,7 @@
 use Rattle.text.proofs.atoms.AtomRead.stored.Goals as goal
 
 pub returns-in-ClockAtom : goal.returns-in-ClockAtom
-returns-in-ClockAtom c = rw (c.self-1.given.1, c.narrow.ensures, c.narrow-in-ClockAtom.ensures)
+returns-in-ClockAtom c = rw (c.in-ClockAtom.is, c.narrow.ensures, c.narrow-in-ClockAtom.ensures)
 
 pub returns-in-CounterAtom : goal.returns-in-CounterAtom
-returns-in-CounterAtom c = rw (c.self-in-CounterAtom-1.given.1, c.narrow-in-CounterAtom.ensures, c.narrow-in-CounterAtom-2.ensures)
+returns-in-CounterAtom c = rw (c.in-CounterAtom.is, c.narrow-in-CounterAtom.ensures, c.narrow-in-CounterAtom-2.ensures)

@@ -2,7 +2,7 @@
 use Rattle.text.proofs.resets.ResetRead.is_undeclared.Goals as goal
 
 pub returns-in-ToZero : goal.returns-in-ToZero
-returns-in-ToZero c = rw c.self-1.given.1
+returns-in-ToZero c = rw c.in-ToZero.is
 
 pub returns-in-ToCopy : goal.returns-in-ToCopy
-returns-in-ToCopy c = rw c.self-in-ToCopy-1.given.1
+returns-in-ToCopy c = rw c.in-ToCopy.is

@@ -2,4 +2,4 @@
 use Rattle.text.proofs.resets.ResetRead.stored.Goals as goal
 
 pub returns-in-ToCopy : goal.returns-in-ToCopy
-returns-in-ToCopy c = rw (c.self-1.given.1, c.narrow.ensures)
+returns-in-ToCopy c = rw (c.in-ToCopy.is, c.narrow.ensures)

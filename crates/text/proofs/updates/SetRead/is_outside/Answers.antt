@@ -2,7 +2,7 @@
 use Rattle.text.proofs.updates.SetRead.is_outside.Goals as goal
 
 pub returns-in-ToConstant : goal.returns-in-ToConstant
-returns-in-ToConstant c = rw c.self-1.given.1
+returns-in-ToConstant c = rw c.in-ToConstant.is
 
 pub returns-in-ToSum : goal.returns-in-ToSum
-returns-in-ToSum c = rw c.self-in-ToSum-1.given.1
+returns-in-ToSum c = rw c.in-ToSum.is

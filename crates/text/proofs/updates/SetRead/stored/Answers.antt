@@ -7,11 +7,9 @@ use borrow.Author.Rules.{rules}
 use Rattle.text.proofs.updates.SetRead.stored.Goals as goal
 
 pub returns-in-ToConstant : goal.returns-in-ToConstant
-returns-in-ToConstant c = rw (c.self-1.given.1, c.narrow.ensures)
+returns-in-ToConstant c = rw (c.in-ToConstant.is, c.narrow.ensures)
 
 pub returns-in-ToSum : goal.returns-in-ToSum
 returns-in-ToSum c =
     let back : to_z w8 (of_z w8 c.offset-z.result) ≡ c.offset-z.result = search rules in
-    let s = c.self-in-ToSum-1.given in
-    let v = s.0 in
-    rw s.1 (sum_stored v.0 v.1.0 v.1.1.0 v.1.1.1.0 c.narrow-in-ToSum.ensures back c.offset-z.ensures)
+    rw c.in-ToSum.is (sum_stored c.in-ToSum.counter c.in-ToSum.source c.in-ToSum.negative c.in-ToSum.amount c.narrow-in-ToSum.ensures back c.offset-z.ensures)
