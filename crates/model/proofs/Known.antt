@@ -1,7 +1,7 @@
 -- What owning a record tells of its arrays: how long they are.
 use mathlib.Core.List.{List}
-use mathlib.Core.Path.{◌≡◌, sym, ◌∙◌}
-use lib.ListN.{length, length-map}
+use mathlib.Core.Path.{◌≡◌}
+use lib.ListN.{length}
 use mir.Val.{Val}
 use denote.Laws.{Is}
 use Rattle.model.specs.declared.Model.{Model}
@@ -16,10 +16,10 @@ pub record Lengths (m : Model) : Type 0 where
 
 pub lengths : (m : Model) (vs : List Val) → Is ModelT.the_row m vs → Lengths m
 lengths m vs g = record {
-  counters = sym (length-map m.counters _) ∙ g.1.1.1.1.1.1.1.0.1.0.1;
-  invariants = sym (length-map m.invariants _) ∙ g.1.1.1.1.1.1.1.1.0.1.0.1;
-  edges = sym (length-map m.edges _) ∙ g.1.1.1.1.1.1.1.1.1.1.0.1.0.1;
+  counters = g.1.1.1.1.1.1.1.0.1.0.1;
+  invariants = g.1.1.1.1.1.1.1.1.0.1.0.1;
+  edges = g.1.1.1.1.1.1.1.1.1.1.0.1.0.1;
 }
 
 pub updates_long : (e : Edge) (vs : List Val) → Is EdgeT.the_row e vs → length e.updates ≡ 4
-updates_long e vs g = sym (length-map e.updates _) ∙ g.1.1.1.1.1.1.0.1.0.1
+updates_long e vs g = g.1.1.1.1.1.1.0.1.0.1

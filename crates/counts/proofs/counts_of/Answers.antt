@@ -6,9 +6,10 @@ use Rattle.model.specs.Form.{well_formed}
 use Rattle.model.proofs.IndexedLaws.{T_true}
 use Rattle.counts.specs.CountsCall.{list_report, list_reported}
 use Rattle.counts.proofs.counts_of.Goals as goal
+use Rattle.counts.proofs.counts_of.Goals.{Else-bound-gt-STEPS}
 
 -- past the first test the record is well formed
-accepted : (c : goal.Else-bound-gt-STEPS) → well_formed c.args.m ≡ true
+accepted : (c : Else-bound-gt-STEPS) → well_formed c.args.m ≡ true
 accepted c = sym c.well_formed-2.ensures ∙ not-false _ c.if-not-well_formed.false-raw
 
 pub returns-then-not-well_formed : goal.returns-then-not-well_formed

@@ -13,9 +13,10 @@ use Rattle.counts.proofs.CountedList.{edge_counted, edges_counted}
 use Rattle.counts.proofs.PieceBounds.{edges_most}
 use borrow.Author.Rules.{rules}
 use Rattle.counts.proofs.edges_count.Goals as goal
+use Rattle.counts.proofs.edges_count.Goals.{After-edge_count-a}
 
 -- with one edge more
-next : (c : goal.After-edge-count invariant-loop decreases-loop)
+next : (c : After-edge_count-a invariant-loop decreases-loop)
     → let l = c.before.before.before.loop in let m = c.before.before.before.before.args.t1 in
     (o : ℕ) → Counted (each (l.i + 1) (λ j. clauses_of (edge_of one_hot_width m o j)))
     (l.clauses + c.IsEdge-count.result.clauses) (l.words + c.IsEdge-count.result.words)
@@ -23,7 +24,7 @@ next c o =
     let p = c.before.before.before in
     counted_each_more _ (p.loop.invariant.2 o) (edge_counted p.before.requires p.loop.i (omega arith) c.IsEdge-count.ensures o)
 
-most : (c : goal.After-edge-count invariant-loop decreases-loop)
+most : (c : After-edge_count-a invariant-loop decreases-loop)
     → let m = c.before.before.before.before.args.t1 in
     Most (each (c.before.before.before.loop.i + 1) (λ j. clauses_of (edge_of one_hot_width m 0 j))) 12352 45248
 most c =

@@ -13,9 +13,10 @@ use Rattle.counts.proofs.CountedList.{location_counted, invariants_counted}
 use Rattle.counts.proofs.PieceBounds.{invariants_most}
 use borrow.Author.Rules.{rules}
 use Rattle.counts.proofs.invariants_count.Goals as goal
+use Rattle.counts.proofs.invariants_count.Goals.{After-atoms_count-a}
 
 -- with one location more
-next : (c : goal.After-atoms-count invariant-loop decreases-loop)
+next : (c : After-atoms_count-a invariant-loop decreases-loop)
     → let l = c.before.before.before.before.loop in let m = c.before.before.before.before.before.args.t1 in
     (o : ℕ) → Counted (each (l.l + 1) (λ j. clauses_of (invariant_of one_hot_width m o j)))
     (l.clauses + c.atoms-count.result.clauses) (l.words + c.atoms-count.result.words)
@@ -23,7 +24,7 @@ next c o =
     let p = c.before.before.before.before in
     counted_each_more _ (p.loop.invariant.2 o) (location_counted p.before.requires p.loop.l (omega arith) c.atoms-count.ensures o)
 
-most : (c : goal.After-atoms-count invariant-loop decreases-loop)
+most : (c : After-atoms_count-a invariant-loop decreases-loop)
     → let m = c.before.before.before.before.before.args.t1 in
     Most (each (c.before.before.before.before.loop.l + 1) (λ j. clauses_of (invariant_of one_hot_width m 0 j))) 2048 6144
 most c =

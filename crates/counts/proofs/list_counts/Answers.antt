@@ -10,15 +10,16 @@ use Rattle.counts.proofs.CountLaws.{Most, clauses_le, words_le}
 use Rattle.counts.proofs.CountedList.{list_counted, list_words, known_variables}
 use Rattle.counts.proofs.PieceBounds.{state_most, moves_most, list_most}
 use Rattle.counts.proofs.list_counts.Goals as goal
+use Rattle.counts.proofs.list_counts.Goals.{After-moves_count-t}
 
-variables-le-most : (c : goal.After-moves-count)
+variables-le-most : (c : After-moves_count-t)
     → let a = c.before.before.args in a.z.state + a.bound * (a.z.state + a.z.choices) ≤ most_variables
 variables-le-most c =
     let p = c.before.before in
     let a = p.args in
     omega (arith, known_variables a.m a.z p.requires.0 a.bound, variables_le a.m (formed a.m p.requires.1.formed) a.bound p.requires.2)
 
-counted : (c : goal.After-moves-count)
+counted : (c : After-moves_count-t)
     → let a = c.before.before.args in
     let s = c.before.state-count.result in
     let t = c.moves-count.result in
@@ -26,18 +27,18 @@ counted : (c : goal.After-moves-count)
     (s.words + a.b.groups * 2 + a.bound * (t.words + s.words) + 2)
 counted c = let p = c.before.before in list_counted p.requires.1 p.args.bound c.before.state-count.ensures c.moves-count.ensures
 
-most : (c : goal.After-moves-count) → let a = c.before.before.args in Most (clauses a.m a.bound) most_clauses most_words
+most : (c : After-moves_count-t) → let a = c.before.before.args in Most (clauses a.m a.bound) most_clauses most_words
 most c = let p = c.before.before in list_most p.args.m p.requires.1.formed p.args.bound p.requires.2
 
 -- a step
-step-clauses : (c : goal.After-moves-count) → c.moves-count.result.clauses + c.before.state-count.result.clauses ≤ 29218
+step-clauses : (c : After-moves_count-t) → c.moves-count.result.clauses + c.before.state-count.result.clauses ≤ 29218
 step-clauses c =
     let p = c.before.before in
     let s = clauses_le (c.before.state-count.ensures 0) (state_most p.args.m p.requires.1.formed 0) in
     let t = clauses_le (c.moves-count.ensures 0) (moves_most p.args.m p.requires.1.formed 0) in
     omega (arith, s, t)
 
-step_words : (c : goal.After-moves-count) → c.moves-count.result.words + c.before.state-count.result.words ≤ 104866
+step_words : (c : After-moves_count-t) → c.moves-count.result.words + c.before.state-count.result.words ≤ 104866
 step_words c =
     let p = c.before.before in
     let s = words_le (c.before.state-count.ensures 0) (state_most p.args.m p.requires.1.formed 0) in

@@ -11,14 +11,15 @@ use Rattle.counts.proofs.CountLaws.{Most, clauses_le, words_le}
 use Rattle.counts.proofs.CountedList.{moves_counted}
 use Rattle.counts.proofs.PieceBounds.{moves_most}
 use Rattle.counts.proofs.moves_count.Goals as goal
+use Rattle.counts.proofs.moves_count.Goals.{After-edges_count-e, Start}
 
-delays-le : (c : goal.Start) → (c.args.b.top + 1) * c.args.b.state ≤ 8704
+delays-le : (c : Start) → (c.args.b.top + 1) * c.args.b.state ≤ 8704
 delays-le c =
     let h = known_bounded c.requires in
     let t : c.args.b.top + 1 ≤ 32 = omega (arith, h.top_le) in
     mul-le-mul t h.state_le
 
-counted : (c : goal.After-edges-count)
+counted : (c : After-edges_count-e)
     → let a = c.before.before.before.before.args in
     let m = a.m in
     let n = (a.b.top + 1) * a.b.state in
@@ -30,7 +31,7 @@ counted c o =
     let p = c.before.before.before in
     moves_counted p.before.requires o p.group-count.ensures (c.edges-count.ensures o)
 
-most : (c : goal.After-edges-count)
+most : (c : After-edges_count-e)
     → let m = c.before.before.before.before.args.m in
     Most (clauses_of (choice_items one_hot_width m 0) ++ clauses_of (delays_items one_hot_width m 0) ++ clauses_of (edges_items one_hot_width m 0)) 23073 86177
 most c = let p = c.before.before.before.before in moves_most p.args.m p.requires.formed 0

@@ -9,8 +9,9 @@ use Rattle.counts.proofs.CountLaws.{clauses_le, words_le}
 use Rattle.counts.proofs.CountedList.{state_counted}
 use Rattle.counts.proofs.PieceBounds.{state_most}
 use Rattle.counts.proofs.state_count.Goals as goal
+use Rattle.counts.proofs.state_count.Goals.{After-invariants_count-i}
 
-counted : (c : goal.After-invariants-count)
+counted : (c : After-invariants_count-i)
     → let g = c.before.groups-count.result in let i = c.invariants-count.result in
     (o : ℕ) → Counted (clauses_of (state_items one_hot_width c.before.before.args.m o)) (g.clauses + i.clauses) (g.words + i.words)
 counted c o = state_counted c.before.before.requires o (c.before.groups-count.ensures o) (c.invariants-count.ensures o)

@@ -6,13 +6,14 @@ use Rattle.dimacs.specs.Pages.{rows_to_print, pages_to_print}
 use Rattle.dimacs.proofs.PrintLaws.{row_of_file, file_formed, file_small, rows_are, pages_are, no_row, no_page, no_room, some_page}
 use Rattle.dimacs.proofs.PrintLaws.{printed_none, printed_as}
 use Rattle.dimacs.proofs.page.Goals as goal
+use Rattle.dimacs.proofs.page.Goals.{Else-pages_to_print-p, Else-rows_to_print-row}
 
 -- past the first test there is such a row
-in-file : (c : goal.Else-rows_to_print-row) → c.args.row < rows_to_print c.args.m c.args.bound
+in-file : (c : Else-rows_to_print-row) → c.args.row < rows_to_print c.args.m c.args.bound
 in-file c = omega (arith, c.rows_to_print.ensures.0, c.if-rows_to_print-row.false)
 
 -- past the second test there is such a page
-in_row : (c : goal.Else-pages_to_print-p) → let a = c.args in a.p < pages_to_print a.m a.bound a.row
+in_row : (c : Else-pages_to_print-p) → let a = c.args in a.p < pages_to_print a.m a.bound a.row
 in_row c = omega (arith, c.pages_to_print.ensures.0, c.if-pages_to_print-p.false)
 
 pub returns-then-rows_to_print-row : goal.returns-then-rows_to_print-row

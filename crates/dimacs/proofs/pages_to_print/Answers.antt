@@ -6,9 +6,10 @@ use borrow.Author.Tests.{not-true, not-false}
 use Rattle.dimacs.specs.Pages.{has_file}
 use Rattle.dimacs.proofs.PrintLaws.{file_formed, file_small, pages_none, pages_are}
 use Rattle.dimacs.proofs.pages_to_print.Goals as goal
+use Rattle.dimacs.proofs.pages_to_print.Goals.{Else-not-has_file}
 
 -- past the test there is a file
-has : (c : goal.Else-not-has_file) → has_file c.args.m c.args.bound ≡ true
+has : (c : Else-not-has_file) → has_file c.args.m c.args.bound ≡ true
 has c = sym c.has_file.ensures ∙ not-false _ c.if-not-has_file.false-raw
 
 pub returns-then-not-has_file : goal.returns-then-not-has_file

@@ -9,9 +9,10 @@ use Prim.Native.Nat.{min, ◌≤◌}
 use mathlib.Core.Bool.{true}
 use mathlib.Core.Path.{◌≡◌, sym, ◌∙◌}
 use Rattle.emission.proofs.emit_within.Goals as goal
+use Rattle.emission.proofs.emit_within.Goals.{Else-bound-gt-STEPS}
 
 -- past the first two tests the record is well formed
-formed_is : (c : goal.Else-bound-gt-STEPS) → well_formed c.args.m ≡ true
+formed_is : (c : Else-bound-gt-STEPS) → well_formed c.args.m ≡ true
 formed_is c = sym c.well_formed-2.ensures ∙ not-false _ c.if-not-well_formed.false-raw
 
 pub returns-then-not-well_formed : goal.returns-then-not-well_formed

@@ -7,9 +7,10 @@ use lib.Dec.{ltb, eqb}
 use borrow.Author.Tests.{lt-ltb, le-ltb}
 use Rattle.form.proofs.FormParts.{slot_is}
 use Rattle.form.proofs.order_slot_formed.Goals as goal
+use Rattle.form.proofs.order_slot_formed.Goals.{Else-k-n}
 
 -- the slot is used
-used : (c : goal.Else-k-n) → ltb c.args.k (listed c.args.e) ≡ true
+used : (c : Else-k-n) → ltb c.args.k (listed c.args.e) ≡ true
 used c = ap (ltb c.args.k) (sym c.requires.0) ∙ lt-ltb _ _ c.if-k-n.false
 
 pub returns-then-k-n : goal.returns-then-k-n

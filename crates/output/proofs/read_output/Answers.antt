@@ -10,9 +10,10 @@ use Rattle.output.proofs.CapLaws.{judged_cut}
 use Rattle.output.proofs.CountLaws.{stands, again}
 use Rattle.output.proofs.LiteralLaws.{counted_same}
 use Rattle.output.proofs.read_output.Goals as goal
+use Rattle.output.proofs.read_output.Goals.{After-fresh-fresh}
 
 -- the literals that were looked at are those counted by the first pass
-looked : (c : goal.After-fresh-fresh)
+looked : (c : After-fresh-fresh)
     → let args = c.args in
     c.fresh-fresh.result
     ≡ fresh_after [] (take c.read_through-first.result.named (literals_in (tokens_of (literal_up_to args.most) args.text.now)))

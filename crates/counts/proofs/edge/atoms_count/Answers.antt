@@ -11,9 +11,10 @@ use Rattle.counts.specs.PartCounts.{part_count, part_words}
 use Rattle.counts.proofs.CountLaws.{counted_each_none, counted_each_more, Most, clauses_le, words_le}
 use Rattle.counts.proofs.EdgeLaws.{atom_counted, atom_small, atoms_most}
 use Rattle.counts.proofs.edge.atoms_count.Goals as goal
+use Rattle.counts.proofs.edge.atoms_count.Goals.{After-count_part-a}
 
 -- with one atom more
-next : (c : goal.After-count-part invariant-loop decreases-loop)
+next : (c : After-count_part-a invariant-loop decreases-loop)
     → let l = c.before.before.before.before.loop in let a = c.before.before.before.before.before.args in
     (x o : ℕ) → Counted (each (l.k + 1) (atom_piece a.b o x a.t2)) (l.clauses + c.count-part.result.clauses) (l.words + c.count-part.result.words)
 next c x o =
@@ -23,7 +24,7 @@ next c x o =
     let n = c.count-part.ensures in
     counted_each_more _ (l.invariant.1 x o) (atom_counted a.b o x (atom_at a.t2 l.k) (n.0 ∙ ap part_count r) (n.1 ∙ ap part_words r))
 
-most : (c : goal.After-count-part invariant-loop decreases-loop)
+most : (c : After-count_part-a invariant-loop decreases-loop)
     → let l = c.before.before.before.before.loop in let a = c.before.before.before.before.before.args in
     Most (each (l.k + 1) (atom_piece a.b 0 0 a.t2)) 128 384
 most c =

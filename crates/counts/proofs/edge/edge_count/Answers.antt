@@ -10,9 +10,10 @@ use Rattle.counts.specs.PartCounts.{part_count, part_words}
 use Rattle.counts.proofs.CountLaws.{counted_each_none, counted_each_more, Most, clauses_le, words_le}
 use Rattle.counts.proofs.EdgeLaws.{edge_part_counted, edge_small, edge_parts_most}
 use Rattle.counts.proofs.edge.edge_count.Goals as goal
+use Rattle.counts.proofs.edge.edge_count.Goals.{After-count_part-part}
 
 -- with one part more
-next : (c : goal.After-count-part invariant-loop decreases-loop)
+next : (c : After-count_part-part invariant-loop decreases-loop)
     → let l = c.before.before.before.loop in let a = c.before.before.before.before.before.args in
     (x o : ℕ) → Counted (each (l.j + 1) (edge_piece x a.b a.e o)) (l.clauses + c.count-part.result.clauses) (l.words + c.count-part.result.words)
 next c x o =
@@ -22,7 +23,7 @@ next c x o =
     let n = c.count-part.ensures in
     counted_each_more _ (l.invariant.1 x o) (edge_part_counted a.b o x a.e l.j (n.0 ∙ ap part_count r) (n.1 ∙ ap part_words r))
 
-most : (c : goal.After-count-part invariant-loop decreases-loop)
+most : (c : After-count_part-part invariant-loop decreases-loop)
     → let l = c.before.before.before.loop in let a = c.before.before.before.before.before.args in
     Most (each (l.j + 1) (edge_piece 0 a.b a.e 0)) 448 1792
 most c =

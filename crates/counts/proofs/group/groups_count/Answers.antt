@@ -10,9 +10,10 @@ use Rattle.counts.proofs.CountLaws.{counted_each_none, counted_each_more, Most, 
 use Rattle.counts.proofs.EdgeLaws.{groups_most}
 use borrow.Author.Rules.{rules}
 use Rattle.counts.proofs.group.groups_count.Goals as goal
+use Rattle.counts.proofs.group.groups_count.Goals.{After-group_count-a}
 
 -- with one group more
-next : (c : goal.After-group-count invariant-loop decreases-loop)
+next : (c : After-group_count-a invariant-loop decreases-loop)
     → let l = c.before.before.before.loop in let b = c.before.before.before.before.args.t1 in
     (o : ℕ) → Counted (each (l.g + 1) (group_piece b o)) (l.clauses + c.group-count.result.clauses) (l.words + c.group-count.result.words)
 next c o =
@@ -20,7 +21,7 @@ next c o =
     let b = c.before.before.before.before.args.t1 in
     counted_each_more _ (l.invariant.2 o) (c.group-count.ensures (o + first_at b l.g))
 
-most : (c : goal.After-group-count invariant-loop decreases-loop)
+most : (c : After-group_count-a invariant-loop decreases-loop)
     → let l = c.before.before.before.loop in Most (each (l.g + 1) (group_piece c.before.before.before.before.args.t1 0)) 4473 13689
 most c =
     let p = c.before.before.before in

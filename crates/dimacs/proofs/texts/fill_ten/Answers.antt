@@ -5,9 +5,10 @@ use native.Mathlib.Omega.{arith}
 use lib.ListN.{length-set}
 use Rattle.dimacs.proofs.TextLaws.{rising_first, rising_small, rising_next, number_room, texts_more}
 use Rattle.dimacs.proofs.texts.fill_ten.Goals as goal
+use Rattle.dimacs.proofs.texts.fill_ten.Goals.{After-number_text-x}
 
 -- the entry from which the shift is known has two to six bytes
-first : (c : goal.After-number-text invariant-loop decreases-loop) →
+first : (c : After-number_text-x invariant-loop decreases-loop) →
     let x = c.number-text.result in
     (2 ≤ x / 2 ^ 56) × (x / 2 ^ 56 ≤ 6)
 first c =

@@ -6,18 +6,19 @@ use native.Mathlib.Nat.{mod-eq_of_lt}
 use Rattle.decimal.specs.Decimal.{digit}
 use Rattle.dimacs.proofs.TextLaws.{Tail, tail_none, tail_led, tail_end}
 use Rattle.dimacs.proofs.texts.number_text.Goals as goal
+use Rattle.dimacs.proofs.texts.number_text.Goals.{Else-d-lt10, Else-d-lt100, Else-d-lt1000, Else-d-lt10000}
 
 -- what is put before the space where there are more digits
-one : (c : goal.Else-d-lt10) → let n = c.args.n in Tail n (n / 10) c.led-one.result
+one : (c : Else-d-lt10) → let n = c.args.n in Tail n (n / 10) c.led-one.result
 one c = tail_led _ (tail_none c.args.n) (omega arith) (omega arith) refl c.led-one.ensures
 
-two : (c : goal.Else-d-lt100) → let n = c.args.n in Tail n (n / 100) c.led-two.result
+two : (c : Else-d-lt100) → let n = c.args.n in Tail n (n / 100) c.led-two.result
 two c = tail_led _ (one c.before.before) (omega arith) (omega arith) refl c.led-two.ensures
 
-three : (c : goal.Else-d-lt1000) → let n = c.args.n in Tail n (n / 1000) c.led-three.result
+three : (c : Else-d-lt1000) → let n = c.args.n in Tail n (n / 1000) c.led-three.result
 three c = tail_led _ (two c.before.before) (omega arith) (omega arith) refl c.led-three.ensures
 
-four : (c : goal.Else-d-lt10000) →
+four : (c : Else-d-lt10000) →
     let n = c.args.n in
     Tail n (n / 10000) c.led-four.result
 four c = tail_led _ (three c.before.before) (omega arith) (omega arith) refl c.led-four.ensures

@@ -10,9 +10,10 @@ use Rattle.dimacs.specs.Texts.{text_of, entry_text, entries_text}
 use Rattle.dimacs.proofs.TextLaws.{text_long, entries_none, entries_more, entries_room, all_at, word_near, entry_known}
 use Rattle.dimacs.proofs.TextLaws.{ahead_none, ahead_as, ahead_eight}
 use Rattle.dimacs.proofs.texts.put_ahead.Goals as goal
+use Rattle.dimacs.proofs.texts.put_ahead.Goals.{After-entry-x}
 
 -- the entry that was read is that of the word
-known : (c : goal.After-entry-x invariant-loop decreases-loop) →
+known : (c : After-entry-x invariant-loop decreases-loop) →
     let args = c.before.before.before.before.before.before.args in
     let z = get_or args.words.now c.before.before.before.loop.i (pos 0) in
     let x = c.entry.result in

@@ -10,9 +10,10 @@ use Rattle.buffer.proofs.BufferLaws.{wrote_none, wrote_then, wrote_as}
 use Rattle.dimacs.specs.Texts.{text_of, entry_text, entries_text}
 use Rattle.dimacs.proofs.TextLaws.{entries_none, entries_more, all_at, word_near, entry_known, entries_room}
 use Rattle.dimacs.proofs.texts.put_exact.Goals as goal
+use Rattle.dimacs.proofs.texts.put_exact.Goals.{After-entry}
 
 -- the entry that was read is that of the word
-known : (c : goal.After-entry invariant-loop decreases-loop) →
+known : (c : After-entry invariant-loop decreases-loop) →
     let args = c.before.before.before.before.before.before.args in
     text_of c.entry.result ≡ entry_text args.texts.now (get_or args.words.now c.before.before.before.loop.i (pos 0))
 known c =

@@ -7,9 +7,10 @@ use lib.ListN.{length, take, get_or, length-append}
 use Rattle.dimacs.specs.Texts.{text_of, entry_text, entries_text}
 use Rattle.dimacs.proofs.TextLaws.{text_long, entries_none, entries_more, first_at_lem, word_near, entry_known}
 use Rattle.dimacs.proofs.texts.words_bytes.Goals as goal
+use Rattle.dimacs.proofs.texts.words_bytes.Goals.{After-entry}
 
 -- the entry that was read is that of the word
-known : (c : goal.After-entry invariant-loop decreases-loop) →
+known : (c : After-entry invariant-loop decreases-loop) →
     let args = c.before.before.before.before.before.args in
     let z = get_or args.words.now c.before.before.before.loop.i (pos 0) in
     let x = c.entry.result in

@@ -13,19 +13,20 @@ use Rattle.emission.proofs.LeafLaws.{fits_as, unchanged_is, reset_is, reset_clau
 use Rattle.emission.proofs.TableLaws.{leads_by, first_at_lem}
 use Rattle.emission.proofs.ClauseLaws.{wrote_as, room_as}
 use Rattle.emission.proofs.edge.put_reset.Goals as goal
+use Rattle.emission.proofs.edge.put_reset.Goals.{Start}
 
 -- the group after begins below the most variables
-after_in : (start : goal.Start) → let a = start.args in next_at a.b a.o + get_or a.first.now (1 + a.b.vars + a.i) 0 ≤ most_variables
+after_in : (start : Start) → let a = start.args in next_at a.b a.o + get_or a.first.now (1 + a.b.vars + a.i) 0 ≤ most_variables
 after_in start =
     let a = start.args in
     omega (arith, first_at_lem start.requires.0 (1 + a.b.vars + a.i), reset_after a.b a.o a.i a.update start.requires.3.fits)
 
 -- the row of a copy, and the clock copied
-copy-fits : (start : goal.Start) (w : ℕ) → let a = start.args in a.update ≡ Copy w
+copy-fits : (start : Start) (w : ℕ) → let a = start.args in a.update ≡ Copy w
     → Fits (leads_by a.first.now a.size.now a.o (next_at a.b a.o) (1 + a.b.vars + w) (1 + a.b.vars + a.i) Keep) most_variables
 copy-fits start w e = fits_as (copy_is start.requires.0 start.args.o start.args.i w e) start.requires.3.fits
 
-source_in : (start : goal.Start) (w : ℕ) → let a = start.args in a.update ≡ Copy w → 1 + a.b.vars + w < 9
+source_in : (start : Start) (w : ℕ) → let a = start.args in a.update ≡ Copy w → 1 + a.b.vars + w < 9
 source_in start w e = copy_in start.requires.0 start.args.o start.args.i w e start.requires.3
 
 pub overflow_cast-block : goal.overflow_cast-block

@@ -18,9 +18,10 @@ use Rattle.emission.proofs.TableLaws.{first_at_lem}
 use Rattle.emission.proofs.ClauseLaws.{wrote_as, room_as}
 use borrow.Author.Rules.{rules}
 use Rattle.emission.proofs.edge.put_update.Goals as goal
+use Rattle.emission.proofs.edge.put_update.Goals.{Start}
 
 -- the group after begins below the most variables
-after_in : (start : goal.Start) → let a = start.args in next_at a.b a.o + get_or a.first.now (1 + a.i) 0 ≤ most_variables
+after_in : (start : Start) → let a = start.args in next_at a.b a.o + get_or a.first.now (1 + a.i) 0 ≤ most_variables
 after_in start =
     let a = start.args in
     omega (arith, first_at_lem start.requires.0 (1 + a.i), update_after a.b a.o a.i _ a.update start.requires.4.fits)

@@ -12,18 +12,19 @@ use Rattle.emission.proofs.TableLaws.{exclude_by}
 use Rattle.emission.proofs.LeafLaws.{fits_as, blank_is, group_in, compared_is}
 use Rattle.emission.proofs.ClauseLaws.{wrote_none, wrote_as, room_as}
 use Rattle.emission.proofs.state.put_atom.Goals as goal
+use Rattle.emission.proofs.state.put_atom.Goals.{After-compared-c, Else-g-eq0, Start}
 
 -- the table that the atom is read by
-abbrev table : goal.Start → GroupTable
+abbrev table : Start → GroupTable
 table c = atom_table c.args.vars c.args.first.now c.args.size.now
 
 -- the table has the group
-in_table : (c : goal.After-compared-c) → c.compared-c.result.group < 9
+in_table : (c : After-compared-c) → c.compared-c.result.group < 9
 in_table c =
     subst (λ (x : Comparison). x.group < 9) (sym c.compared-c.ensures) (group_in c.args.atom c.requires.2)
 
 -- the part of an atom that is not blank
-part : (c : goal.Else-g-eq0) → let a = c.args in let r = c.compared-c.result in
+part : (c : Else-g-eq0) → let a = c.args in let r = c.compared-c.result in
     atom_part (table c.before.before.before.before) a.o a.atom ≡ exclude_by a.first.now a.size.now a.o r.group r.relation r.constant
 part c =
     let c.before.before.before.before = c.before.before.before.before in

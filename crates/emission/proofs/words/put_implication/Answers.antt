@@ -6,9 +6,10 @@ use lib.ListN.{length, length-set}
 use Prim.Native.Nat.{◌+◌, ◌≤◌}
 use borrow.Author.Rules.{rules}
 use Rattle.emission.proofs.words.put_implication.Goals as goal
+use Rattle.emission.proofs.words.put_implication.Goals.{Start}
 
 -- the clause takes three words
-room : (c : goal.Start) → c.args.at + 3 ≤ length c.args.out.now
+room : (c : Start) → c.args.at + 3 ≤ length c.args.out.now
 room c = omega (arith, c.requires.2.words.room, words_2 (negated c.args.a) (bare c.args.b))
 
 pub bounds-out-at : goal.bounds-out-at

@@ -6,9 +6,10 @@ use lib.ListN.{length, length-set}
 use Prim.Native.Nat.{◌+◌, ◌≤◌}
 use borrow.Author.Rules.{rules}
 use Rattle.emission.proofs.words.put_joint_implication.Goals as goal
+use Rattle.emission.proofs.words.put_joint_implication.Goals.{Start}
 
 -- the clause takes four words
-room : (c : goal.Start) → c.args.at + 4 ≤ length c.args.out.now
+room : (c : Start) → c.args.at + 4 ≤ length c.args.out.now
 room c = omega (arith, c.requires.3.words.room, words_3 (negated c.args.a) (negated c.args.b) (bare c.args.c))
 
 pub bounds-out-at : goal.bounds-out-at

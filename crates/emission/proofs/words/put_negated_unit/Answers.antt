@@ -6,9 +6,10 @@ use lib.ListN.{length, length-set}
 use Prim.Native.Nat.{◌+◌, ◌≤◌}
 use borrow.Author.Rules.{rules}
 use Rattle.emission.proofs.words.put_negated_unit.Goals as goal
+use Rattle.emission.proofs.words.put_negated_unit.Goals.{Start}
 
 -- the clause takes two words
-room : (c : goal.Start) → c.args.at + 2 ≤ length c.args.out.now
+room : (c : Start) → c.args.at + 2 ≤ length c.args.out.now
 room c = omega (arith, c.requires.1.words.room, words_1 (negated c.args.a))
 
 pub bounds-out-at : goal.bounds-out-at

@@ -7,10 +7,10 @@ use Rattle.model.specs.Record.{blank_update}
 use borrow.Author.Rules.{rules}
 use native.Mathlib.Omega.{arith}
 use Prim.Native.Nat.{ℕ, ◌-◌}
-use mathlib.Core.Logic.{⊎_elim}
 use mathlib.Core.Bool.{Bool, true, false, cond}
 use mathlib.Core.Path.{◌≡◌, sym, ◌∙◌}
 use Rattle.model.proofs.Edge.listed.Goals as goal
+use Rattle.model.proofs.Edge.listed.Goals.{then-not-is_keep, else-not-is_keep}
 
 set-one : {b : Bool} → b ≡ false → ◌≡◌ {A = ℕ} (cond b 0 1) 1
 set-one e = rw e
@@ -28,11 +28,11 @@ loop-i-preserved c =
     let updates = c.args.self.updates in
     let term = sum_more (λ i. cond (is_keep (get_or updates i blank_update).update) 0 1) l.i in (
       search rules,
-      ⊎_elim (λ w. omega (arith, w.1)) (λ w. omega (arith, w.1)) c.if-not-is_keep.branch,
-      ⊎_elim
-          (λ w. omega (arith, w.1, term, l.invariant.2, set-one (sym keep ∙ not-true _ w.0.taken)))
-          (λ w. omega (arith, w.1, term, l.invariant.2, kept-none (sym keep ∙ not-false _ w.0.left)))
-          c.if-not-is_keep.branch,
+      elim c.if-not-is_keep.branch [ then-not-is_keep w ↦ omega arith | else-not-is_keep w ↦ omega arith ],
+      elim c.if-not-is_keep.branch [
+        then-not-is_keep w ↦ omega (arith, term, l.invariant.2, set-one (sym keep ∙ w.if-not-is_keep.true))
+        | else-not-is_keep w ↦ omega (arith, term, l.invariant.2, kept-none (sym keep ∙ w.if-not-is_keep.false))
+      ],
     )
 
 pub returns : goal.returns

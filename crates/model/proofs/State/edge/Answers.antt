@@ -8,9 +8,10 @@ use Rattle.model.proofs.Answers.{refused, taken, allowed_is, no_update, one_upda
 use Rattle.model.proofs.NewValues.{updated_some, updated_none}
 use Rattle.model.proofs.IndexedLaws.{told_false, told_true}
 use Rattle.model.proofs.State.edge.Goals as goal
+use Rattle.model.proofs.State.edge.Goals.{Else-not-updated}
 
 -- the answer where no update leaves its range
-answer : (c : goal.Else-not-updated) {r : Stepped} →
+answer : (c : Else-not-updated) {r : Stepped} →
     let a = c.args in
     let vs = c.updated-updated.result.values in
     r ≡ stepped a.self (only_if (edge_allowed a.m a.e a.self vs) (after_edge a.e a.self vs))

@@ -6,9 +6,10 @@ use Rattle.text.proofs.Laws.Bytewise.{part_to_end}
 use Rattle.output.specs.Literals.{has_minus}
 use Rattle.output.proofs.WordLaws.{minus_within, minus_word, minus_literal, bare_literal}
 use Rattle.output.proofs.literals.word_at.Goals as goal
+use Rattle.output.proofs.literals.word_at.Goals.{After-has_minus}
 
 -- what follows `at` begins with a minus if and only if the test says so
-tested : (c : goal.After-has-minus)
+tested : (c : After-has_minus)
     → let a = c.before.before.before.args in c.has-minus.result ≡ has_minus (drop a.at a.s.now)
 tested c = let a = c.before.before.before.args in c.has-minus.ensures ∙ ap has_minus (part_to_end a.s.now a.at)
 

@@ -5,9 +5,10 @@ use Rattle.output.specs.Tokens.{literals_by, line_tokens}
 use Rattle.output.specs.Counting.{literal_up_to, count}
 use Rattle.output.proofs.TokenLaws.{line_alone, line_short, line_words}
 use Rattle.output.proofs.reading.judge_whole_line.Goals as goal
+use Rattle.output.proofs.reading.judge_whole_line.Goals.{Else-l-lt2}
 
 -- a line without literals
-alone : (c : goal.Else-l-lt2)
+alone : (c : Else-l-lt2)
     → let a = c.args in
     literals_by (literal_up_to a.most) c.form-f.result a.l.now ≡ []
     → c.judge_line-r.result ≡ foldl (count a.most a.limit) a.before (line_tokens (literal_up_to a.most) a.l.now)

@@ -8,9 +8,10 @@ use Rattle.output.specs.Counting.{literal_up_to, count_literal}
 use Rattle.output.specs.declared.literals.Literal.{Literal}
 use Rattle.output.proofs.Parts.{absorb_none, absorb_last, absorb_more}
 use Rattle.output.proofs.reading.judge_words.Goals as goal
+use Rattle.output.proofs.reading.judge_words.Goals.{After-judge_literal-r}
 
 -- the reading after the word
-judged-word : (c : goal.After-judge-literal invariant-loop decreases-loop)
+judged-word : (c : After-judge_literal-r invariant-loop decreases-loop)
     → let loop = c.before.before.loop in
     let a = c.before.before.before.before.args in
     c.judge-literal.result

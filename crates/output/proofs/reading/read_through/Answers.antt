@@ -15,9 +15,10 @@ use Rattle.output.specs.declared.reading.Reading.{Reading}
 use Rattle.output.proofs.TokenLaws.{tokens_by_line, last_none, last_some, fault_stays, line_grows, one_line}
 use Rattle.output.proofs.TokenLaws.{Passing, pass_none, pass_last, pass_more, pass_stays}
 use Rattle.output.proofs.reading.read_through.Goals as goal
+use Rattle.output.proofs.reading.read_through.Goals.{After-judge_whole_line-r}
 
 -- a line more
-turned : (c : goal.After-judge-whole-line invariant-loop decreases-loop)
+turned : (c : After-judge_whole_line-r invariant-loop decreases-loop)
     → let at-find = c.before.before.before in
     let a = at-find.before.before.before.before.args in
     let r = c.judge-whole-line.result in

@@ -4,9 +4,10 @@ use Prim.Native.Nat.{◌+◌, ◌<◌}
 use native.Mathlib.Omega.{arith}
 use Rattle.parts.specs.Numbering.{sixteen_bits}
 use Rattle.parts.proofs.GroupTable.exclude_part.Goals as goal
+use Rattle.parts.proofs.GroupTable.exclude_part.Goals.{After-slot}
 
 -- where the group begins
-before_in : (c : goal.After-slot) → c.args.o + c.slot.result < sixteen_bits
+before_in : (c : After-slot) → c.args.o + c.slot.result < sixteen_bits
 before_in c =
     omega (arith, c.slot.ensures, c.requires.0.first_le c.args.g)
 

@@ -3,15 +3,16 @@ use native.Mathlib.Omega.{arith}
 use Prim.Native.Nat.{◌+◌, ◌<◌}
 use Rattle.parts.specs.Numbering.{sixteen_bits}
 use Rattle.parts.proofs.GroupTable.leads_part.Goals as goal
+use Rattle.parts.proofs.GroupTable.leads_part.Goals.{After-slot, After-slot-3}
 
 -- where the group before begins
-before_in : (c : goal.After-slot) → c.args.from + c.slot.result < sixteen_bits
+before_in : (c : After-slot) → c.args.from + c.slot.result < sixteen_bits
 before_in c =
     let small = c.requires.0 in
     omega (arith, c.slot.ensures, small.first_le c.args.g, small.state_le, small.choices_le, c.requires.1)
 
 -- where the group after begins
-after_in : (c : goal.After-slot-3) → let a = c.args in
+after_in : (c : After-slot-3) → let a = c.args in
     a.o + a.self.state + a.self.choices + c.slot-3.result < sixteen_bits
 after_in c =
     omega (arith, c.slot-3.ensures, c.requires.0.first_le c.args.h, c.requires.0.state_le, c.requires.0.choices_le)

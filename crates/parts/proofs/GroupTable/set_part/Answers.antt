@@ -3,9 +3,10 @@ use native.Mathlib.Omega.{arith}
 use Prim.Native.Nat.{◌+◌, ◌<◌}
 use Rattle.parts.specs.Numbering.{sixteen_bits}
 use Rattle.parts.proofs.GroupTable.set_part.Goals as goal
+use Rattle.parts.proofs.GroupTable.set_part.Goals.{After-slot}
 
 -- where the group begins
-after_in : (c : goal.After-slot) → let a = c.args in
+after_in : (c : After-slot) → let a = c.args in
     a.o + a.self.state + a.self.choices + c.slot.result < sixteen_bits
 after_in c =
     omega (arith, c.slot.ensures, c.requires.0.first_le c.args.h, c.requires.0.state_le, c.requires.0.choices_le)

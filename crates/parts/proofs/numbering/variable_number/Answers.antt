@@ -5,9 +5,10 @@ use Prim.Native.Nat.{◌+◌, ◌*◌, ◌<◌}
 use mathlib.Core.Path.{sym}
 use native.Mathlib.Omega.{arith}
 use Rattle.parts.proofs.numbering.variable_number.Goals as goal
+use Rattle.parts.proofs.numbering.variable_number.Goals.{Start}
 
 -- S, H, their sum, and the number, which is the greatest value on the way
-way : (entry : goal.Start) → let z = entry.args.z in (z.state < sixteen_bits) × (z.choices < sixteen_bits) × (z.state + z.choices < sixteen_bits)
+way : (entry : Start) → let z = entry.args.z in (z.state < sixteen_bits) × (z.choices < sixteen_bits) × (z.state + z.choices < sixteen_bits)
     × (entry.args.t * (z.state + z.choices) + entry.args.p + 1 < sixteen_bits)
 way entry = way_in _ _ entry.requires.1 entry.requires.0 _ _ entry.requires.2 entry.requires.3
 

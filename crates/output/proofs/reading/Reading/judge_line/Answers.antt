@@ -6,8 +6,9 @@ use Rattle.output.specs.Lines.{in_place}
 use Rattle.output.specs.OutputCall.{is_no_fault}
 use Rattle.output.specs.Counting.{count_line}
 use Rattle.output.proofs.reading.Reading.judge_line.Goals as goal
+use Rattle.output.proofs.reading.Reading.judge_line.Goals.{Else-not-is_none}
 
-faultless : (c : goal.Else-not-is_none) → is_no_fault c.args.self.fault ≡ true
+faultless : (c : Else-not-is_none) → is_no_fault c.args.self.fault ≡ true
 faultless c = sym c.is_none.ensures ∙ not-false _ c.if-not-is_none.false-raw
 
 pub returns-then-not-is_none : goal.returns-then-not-is_none
