@@ -36,13 +36,13 @@ module _ (a : List ℕ) where
       go true ih = (λ h t. ih.0 h t.1, λ h. ih.1 (λ t. h (tt, t)))
       go false ih = (λ h t. absurd t.0, λ h. tt)
 
-  or_false : (b : Bool) → T (b || false) ↔ T b
-  or_false true = (λ h. h, λ h. h)
-  or_false false = (λ h. h, λ h. h)
+  or-false : (b : Bool) → T (b || false) ↔ T b
+  or-false true = (λ h. h, λ h. h)
+  or-false false = (λ h. h, λ h. h)
 
   conclusion_iff : (x : Option Member) → T (any_of (literal_true a) (map (λ x. bare (variable_of x)) (to_list x))) ↔ Then (member_true a) x
   conclusion_iff none = (λ h. h, λ h. h)
-  conclusion_iff (some x) = or_false (member_true a x)
+  conclusion_iff (some x) = or-false (member_true a x)
 
   one_iff : (c : Clause) → AllTrue a (one c) ↔ T (clause_true a c)
   unfolding one
@@ -80,7 +80,7 @@ module _ (a : List ℕ) where
   unfolding members
   members_iff b n =
       let x = any_each (literal_true a) n (λ v. bare (b + v) ∷ []) in
-      (λ h. let y = x.0 h in (y.0, y.1, (or_false (bit a (b + y.0))).0 y.2), λ h. x.1 (h.0, h.1, (or_false (bit a (b + h.0))).1 h.2))
+      (λ h. let y = x.0 h in (y.0, y.1, (or-false (bit a (b + y.0))).0 y.2), λ h. x.1 (h.0, h.1, (or-false (bit a (b + h.0))).1 h.2))
 
   group_parts : (b n : ℕ) → AllTrue a (group_clauses b n) ↔ (T (clause_true a (members b n)) × AllTrue a (pairs b n))
   unfolding group_clauses

@@ -3,7 +3,7 @@ use Prim.Native.Nat.{ℕ, zero, suc, ◌+◌, ◌-◌, ◌*◌, ◌≤◌, ◌<�
 use mathlib.Core.Path.{◌≡◌, refl, sym, ap, ◌∙◌}
 use mathlib.Core.Logic.{◌↔◌, ◌⊎◌, inl, inr, ⊎_elim}
 use mathlib.Core.List.{List, [], ◌∷◌, ◌++◌, map, foldl, append-nil, tail}
-use mathlib.Core.Bool.{Bool, true, false, not, cond, ◌&&◌, ◌||◌, or_false, false≢true, true≢false, and-eq-true_iff}
+use mathlib.Core.Bool.{Bool, true, false, not, cond, ◌&&◌, ◌||◌, or-false, false≢true, true≢false, and-eq-true_iff}
 use native.Mathlib.Omega.{arith}
 use lib.ListN.{length, get_or, replicate}
 use lib.Seq.{append_snoc}
@@ -492,7 +492,7 @@ distinct_more m l d new v = times_more v m l ∙ rw (d v, named_more v m l) (go 
   where
     go : (b : Bool) → eqb l.variable v ≡ b → one_if (is_named v m) + one_if b ≡ one_if (is_named v m || b)
     go true e = let none : is_named v m ≡ false = ap (λ (w : ℕ). is_named w m) (sym (eqb-true l.variable v e)) ∙ new in rw none
-    go false e = rw (or_false (is_named v m)) (omega arith)
+    go false e = rw (or-false (is_named v m)) (omega arith)
 
 complete_once : (n : ℕ) (ls m : List Literal) → Completes n m ls → Distinct m → (v : ℕ) → 1 ≤ v → v ≤ n → times_named v m + times_named v ls ≡ 1
 unfolding Completes times_named
@@ -709,7 +709,7 @@ module _ (t old : List ℕ) (accepted : output_report t (length old) ≡ output_
       let place : v - 1 + 1 ≡ v = omega (arith, low) in
       let other = ne_eqb names.zero.variable v (λ q. omega (arith, q, names.is_zero, low)) in
       let bare : is_bare v (literals_in (tokens_of literal_of t)) ≡ is_bare v names.named =
-      ap (is_bare v) names.closed ∙ bare_more v names.named names.zero ∙ rw other (or_false (is_bare v names.named)) in
+      ap (is_bare v) names.closed ∙ bare_more v names.named names.zero ∙ rw other (or-false (is_bare v names.named)) in
       rw (accepted, bare, s.left)
       (get_d_list 0 (λ i. cond (is_bare (i + 1) names.named) 1 0) (length old) (v - 1) (omega (arith, low, high)) ∙ rw place)
 

@@ -2,7 +2,7 @@
 use Prim.Native.Nat.{ℕ, ◌+◌, ◌-◌, ◌≤◌, ◌<◌}
 use mathlib.Core.Path.{◌≡◌, refl, sym, ap, ◌∙◌}
 use mathlib.Core.List.{List, [], ◌∷◌, ◌++◌}
-use mathlib.Core.Bool.{Bool, true, false, ◌&&◌, ◌||◌, or_false, or_assoc, false≢true}
+use mathlib.Core.Bool.{Bool, true, false, ◌&&◌, ◌||◌, or-false, or_assoc, false≢true}
 use native.Mathlib.Omega.{arith}
 use lib.Dec.{T, eqb}
 use borrow.Author.Tests.{eq-eqb, ne_eqb, eqb-true, eqb-false, lt-ltb}
@@ -14,14 +14,14 @@ use Rattle.output.specs.OutputCall.{is_named, all_named, is_bare}
 -- ---- one literal more
 pub named_more : (v : ℕ) (named : List Literal) (l : Literal) → is_named v (named ++ (l ∷ [])) ≡ (is_named v named || eqb l.variable v)
 unfolding is_named
-named_more v [] l = or_false (eqb l.variable v)
+named_more v [] l = or-false (eqb l.variable v)
 named_more v (x ∷ named) l =
     ap (λ (b : Bool). eqb x.variable v || b) (named_more v named l)
     ∙ sym (or_assoc (eqb x.variable v) (is_named v named) (eqb l.variable v))
 
 pub bare_more : (v : ℕ) (named : List Literal) (l : Literal) → is_bare v (named ++ (l ∷ [])) ≡ (is_bare v named || (eqb l.variable v && l.bare))
 unfolding is_bare
-bare_more v [] l = or_false (eqb l.variable v && l.bare)
+bare_more v [] l = or-false (eqb l.variable v && l.bare)
 bare_more v (x ∷ named) l =
     ap (λ (b : Bool). (eqb x.variable v && x.bare) || b) (bare_more v named l)
     ∙ sym (or_assoc (eqb x.variable v && x.bare) (is_bare v named) (eqb l.variable v && l.bare))
@@ -61,7 +61,7 @@ below_more n named l nonzero small new =
             rw (sym (ap (λ (v : ℕ). is_named v named) here) ∙ new, eq-eqb i (l.variable - 1) (omega arith))
         go false e =
             let other : i ≡ l.variable - 1 → ⊥ = λ h. eqb-false l.variable (i + 1) e (omega (arith, nonzero, h)) in
-            rw (or_false (is_named (i + 1) named), ne_eqb i (l.variable - 1) other) (omega arith)
+            rw (or-false (is_named (i + 1) named), ne_eqb i (l.variable - 1) other) (omega arith)
 
 at_most_one : (b : Bool) → one_if b ≤ 1
 at_most_one true = omega arith

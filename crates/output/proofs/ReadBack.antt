@@ -3,7 +3,7 @@ use Prim.Native.Nat.{ℕ, zero, suc, ◌+◌, ◌*◌, ◌/◌, ◌%◌, ◌≤�
 use mathlib.Core.Path.{◌≡◌, refl, sym, ap, ◌∙◌}
 use mathlib.Core.Logic.{⊎_elim}
 use mathlib.Core.List.{List, [], ◌∷◌, ◌++◌, map, foldl, append_assoc, append-nil}
-use mathlib.Core.Bool.{Bool, true, false, not, cond, ◌&&◌, and-false, or_false, or-true, false≢true}
+use mathlib.Core.Bool.{Bool, true, false, not, cond, ◌&&◌, and-false, or-false, or-true, false≢true}
 use native.Mathlib.Omega.{arith}
 use lib.ListN.{length, get_or}
 use lib.Seq.{ext_get_or}
@@ -273,7 +273,7 @@ bare_at : (v : ℕ) (a : List ℕ) (i : ℕ) → i < length a → is_bare (v + i
 unfolding is_bare literals_from
 bare_at v [] i h = absurd (omega (arith, h))
 bare_at v (b ∷ a) zero h =
-    rw (eq-eqb v (v + 0) (omega arith), bare_below (v + 1) (v + 0) a (omega arith)) (or_false (not (eqb b 0)))
+    rw (eq-eqb v (v + 0) (omega arith), bare_below (v + 1) (v + 0) a (omega arith)) (or-false (not (eqb b 0)))
 bare_at v (b ∷ a) (suc i) h =
     let e : v + suc i ≡ v + 1 + i = omega arith in
     rw (ne_eqb v (v + suc i) (λ z. omega (arith, z))) (ap (λ (w : ℕ). is_bare w (literals_from (v + 1) a)) e ∙ bare_at (v + 1) a i (omega (arith, h)))

@@ -4,7 +4,7 @@ use Prim.Native.Nat.{ℕ, zero, suc, ◌+◌, ◌-◌, ◌≤◌, ◌<◌}
 use mathlib.Core.Path.{◌≡◌, refl, sym, ap, ◌∙◌}
 use mathlib.Core.Logic.{⊎_elim}
 use mathlib.Core.List.{List, [], ◌∷◌, ◌++◌, map, foldl, append-nil}
-use mathlib.Core.Bool.{Bool, true, false, cond, ◌&&◌, ◌||◌, or_false, and-false, false≢true}
+use mathlib.Core.Bool.{Bool, true, false, cond, ◌&&◌, ◌||◌, or-false, and-false, false≢true}
 use native.Mathlib.Omega.{arith}
 use native.Mathlib.Numerals.{add-one}
 use lib.ListN.{length, get_or, set, take, replicate, length-set, length-take, length-replicate, get_or-replicate}
@@ -33,7 +33,7 @@ no_marks low width = record { each = λ i h. get_or-replicate width i 2 0 (omega
 -- a literal of another variable changes nothing
 byte_other : (v : ℕ) (named : List Literal) (l : Literal) → (l.variable ≡ v → ⊥) → byte_of v (named ++ (l ∷ [])) ≡ byte_of v named
 byte_other v named l other =
-    rw (named_more v named l, bare_more v named l, ne_eqb l.variable v other, or_false (is_named v named), or_false (is_bare v named))
+    rw (named_more v named l, bare_more v named l, ne_eqb l.variable v other, or-false (is_named v named), or-false (is_bare v named))
 
 -- a literal of a variable that was not named is its byte
 byte_new : (named : List Literal) (l : Literal) → is_named l.variable named ≡ false → byte_of l.variable (named ++ (l ∷ [])) ≡ cond l.bare 1 0

@@ -186,19 +186,19 @@ module _ {a : List ℕ} {f : ℕ → List Clause} {most i n N j : ℕ} (u : Upto
   upto_done more l s = checked_passed (upto_all l) (omega (arith, u.few))
 
 -- ---- the truth of a clause
-or_false : (b : Bool) → (b || false) ≡ b
-or_false true = refl
-or_false false = refl
+or-false : (b : Bool) → (b || false) ≡ b
+or-false true = refl
+or-false false = refl
 
 or_assoc : (x y z : Bool) → (x || (y || z)) ≡ ((x || y) || z)
 or_assoc true y z = refl
 or_assoc false y z = refl
 
 pub one_true : (a : List ℕ) (x : Literal) {p : Bool} → p ≡ literal_true a x → p ≡ clause_true a (x ∷ [])
-one_true a x e = e ∙ sym (or_false (literal_true a x))
+one_true a x e = e ∙ sym (or-false (literal_true a x))
 
 pub two_true : (a : List ℕ) (x y : Literal) {p q : Bool} → p ≡ literal_true a x → q ≡ literal_true a y → (p || q) ≡ clause_true a (x ∷ y ∷ [])
-two_true a x y ep eq = rw (ep, eq) (ap (λ (b : Bool). literal_true a x || b) (sym (or_false (literal_true a y))))
+two_true a x y ep eq = rw (ep, eq) (ap (λ (b : Bool). literal_true a x || b) (sym (or-false (literal_true a y))))
 
 clause_append : (a : List ℕ) (c d : Clause) → clause_true a (c ++ d) ≡ (clause_true a c || clause_true a d)
 clause_append a [] d = refl

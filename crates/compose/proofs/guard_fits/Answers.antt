@@ -12,17 +12,17 @@ use Rattle.compose.proofs.guard_fits.Goals as goal
 pub returns-then-not-paired : goal.returns-then-not-paired
 returns-then-not-paired c =
     let entry = c.args in
-    guard_is entry.t1 entry.t2 entry.e entry.f (told_false c.paired.ensures c.if-not-paired.true-raw) refl
+    guard_is entry.a entry.b entry.e entry.f (told_false c.paired.ensures c.if-not-paired.true-raw) refl
 
 pub overflow_add-result : goal.overflow_add-result
 overflow_add-result c =
     let entry = c.args in
-    let few = atom_count_le (edge_at entry.t1 entry.e).guard in
-    let few-2 = atom_count_le (edge_at entry.t2 entry.f).guard in
+    let few = atom_count_le (edge_at entry.a entry.e).guard in
+    let few-2 = atom_count_le (edge_at entry.b entry.f).guard in
     record { fits = omega (arith, c.atom_count.ensures, c.atom_count-2.ensures, few, few-2) }
 
 pub returns : goal.returns
 returns c =
     let entry = c.args in
     let sum = ap₂ (λ (x y : ℕ). leb (x + y) 4) c.atom_count.ensures c.atom_count-2.ensures in
-    guard_is entry.t1 entry.t2 entry.e entry.f (told_true c.paired.ensures c.if-not-paired.false-raw) (sym sum)
+    guard_is entry.a entry.b entry.e entry.f (told_true c.paired.ensures c.if-not-paired.false-raw) (sym sum)

@@ -33,7 +33,7 @@ pub loop-j-preserved : goal.loop-j-preserved
 loop-j-preserved c =
     let loop = c.loop-j in
     let entry = c.args in
-    let f = row entry.first entry.clocks entry.vars entry.t4 in
+    let f = row entry.first entry.clocks entry.vars entry.b in
     let e = c.joined_atoms.ensures in
     (search rules, placed_turn f entry.list.slots entry.at loop.j loop.invariant.1 (λ i. record { atoms = e i }))
 

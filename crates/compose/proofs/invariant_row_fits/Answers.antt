@@ -22,14 +22,14 @@ overflow_add-n c =
 pub returns-then-n-atom_count-gt-ATOMS : goal.returns-then-n-atom_count-gt-ATOMS
 returns-then-n-atom_count-gt-ATOMS c =
     let a = c.args in
-    sym (all_fails (λ i. leb (a.n + atom_count (invariant_at a.t2 i)) 4) c.loop-j.j a.t2.locations c.loop-j-test.true
+    sym (all_fails (λ i. leb (a.n + atom_count (invariant_at a.b i)) 4) c.loop-j.j a.b.locations c.loop-j-test.true
     (above (ap (λ x. a.n + x) c.atom_count.ensures) c.if-n-atom_count-gt-ATOMS.true))
 
 pub loop-j-preserved : goal.loop-j-preserved
 loop-j-preserved c =
     let loop = c.loop-j in
     let a = c.args in
-    let next = all_next (λ i. leb (a.n + atom_count (invariant_at a.t2 i)) 4) loop.j loop.invariant.1
+    let next = all_next (λ i. leb (a.n + atom_count (invariant_at a.b i)) 4) loop.j loop.invariant.1
     (at_most (ap (λ x. a.n + x) c.atom_count.ensures) c.if-n-atom_count-gt-ATOMS.false) in
     (search rules, next)
 

@@ -33,14 +33,14 @@ unfolding invariants_fit
 returns-then-not-invariant_row_fits c =
     let a = c.args in
     let answer = c.invariant_row_fits.ensures ∙ ap (row a.b) c.atom_count.ensures in
-    all_stops (row_of a.t1 a.b) c.loop-i.i a.t1.locations c.loop-i-test.true answer c.if-not-invariant_row_fits.true-raw
+    all_stops (row_of a.a a.b) c.loop-i.i a.a.locations c.loop-i-test.true answer c.if-not-invariant_row_fits.true-raw
 
 pub loop-i-preserved : goal.loop-i-preserved
 loop-i-preserved c =
     let loop = c.loop-i in
     let a = c.args in
     let answer = c.invariant_row_fits.ensures ∙ ap (row a.b) c.atom_count.ensures in
-    (search rules, all_goes (row_of a.t1 a.b) loop.i loop.invariant.1 answer c.if-not-invariant_row_fits.false-raw)
+    (search rules, all_goes (row_of a.a a.b) loop.i loop.invariant.1 answer c.if-not-invariant_row_fits.false-raw)
 
 pub returns : goal.returns
 unfolding invariants_fit

@@ -45,7 +45,7 @@ pub loop-i-preserved : goal.loop-i-preserved
 loop-i-preserved c =
     let entry = c.args in
     let loop = c.loop-i in
-    let a = entry.t1 in
+    let a = entry.a in
     let b = entry.b in
     let long : (i : ℕ) → length (row a b i) ≡ b.locations = λ i. length_list (joined_invariant a b i) b.locations in
     (search rules, rows_turn (row a b) b.locations (replicate 16 blank_invariant) loop.i long loop.invariant.1 c.invariant_row-list.ensures)

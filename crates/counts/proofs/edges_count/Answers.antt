@@ -17,7 +17,7 @@ use Rattle.counts.proofs.edges_count.Goals.{After-edge_count-a}
 
 -- with one edge more
 next : (c : After-edge_count-a invariant-loop decreases-loop)
-    → let l = c.before.before.before.loop in let m = c.before.before.before.before.args.t1 in
+    → let l = c.before.before.before.loop in let m = c.before.before.before.before.args.m in
     (o : ℕ) → Counted (each (l.i + 1) (λ j. clauses_of (edge_of one_hot_width m o j)))
     (l.clauses + c.IsEdge-count.result.clauses) (l.words + c.IsEdge-count.result.words)
 next c o =
@@ -25,11 +25,11 @@ next c o =
     counted_each_more _ (p.loop.invariant.2 o) (edge_counted p.before.requires p.loop.i (omega arith) c.IsEdge-count.ensures o)
 
 most : (c : After-edge_count-a invariant-loop decreases-loop)
-    → let m = c.before.before.before.before.args.t1 in
+    → let m = c.before.before.before.before.args.m in
     Most (each (c.before.before.before.loop.i + 1) (λ j. clauses_of (edge_of one_hot_width m 0 j))) 12352 45248
 most c =
     let p = c.before.before.before in
-    edges_most p.before.args.t1 p.before.requires.formed 0 (p.loop.i + 1) (omega arith)
+    edges_most p.before.args.m p.before.requires.formed 0 (p.loop.i + 1) (omega arith)
 
 pub loop-i-init : goal.loop-i-init
 loop-i-init c = (search rules, search rules, λ o. counted_each_none _)

@@ -17,7 +17,7 @@ use Rattle.counts.proofs.invariants_count.Goals.{After-atoms_count-a}
 
 -- with one location more
 next : (c : After-atoms_count-a invariant-loop decreases-loop)
-    → let l = c.before.before.before.before.loop in let m = c.before.before.before.before.before.args.t1 in
+    → let l = c.before.before.before.before.loop in let m = c.before.before.before.before.before.args.m in
     (o : ℕ) → Counted (each (l.l + 1) (λ j. clauses_of (invariant_of one_hot_width m o j)))
     (l.clauses + c.atoms-count.result.clauses) (l.words + c.atoms-count.result.words)
 next c o =
@@ -25,11 +25,11 @@ next c o =
     counted_each_more _ (p.loop.invariant.2 o) (location_counted p.before.requires p.loop.l (omega arith) c.atoms-count.ensures o)
 
 most : (c : After-atoms_count-a invariant-loop decreases-loop)
-    → let m = c.before.before.before.before.before.args.t1 in
+    → let m = c.before.before.before.before.before.args.m in
     Most (each (c.before.before.before.before.loop.l + 1) (λ j. clauses_of (invariant_of one_hot_width m 0 j))) 2048 6144
 most c =
     let p = c.before.before.before.before in
-    invariants_most p.before.args.t1 p.before.requires.formed 0 (p.loop.l + 1) (omega arith)
+    invariants_most p.before.args.m p.before.requires.formed 0 (p.loop.l + 1) (omega arith)
 
 pub loop-l-init : goal.loop-l-init
 loop-l-init c = (search rules, search rules, λ o. counted_each_none _)

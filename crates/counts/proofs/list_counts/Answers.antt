@@ -13,36 +13,33 @@ use Rattle.counts.proofs.list_counts.Goals as goal
 use Rattle.counts.proofs.list_counts.Goals.{After-moves_count-t}
 
 variables-le-most : (c : After-moves_count-t)
-    → let a = c.before.before.args in a.z.state + a.bound * (a.z.state + a.z.choices) ≤ most_variables
+    → let a = c.args in a.z.state + a.bound * (a.z.state + a.z.choices) ≤ most_variables
 variables-le-most c =
-    let p = c.before.before in
-    let a = p.args in
-    omega (arith, known_variables a.m a.z p.requires.0 a.bound, variables_le a.m (formed a.m p.requires.1.formed) a.bound p.requires.2)
+    let a = c.args in
+    omega (arith, known_variables a.m a.z c.requires.0 a.bound, variables_le a.m (formed a.m c.requires.1.formed) a.bound c.requires.2)
 
 counted : (c : After-moves_count-t)
-    → let a = c.before.before.args in
-    let s = c.before.state-count.result in
-    let t = c.moves-count.result in
+    → let a = c.args in
+    let s = c.state_count-s.result in
+    let t = c.moves_count-t.result in
     Counted (clauses a.m a.bound) (s.clauses + a.b.groups + a.bound * (t.clauses + s.clauses) + 1)
     (s.words + a.b.groups * 2 + a.bound * (t.words + s.words) + 2)
-counted c = let p = c.before.before in list_counted p.requires.1 p.args.bound c.before.state-count.ensures c.moves-count.ensures
+counted c = list_counted c.requires.1 c.args.bound c.state_count-s.ensures c.moves_count-t.ensures
 
-most : (c : After-moves_count-t) → let a = c.before.before.args in Most (clauses a.m a.bound) most_clauses most_words
-most c = let p = c.before.before in list_most p.args.m p.requires.1.formed p.args.bound p.requires.2
+most : (c : After-moves_count-t) → let a = c.args in Most (clauses a.m a.bound) most_clauses most_words
+most c = list_most c.args.m c.requires.1.formed c.args.bound c.requires.2
 
 -- a step
-step-clauses : (c : After-moves_count-t) → c.moves-count.result.clauses + c.before.state-count.result.clauses ≤ 29218
+step-clauses : (c : After-moves_count-t) → c.moves_count-t.result.clauses + c.state_count-s.result.clauses ≤ 29218
 step-clauses c =
-    let p = c.before.before in
-    let s = clauses_le (c.before.state-count.ensures 0) (state_most p.args.m p.requires.1.formed 0) in
-    let t = clauses_le (c.moves-count.ensures 0) (moves_most p.args.m p.requires.1.formed 0) in
+    let s = clauses_le (c.state_count-s.ensures 0) (state_most c.args.m c.requires.1.formed 0) in
+    let t = clauses_le (c.moves_count-t.ensures 0) (moves_most c.args.m c.requires.1.formed 0) in
     omega (arith, s, t)
 
-step_words : (c : After-moves_count-t) → c.moves-count.result.words + c.before.state-count.result.words ≤ 104866
+step_words : (c : After-moves_count-t) → c.moves_count-t.result.words + c.state_count-s.result.words ≤ 104866
 step_words c =
-    let p = c.before.before in
-    let s = words_le (c.before.state-count.ensures 0) (state_most p.args.m p.requires.1.formed 0) in
-    let t = words_le (c.moves-count.ensures 0) (moves_most p.args.m p.requires.1.formed 0) in
+    let s = words_le (c.state_count-s.ensures 0) (state_most c.args.m c.requires.1.formed 0) in
+    let t = words_le (c.moves_count-t.ensures 0) (moves_most c.args.m c.requires.1.formed 0) in
     omega (arith, s, t)
 
 pub overflow_mul-result : goal.overflow_mul-result

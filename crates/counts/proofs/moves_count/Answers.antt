@@ -20,21 +20,20 @@ delays-le c =
     mul-le-mul t h.state_le
 
 counted : (c : After-edges_count-e)
-    → let a = c.before.before.before.before.args in
+    → let a = c.args in
     let m = a.m in
     let n = (a.b.top + 1) * a.b.state in
-    let g = c.before.before.before.group-count.result in
-    let e = c.edges-count.result in
+    let g = c.group_count-c.result in
+    let e = c.edges_count-e.result in
     (o : ℕ) → Counted (clauses_of (choice_items one_hot_width m o) ++ clauses_of (delays_items one_hot_width m o) ++ clauses_of (edges_items one_hot_width m o))
     (g.clauses + n + e.clauses) (g.words + n * 4 + e.words)
 counted c o =
-    let p = c.before.before.before in
-    moves_counted p.before.requires o p.group-count.ensures (c.edges-count.ensures o)
+    moves_counted c.requires o c.group_count-c.ensures (c.edges_count-e.ensures o)
 
 most : (c : After-edges_count-e)
-    → let m = c.before.before.before.before.args.m in
+    → let m = c.args.m in
     Most (clauses_of (choice_items one_hot_width m 0) ++ clauses_of (delays_items one_hot_width m 0) ++ clauses_of (edges_items one_hot_width m 0)) 23073 86177
-most c = let p = c.before.before.before.before in moves_most p.args.m p.requires.formed 0
+most c = moves_most c.args.m c.requires.formed 0
 
 pub group_count-c-requires : goal.group_count-c-requires
 group_count-c-requires c = (known_bounded c.requires).choices_le

@@ -12,9 +12,9 @@ use Rattle.counts.proofs.state_count.Goals as goal
 use Rattle.counts.proofs.state_count.Goals.{After-invariants_count-i}
 
 counted : (c : After-invariants_count-i)
-    → let g = c.before.groups-count.result in let i = c.invariants-count.result in
-    (o : ℕ) → Counted (clauses_of (state_items one_hot_width c.before.before.args.m o)) (g.clauses + i.clauses) (g.words + i.words)
-counted c o = state_counted c.before.before.requires o (c.before.groups-count.ensures o) (c.invariants-count.ensures o)
+    → let g = c.groups_count-g.result in let i = c.invariants_count-i.result in
+    (o : ℕ) → Counted (clauses_of (state_items one_hot_width c.args.m o)) (g.clauses + i.clauses) (g.words + i.words)
+counted c o = state_counted c.requires o (c.groups_count-g.ensures o) (c.invariants_count-i.ensures o)
 
 pub groups_count-g-requires : goal.groups_count-g-requires
 groups_count-g-requires c = known_bounded c.requires

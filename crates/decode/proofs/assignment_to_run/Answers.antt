@@ -29,37 +29,37 @@ returns-then-bound-gt-STEPS c =
 
 pub returns-then-a-variables : goal.returns-then-a-variables
 returns-then-a-variables c =
-    let well_formed_lem = c.well_formed-2 in
+    let well_formed = c.well_formed-2 in
     let args = c.args in
     let bound = args.bound in
     let m = args.m in
     let a-now = args.a.now in
     let run-now = args.run.now in
-    refused m bound a-now run-now (report-23 m bound a-now (length run-now) (told_true well_formed_lem.ensures c.if-not-well_formed.false-raw)
+    refused m bound a-now run-now (report-23 m bound a-now (length run-now) (told_true well_formed.ensures c.if-not-well_formed.false-raw)
     (le-ltb 64 bound c.if-bound-gt-STEPS.false) (ap (eqb (length a-now)) (sym c.variables.ensures) ∙ ne_eqb _ _ c.if-a-variables.true)) refl
 
 pub returns-in-At : goal.returns-in-At
 returns-in-At c =
-    let well_formed_lem = c.well_formed-2 in
+    let well_formed = c.well_formed-2 in
     let args = c.args in
     let bound = args.bound in
     let m = args.m in
     let a-now = args.a.now in
     let run-now = args.run.now in
-    refused m bound a-now run-now (report-24 m bound a-now (length run-now) (told_true well_formed_lem.ensures c.if-not-well_formed.false-raw)
+    refused m bound a-now run-now (report-24 m bound a-now (length run-now) (told_true well_formed.ensures c.if-not-well_formed.false-raw)
     (le-ltb 64 bound c.if-bound-gt-STEPS.false)
     (ap (eqb (length a-now)) (sym c.variables.ensures) ∙ eq-eqb _ _ c.if-a-variables.false)
     (sym c.first_wrong_byte-wrong.ensures ∙ ap found c.in-At.is)) refl
 
 pub returns-then-run-bound : goal.returns-then-run-bound
 returns-then-run-bound c =
-    let well_formed_lem = c.well_formed-2 in
+    let well_formed = c.well_formed-2 in
     let args = c.args in
     let bound = args.bound in
     let m = args.m in
     let a-now = args.a.now in
     let run-now = args.run.now in
-    refused m bound a-now run-now (report-25 m bound a-now (length run-now) (told_true well_formed_lem.ensures c.if-not-well_formed.false-raw)
+    refused m bound a-now run-now (report-25 m bound a-now (length run-now) (told_true well_formed.ensures c.if-not-well_formed.false-raw)
     (le-ltb 64 bound c.if-bound-gt-STEPS.false)
     (ap (eqb (length a-now)) (sym c.variables.ensures) ∙ eq-eqb _ _ c.if-a-variables.false)
     (sym c.first_wrong_byte-wrong.ensures ∙ ap found c.in_default.is)
@@ -67,21 +67,21 @@ returns-then-run-bound c =
 
 pub first_false-failing-requires : goal.first_false-failing-requires
 first_false-failing-requires c =
-    let well_formed_lem = c.well_formed-2 in (
-      (T_true _).1 (told_true well_formed_lem.ensures c.if-not-well_formed.false-raw),
+    let well_formed = c.well_formed-2 in (
+      (T_true _).1 (told_true well_formed.ensures c.if-not-well_formed.false-raw),
       c.if-bound-gt-STEPS.false,
       c.if-a-variables.false ∙ c.variables.ensures,
     )
 
 pub returns-in-At-failing : goal.returns-in-At-failing
 returns-in-At-failing c =
-    let well_formed_lem = c.well_formed-2 in
+    let well_formed = c.well_formed-2 in
     let args = c.args in
     let bound = args.bound in
     let m = args.m in
     let a-now = args.a.now in
     let run-now = args.run.now in
-    refused m bound a-now run-now (report-26 m bound a-now (length run-now) (told_true well_formed_lem.ensures c.if-not-well_formed.false-raw)
+    refused m bound a-now run-now (report-26 m bound a-now (length run-now) (told_true well_formed.ensures c.if-not-well_formed.false-raw)
     (le-ltb 64 bound c.if-bound-gt-STEPS.false)
     (ap (eqb (length a-now)) (sym c.variables.ensures) ∙ eq-eqb _ _ c.if-a-variables.false)
     (sym c.first_wrong_byte-wrong.ensures ∙ ap found c.in_default.is)
@@ -91,8 +91,8 @@ returns-in-At-failing c =
 pub put_run-requires : goal.put_run-requires
 put_run-requires c =
     let if4-left = c.if-run-bound.false in
-    let well_formed_lem = c.well_formed-2 in (
-      (T_true _).1 (told_true well_formed_lem.ensures c.if-not-well_formed.false-raw),
+    let well_formed = c.well_formed-2 in (
+      (T_true _).1 (told_true well_formed.ensures c.if-not-well_formed.false-raw),
       c.if-bound-gt-STEPS.false,
       c.if-a-variables.false ∙ c.variables.ensures,
       if4-left,
@@ -101,13 +101,13 @@ put_run-requires c =
 pub returns : goal.returns
 returns c =
     let first-false = c.first_false-failing in
-    let well_formed_lem = c.well_formed-2 in
+    let well_formed = c.well_formed-2 in
     let args = c.args in
     let bound = args.bound in
     let m = args.m in
     let a-now = args.a.now in
     let run-now = args.run.now in
-    written m bound a-now run-now (report_0 m bound a-now (length run-now) (told_true well_formed_lem.ensures c.if-not-well_formed.false-raw)
+    written m bound a-now run-now (report_0 m bound a-now (length run-now) (told_true well_formed.ensures c.if-not-well_formed.false-raw)
     (le-ltb 64 bound c.if-bound-gt-STEPS.false)
     (ap (eqb (length a-now)) (sym c.variables.ensures) ∙ eq-eqb _ _ c.if-a-variables.false)
     (sym c.first_wrong_byte-wrong.ensures ∙ ap found c.in_default.is)

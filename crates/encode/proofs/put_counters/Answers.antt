@@ -20,7 +20,7 @@ pub loop-i-preserved : goal.loop-i-preserved
 unfolding counter_bytes
 loop-i-preserved c =
     let args = c.args in
-    (search rules, c.loop-i.invariant.1, wrote_each (counter_bytes args.t2 args.t3) _ c.loop-i.invariant.2 c.put_group-end.ensures)
+    (search rules, c.loop-i.invariant.1, wrote_each (counter_bytes args.counters args.values) _ c.loop-i.invariant.2 c.put_group-end.ensures)
 
 pub returns : goal.returns
 returns c =

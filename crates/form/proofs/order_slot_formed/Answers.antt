@@ -20,10 +20,10 @@ returns-then-k-n c =
 pub returns-then-counter-ge-COUNTERS : goal.returns-then-counter-ge-COUNTERS
 returns-then-counter-ge-COUNTERS c =
     let a = c.args in
-    slot_is a.t1 a.k (used c.before) (le-ltb _ _ c.if-counter-ge-COUNTERS.true) refl refl refl
+    slot_is a.e a.k (used c.before) (le-ltb _ _ c.if-counter-ge-COUNTERS.true) refl refl refl
 
 pub returns : goal.returns
 returns c =
     let a = c.args in
-    slot_is a.t1 a.k (used c.before.before.before.before) (lt-ltb _ _ c.if-counter-ge-COUNTERS.false) (sym c.is_keep-kept.ensures)
+    slot_is a.e a.k (used c.before.before.before.before) (lt-ltb _ _ c.if-counter-ge-COUNTERS.false) (sym c.is_keep-kept.ensures)
     (ap (λ (n : ℕ). eqb n a.k) (sym c.place_in.ensures)) refl

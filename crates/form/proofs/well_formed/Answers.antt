@@ -9,20 +9,20 @@ returns-then-not-head_formed c = formed_is _ (told_false c.head_formed.ensures c
 
 pub returns-then-not-counters_formed : goal.returns-then-not-counters_formed
 returns-then-not-counters_formed c =
-    let head_formed_lem = c.head_formed in
-    formed_is _ (told_true head_formed_lem.ensures c.if-not-head_formed.false-raw) (told_false c.counters_formed.ensures c.if-not-counters_formed.true-raw)
+    let head_formed = c.head_formed in
+    formed_is _ (told_true head_formed.ensures c.if-not-head_formed.false-raw) (told_false c.counters_formed.ensures c.if-not-counters_formed.true-raw)
     refl refl
 
 pub returns-then-not-invariants_formed : goal.returns-then-not-invariants_formed
 returns-then-not-invariants_formed c =
-    let head_formed_lem = c.head_formed in
+    let head_formed = c.head_formed in
     let if1-left = c.if-not-head_formed.false-raw in
-    formed_is _ (told_true head_formed_lem.ensures if1-left) (told_true c.counters_formed.ensures c.if-not-counters_formed.false-raw)
+    formed_is _ (told_true head_formed.ensures if1-left) (told_true c.counters_formed.ensures c.if-not-counters_formed.false-raw)
     (told_false c.invariants_formed.ensures c.if-not-invariants_formed.true-raw) refl
 
 pub returns : goal.returns
 returns c =
-    let head_formed_lem = c.head_formed in
-    formed_is _ (told_true head_formed_lem.ensures c.if-not-head_formed.false-raw)
+    let head_formed = c.head_formed in
+    formed_is _ (told_true head_formed.ensures c.if-not-head_formed.false-raw)
     (told_true c.counters_formed.ensures c.if-not-counters_formed.false-raw)
     (told_true c.invariants_formed.ensures c.if-not-invariants_formed.false-raw) (sym c.edges_formed.ensures)

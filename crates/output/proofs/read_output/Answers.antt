@@ -1,5 +1,6 @@
 -- `read_output`: the first pass stands if no variable is named again, and else the pass that ends there; variables are cut off at `most` and one.
 use mathlib.Core.Path.{◌≡◌, sym, ap, ◌∙◌}
+use mathlib.Core.List.{[]}
 use native.Mathlib.Omega.{arith}
 use lib.ListN.{take}
 use Rattle.output.specs.Tokens.{tokens_of, literals_in}

@@ -63,8 +63,7 @@ returns-then-only-eq1 c =
     let loop = c.loop-j in
     let turn = c.loop-j-test in
     let begins = c.begins in
-    let if1 = c.if-not-begins in
-    turn_more _ _ _ _ _ _ _ _ _ _ loop.invariant turn.true refl _ begins.ensures if1.false _ c.left-only.ensures.0 c.if-only-eq1.true
+    turn_more _ _ _ _ _ _ _ _ _ _ loop.invariant turn.true refl _ begins.ensures c.if-not-begins.false-raw _ c.left-only.ensures.0 c.if-only-eq1.true
 
 pub shape_of-marks-then-end-at : goal.shape_of-marks-then-end-at
 shape_of-marks-then-end-at c =
@@ -77,9 +76,8 @@ returns-then-end-at c =
     let loop = c.loop-j in
     let turn = c.loop-j-test in
     let begins = c.begins in
-    let if1 = c.if-not-begins in
     let at_left = c.left-only in
-    turn-done _ _ _ _ _ _ _ _ _ _ loop.invariant turn.true refl _ begins.ensures if1.false _ at_left.ensures.0 c.if-only-eq0.true
+    turn-done _ _ _ _ _ _ _ _ _ _ loop.invariant turn.true refl _ begins.ensures c.if-not-begins.false-raw _ at_left.ensures.0 c.if-only-eq0.true
     c.if-end-at.true
 
 pub shape_of-marks-then-end-words : goal.shape_of-marks-then-end-words
@@ -93,10 +91,9 @@ returns-then-end-words c =
     let loop = c.loop-j in
     let turn = c.loop-j-test in
     let begins = c.begins in
-    let if1 = c.if-not-begins in
     let at_left = c.left-only in
     let if3 = c.if-only-eq0 in
-    turn-ends _ _ _ _ _ _ _ _ _ _ loop.invariant turn.true refl _ begins.ensures if1.false _ at_left.ensures.0 if3.true
+    turn-ends _ _ _ _ _ _ _ _ _ _ loop.invariant turn.true refl _ begins.ensures c.if-not-begins.false-raw _ at_left.ensures.0 if3.true
     c.if-end-at.false (omega arith)
 
 pub shape_of-marks-then-at-words : goal.shape_of-marks-then-at-words
@@ -110,11 +107,10 @@ returns-then-at-words c =
     let loop = c.loop-j in
     let turn = c.loop-j-test in
     let begins = c.begins in
-    let if1 = c.if-not-begins in
     let at_left = c.left-only in
     let if3 = c.if-only-eq0 in
     let if4 = c.if-end-at in
-    turn-ends _ _ _ _ _ _ _ _ _ _ loop.invariant turn.true refl _ begins.ensures if1.false _ at_left.ensures.0 if3.true
+    turn-ends _ _ _ _ _ _ _ _ _ _ loop.invariant turn.true refl _ begins.ensures c.if-not-begins.false-raw _ at_left.ensures.0 if3.true
     if4.false c.if-at-words.true
 
 pub next_stamp-stamp-requires : goal.next_stamp-stamp-requires
@@ -176,12 +172,11 @@ loop-j-preserved c =
     let if2 = c.if-only-eq1 in
     let turn = c.loop-j-test in
     let begins = c.begins in
-    let if1 = c.if-not-begins in
     let v = loop.invariant in
     let all = v.long ∙ take.ensures.long ∙ pre.2 in
     let r = at_left.result in
     let small : r < 43554 = omega (arith, at_left.ensures.1 (two _ if2.false c.if-only-eq0.false), all) in
-    turn-only _ _ _ _ _ _ _ _ _ _ v turn.true refl _ begins.ensures if1.false _ at_left.ensures.0 if2.false c.if-only-eq0.false _
+    turn-only _ _ _ _ _ _ _ _ _ _ v turn.true refl _ begins.ensures c.if-not-begins.false-raw _ at_left.ensures.0 if2.false c.if-only-eq0.false _
     c.opposite-other.ensures
     (omega (arith, all, c.opposite-other.ensures, opposite_below r small))
 

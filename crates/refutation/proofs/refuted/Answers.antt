@@ -14,9 +14,9 @@ pub follow-requires : goal.follow-requires
 follow-requires c =
     let if1 = c.if-n-words in
     let args = c.args in
-    let all_within_lem = c.all_within in (
+    let all_within = c.all_within in (
       if1.false,
-      call_below args.words.now args.n args.hints.now if1.false _ all_within_lem.ensures c.if-not-all_within.false-raw,
+      call_below args.words.now args.n args.hints.now if1.false _ all_within.ensures c.if-not-all_within.false-raw,
       length-replicate {A = ℕ} 43554 0,
       zeros_fresh 43554,
     )
@@ -24,6 +24,5 @@ follow-requires c =
 pub returns : goal.returns
 returns c =
     let if1 = c.if-n-words in
-    let all_within_lem = c.all_within in
-    let if2 = c.if-not-all_within in
-    call_answer _ _ _ if1.false _ all_within_lem.ensures if2.false _ c.follow.ensures
+    let all_within = c.all_within in
+    call_answer _ _ _ if1.false _ all_within.ensures c.if-not-all_within.false-raw _ c.follow.ensures

@@ -2,7 +2,7 @@
 use lib.ListN.{length, length-set}
 use Prim.Native.Nat.{ℕ, ◌≤◌, ◌<◌, ◌-◌}
 use native.Mathlib.Omega.{arith}
-use mathlib.Core.List.{List, ◌∷◌}
+use mathlib.Core.List.{List, [], ◌∷◌}
 use mathlib.Core.Path.{refl, sym, ◌∙◌, subst}
 use Rattle.refutation.specs.Marks.{Shows}
 use Rattle.refutation.proofs.Laws.{span_end, span_closed, span_more, literals_end, literals_closed, literals_more, shows_none, shows_set}

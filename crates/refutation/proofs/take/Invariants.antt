@@ -1,7 +1,7 @@
 -- `take`: the stamped literals are those of the words so far, and the rest of the clause adds the others.
 use lib.ListN.{length, drop}
 use Prim.Native.Nat.{ℕ, ◌≤◌, ◌-◌, ◌+◌}
-use mathlib.Core.List.{List}
+use mathlib.Core.List.{List, []}
 use mathlib.Core.Path.{◌≡◌}
 use Rattle.refutation.specs.Marks.{Shows}
 use Rattle.refutation.specs.Refutation.{span, literals}

@@ -13,7 +13,7 @@ use Rattle.samples.proofs.model_b.Goals as goal
 pub returns : goal.returns
 unfolding model_b blank_model
 returns c =
-    let edge_of_lem = c.edge_of in
+    let edge_of = c.edge_of in
     let on-clock = c.on_clock in
     let b = c.blank-m.ensures in
     let early = c.edge_of-2.ensures
@@ -28,5 +28,5 @@ returns c =
       counters = set (b i).counters 0 (record { greatest = 1; initial = 0 });
       invariants = set (b i).invariants 1 (record { atoms = on-clock.ensures i });
       used = 3;
-      edges = set (set (set (b i).edges 0 (edge_of_lem.ensures i)) 1 (early i)) 2 (late i);
+      edges = set (set (set (b i).edges 0 (edge_of.ensures i)) 1 (early i)) 2 (late i);
     }

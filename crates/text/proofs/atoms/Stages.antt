@@ -2,7 +2,7 @@
 use Prim.Native.Nat.{ℕ, suc, ◌+◌, ◌-◌, ◌≤◌, ◌<◌}
 use mathlib.Core.Path.{◌≡◌, refl, sym, ap, ◌∙◌}
 use mathlib.Core.List.{List, [], ◌∷◌, ◌++◌, map, foldl, append_assoc, append-nil}
-use mathlib.Core.Bool.{Bool, true, false, ◌||◌, or_false, or-true}
+use mathlib.Core.Bool.{Bool, true, false, ◌||◌, or-false, or-true}
 use native.Mathlib.Omega.{arith}
 use native.Mathlib.Nat.{zero-add}
 use lib.ListN.{length, replicate, length-append}
@@ -29,7 +29,7 @@ module _ (clocks vars : ℕ) where
 
   crowded : (l : List AtomRead) (s : AtomsRead) → s.count ≤ 4 → Crowded l s
   unfolding absorbed
-  crowded [] s h = rw (le-ltb 4 (s.count + 0) (omega arith)) (sym (or_false s.faults.crowded))
+  crowded [] s h = rw (le-ltb 4 (s.count + 0) (omega arith)) (sym (or-false s.faults.crowded))
   crowded (a ∷ l) s h = go (leb 4 s.count) refl (crowded l (step s a))
     where
       go : (b : Bool) → leb 4 s.count ≡ b → ((step s a).count ≤ 4 → Crowded l (step s a)) → Crowded (a ∷ l) s
@@ -41,7 +41,7 @@ module _ (clocks vars : ℕ) where
           let room : s.count < 4 = leb-false 4 s.count e in
           let n : s.count + 1 + length l ≡ s.count + suc (length l) = omega arith in
           f (rw (lt-ltb s.count 4 room) (omega arith))
-          ∙ rw (e, lt-ltb s.count 4 room, or_false s.faults.crowded, n)
+          ∙ rw (e, lt-ltb s.count 4 room, or-false s.faults.crowded, n)
 
   faults_are : (items : List AtomRead) → (foldl (absorbed clocks vars) no_atoms items).faults ≡ atom_faults clocks vars items
   unfolding atom_faults no_atoms absorbed

@@ -2,7 +2,7 @@
 use Prim.Native.Nat.{ℕ, ◌+◌}
 use mathlib.Core.Path.{◌≡◌, refl, sym, ap, ◌∙◌}
 use mathlib.Core.List.{List, [], ◌∷◌, map, foldl}
-use mathlib.Core.Bool.{Bool, true, false, not, cond, ◌&&◌, ◌||◌, or_assoc, or_false, false≢true}
+use mathlib.Core.Bool.{Bool, true, false, not, cond, ◌&&◌, ◌||◌, or_assoc, or-false, false≢true}
 use native.Mathlib.Omega.{arith}
 use lib.Dec.{ltb, leb, eqb}
 use borrow.Author.Tests.{lt-ltb, le-ltb, leb-true, leb-false, eqb-true}
@@ -16,7 +16,7 @@ module _ {S A : Type 0} (step : S → A → S) where
   pub flag : (get : S → Bool) (f : A → Bool) → ((s : S) (a : A) → get (step s a) ≡ (get s || f a))
       → (l : List A) (s : S) → get (foldl step s l) ≡ (get s || any_of f l)
   unfolding any_of
-  flag get f h [] s = sym (or_false (get s))
+  flag get f h [] s = sym (or-false (get s))
   flag get f h (a ∷ l) s = flag get f h l (step s a) ∙ rw (h s a) (or_assoc (get s) (f a) (any_of f l))
 
   -- a flag that no item raises
@@ -29,7 +29,7 @@ module _ {S A : Type 0} (step : S → A → S) where
       → ((s : S) (a : A) → least (step s a) ≡ key a + 1)
       → (l : List A) (s : S) → get (foldl step s l) ≡ (get s || not (rises_from (least s) (map key l)))
   unfolding rises_from
-  unrising get least key h g [] s = sym (or_false (get s))
+  unrising get least key h g [] s = sym (or-false (get s))
   unrising get least key h g (a ∷ l) s =
       unrising get least key h g l (step s a)
       ∙ rw (h s a, g s a)

@@ -3,7 +3,7 @@ use Prim.Native.Nat.{ℕ, zero, suc, ◌+◌, ◌≤◌, ◌<◌}
 use mathlib.Core.Path.{◌≡◌, refl, sym, ap, ◌∙◌}
 use mathlib.Core.Logic.{⊎_elim}
 use mathlib.Core.List.{List, [], ◌∷◌, map, foldl}
-use mathlib.Core.Bool.{Bool, true, false, cond, not, ◌&&◌, ◌||◌, or-true, or_false}
+use mathlib.Core.Bool.{Bool, true, false, cond, not, ◌&&◌, ◌||◌, or-true, or-false}
 use native.Mathlib.Omega.{arith}
 use lib.Dec.{T, ltb, leb, eqb, leb→le}
 use lib.ListN.{length, get_or, replicate, length-set, length-map, get_or-eq_default}
@@ -68,7 +68,7 @@ set_or_more false c n = let e : 0 + n ≡ n = omega arith in ap (λ (m : ℕ). c
 slots_set : (l : List SetRead) (slots : List UpdateSlot) → length slots ≡ 4 → (i : ℕ) → i < 4
     → is_set (foldl placed slots l) i ≡ (is_set slots i || ltb 0 (times_set i l))
 unfolding times_set
-slots_set [] slots long i p = sym (or_false (is_set slots i))
+slots_set [] slots long i p = sym (or-false (is_set slots i))
 slots_set (a ∷ l) slots long i p =
     slots_set l (placed slots a) (length-set slots (counter_of a) _ ∙ long) i p
     ∙ rw (set_more slots a (update_in a) long (put_keeps a) i p) (set_or_more (eqb i (counter_of a)) (is_set slots i) (times_set i l))

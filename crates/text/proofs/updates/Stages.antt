@@ -2,7 +2,7 @@
 use Prim.Native.Nat.{ℕ, ◌<◌}
 use mathlib.Core.Path.{◌≡◌, refl, sym, ap, ◌∙◌}
 use mathlib.Core.List.{List, [], ◌∷◌, ◌++◌, map, foldl, append_assoc, append-nil}
-use mathlib.Core.Bool.{Bool, false, not, ◌||◌, or_assoc, or_false}
+use mathlib.Core.Bool.{Bool, false, not, ◌||◌, or_assoc, or-false}
 use native.Mathlib.Omega.{arith}
 use lib.ListN.{length, set, replicate, length-set}
 use lib.Dec.{ltb, leb}
@@ -40,7 +40,7 @@ module _ (vars : ℕ) where
   twice : (l : List SetRead) (s : SetsRead) → length s.updates ≡ 4
       → (foldl step s l).faults.unordered ≡ (s.faults.unordered || not (all_below (once s.updates l) 4))
   unfolding absorbed put
-  twice [] s n = rw (once_none s.updates) (sym (or_false s.faults.unordered))
+  twice [] s n = rw (once_none s.updates) (sym (or-false s.faults.unordered))
   twice (a ∷ l) s n =
       let slots = s.updates in
       let k = counter_of a in

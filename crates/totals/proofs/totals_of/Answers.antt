@@ -17,6 +17,6 @@ pub returns : goal.returns
 unfolding totals_report
 returns c =
     let totals-ensures = c.totals-z.ensures in
-    let well_formed_lem = c.well_formed-2 in
-    rw (told_true well_formed_lem.ensures c.if-not-well_formed.false-raw, le-ltb _ _ c.if-bound-gt-STEPS.false)
+    let well_formed = c.well_formed-2 in
+    rw (told_true well_formed.ensures c.if-not-well_formed.false-raw, le-ltb _ _ c.if-bound-gt-STEPS.false)
     (λ i. totals_reported 0 (state_of_totals _ _ totals-ensures i) (choices_of_totals _ _ totals-ensures i) (c.variables.ensures i))

@@ -11,7 +11,7 @@ use Rattle.walk.proofs.advance.Goals as goal
 pub returns-then-byte-top : goal.returns-then-byte-top
 returns-then-byte-top c =
     let args = c.args in
-    let m = args.t1 in
+    let m = args.m in
     let pre₁ = c.requires.1 in
     let s = args.s in
     let p : args.byte ≤ ceiling m = omega (arith, c.if-byte-top.true, pre₁) in
@@ -23,7 +23,7 @@ bounds-m-e c = omega (arith, (formed c.args.m c.requires.0).used_le)
 pub returns-then-e-m : goal.returns-then-e-m
 returns-then-e-m c =
     let args = c.args in
-    let m = args.t1 in
+    let m = args.m in
     let s = args.s in
     let pre₁ = c.requires.1 in
     let byte = args.byte in
@@ -34,6 +34,6 @@ returns-then-e-m c =
 pub returns : goal.returns
 returns c =
     let args = c.args in
-    let m = args.t1 in
+    let m = args.m in
     let s = args.s in
     sym (ap (stepped s) (step_is_none m s args.byte (omega (arith, choices_is m, c.if-byte-top.false, c.if-e-m.false, c.requires.1))))

@@ -35,16 +35,16 @@ overflow_cast-z c =
 
 pub advance-next-requires : goal.advance-next-requires
 advance-next-requires c =
-    let well_formed_lem = c.well_formed-2 in
+    let well_formed = c.well_formed-2 in
     let if1-left = c.if-not-well_formed.false-raw in
-    ((T_true _).1 (told_true well_formed_lem.ensures if1-left), ceiling_of_totals _ _ c.totals-z.ensures)
+    ((T_true _).1 (told_true well_formed.ensures if1-left), ceiling_of_totals _ _ c.totals-z.ensures)
 
 pub returns-then-not-next : goal.returns-then-not-next
 returns-then-not-next c =
     let if3-left = c.if-z-byte.false in
-    let well_formed_lem = c.well_formed-2 in
+    let well_formed = c.well_formed-2 in
     let byte = c.args.byte in
-    sym (step-28 _ _ _ (told_true well_formed_lem.ensures c.if-not-well_formed.false-raw)
+    sym (step-28 _ _ _ (told_true well_formed.ensures c.if-not-well_formed.false-raw)
     (told_true c.state_formed.ensures c.if-not-state_formed.false-raw)
     (lt-leb _ _ (subst (λ (x : ℕ). byte < x) (choices_of_totals _ _ c.totals-z.ensures) if3-left))
     (refused_none _ _ _ c.advance-next.ensures (not-true _ c.if-not-next.true)))
@@ -52,9 +52,9 @@ returns-then-not-next c =
 pub returns : goal.returns
 returns c =
     let if3-left = c.if-z-byte.false in
-    let well_formed_lem = c.well_formed-2 in
+    let well_formed = c.well_formed-2 in
     let byte = c.args.byte in
-    sym (step-0 _ _ _ (told_true well_formed_lem.ensures c.if-not-well_formed.false-raw)
+    sym (step-0 _ _ _ (told_true well_formed.ensures c.if-not-well_formed.false-raw)
     (told_true c.state_formed.ensures c.if-not-state_formed.false-raw)
     (lt-leb _ _ (subst (λ (x : ℕ). byte < x) (choices_of_totals _ _ c.totals-z.ensures) if3-left))
     (taken_some _ _ _ c.advance-next.ensures (not-false _ c.if-not-next.false)))

@@ -16,15 +16,15 @@ returns-then-run-gt-STEPS c = sym (walk_21 _ _ (told_true c.well_formed-2.ensure
 
 pub returns-then-not-invariant_holds : goal.returns-then-not-invariant_holds
 returns-then-not-invariant_holds c =
-    let well_formed_lem = c.well_formed-2 in
+    let well_formed = c.well_formed-2 in
     let if1-left = c.if-not-well_formed.false-raw in
-    sym (walk-29 _ _ (told_true well_formed_lem.ensures if1-left) (le-ltb _ _ c.if-run-gt-STEPS.false)
+    sym (walk-29 _ _ (told_true well_formed.ensures if1-left) (le-ltb _ _ c.if-run-gt-STEPS.false)
     (ap (invariant_holds _) (sym c.initial_state-s.ensures) ∙ told_false c.invariant_holds.ensures c.if-not-invariant_holds.true-raw))
 
 pub walk_from-requires : goal.walk_from-requires
 walk_from-requires c =
-    let well_formed_lem = c.well_formed-2 in
-    ((T_true _).1 (told_true well_formed_lem.ensures c.if-not-well_formed.false-raw), c.if-run-gt-STEPS.false)
+    let well_formed = c.well_formed-2 in
+    ((T_true _).1 (told_true well_formed.ensures c.if-not-well_formed.false-raw), c.if-run-gt-STEPS.false)
 
 pub returns : goal.returns
 returns c =

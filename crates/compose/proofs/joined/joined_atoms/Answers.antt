@@ -34,8 +34,8 @@ loop-k-preserved c =
     let loop = c.loop-k in
     let a = c.args in
     let n = c.atom_count-n.result in
-    let second = rest a.clocks a.vars a.t2 in
-    let f = slot a.clocks a.vars a.first a.t2 n in
+    let second = rest a.clocks a.vars a.second in
+    let f = slot a.clocks a.vars a.first a.second n in
     let next = ⊎_elim
     (λ w. stored blank_atom f w.3 (omega arith) loop.invariant.1 loop.invariant.2
     (ap (λ (x : Atom). record { atom = x }) (w.2.ensures ∙ in_second n (atom_at a.first) second loop.k w.0.taken)))
@@ -50,7 +50,7 @@ returns c =
     let loop = c.loop-k in
     let a = c.args in
     let count = c.atom_count-n in
-    let f = slot a.clocks a.vars a.first a.t2 in
+    let f = slot a.clocks a.vars a.first a.second in
     let end : loop.k ≡ 4 = omega arith in
     filled_all blank_atom (f count.result) loop.invariant.1 (subst (FilledTo blank_atom (f count.result) a.first loop.joined) end loop.invariant.2)
     ∙ ap (λ (n : ℕ). list_below (f n) 4) count.ensures

@@ -8,7 +8,7 @@ use Rattle.compose.proofs.joined.joined_place.Goals as goal
 pub returns-then-k-n : goal.returns-then-k-n
 returns-then-k-n c =
     let a = c.args in
-    place_first a.vars a.t1 a.t2 c.requires.2 c.requires.3 {k = a.k} c.if-k-n.true
+    place_first a.vars a.e a.f c.requires.2 c.requires.3 {k = a.k} c.if-k-n.true
 
 pub overflow_add-n : goal.overflow_add-n
 overflow_add-n c =
@@ -18,14 +18,14 @@ pub overflow_add-result : goal.overflow_add-result
 overflow_add-result c =
     let a = c.args in
     let below : a.k - a.n < 4 = omega (arith, c.requires.4) in
-    record { fits = omega (arith, c.requires.0, order_below a.t2 c.requires.1 (a.k - a.n) (omega (arith, c.requires.3))) }
+    record { fits = omega (arith, c.requires.0, order_below a.f c.requires.1 (a.k - a.n) (omega (arith, c.requires.3))) }
 
 pub returns-then-k-n-2 : goal.returns-then-k-n-2
 returns-then-k-n-2 c =
     let a = c.args in
-    place_second a.vars a.t1 a.t2 c.requires.2 c.requires.3 {k = a.k} (omega arith) c.if-k-n-2.true
+    place_second a.vars a.e a.f c.requires.2 c.requires.3 {k = a.k} (omega arith) c.if-k-n-2.true
 
 pub returns : goal.returns
 returns c =
     let a = c.args in
-    place_none a.vars a.t1 a.t2 c.requires.2 c.requires.3 {k = a.k} (omega arith)
+    place_none a.vars a.e a.f c.requires.2 c.requires.3 {k = a.k} (omega arith)

@@ -39,8 +39,8 @@ loop-i-preserved c =
     let loop = c.loop-i in
     let a = c.args in
     let first = own a.e.resets in
-    let second = rest a.clocks a.t2 in
-    let f = slot a.clocks a.e.resets a.t2 in
+    let second = rest a.clocks a.f in
+    let f = slot a.clocks a.e.resets a.f in
     let next = ⊎_elim
     (λ w. stored blank_reset f w.3 (omega arith) loop.invariant.1 loop.invariant.2
     (ap (λ (x : ClockUpdate). record { update = x }) (w.2.ensures ∙ in_second a.clocks first second loop.i w.0.taken)))
@@ -54,6 +54,6 @@ unfolding joined_resets
 returns c =
     let loop = c.loop-i in
     let a = c.args in
-    let f = slot a.clocks a.e.resets a.t2 in
+    let f = slot a.clocks a.e.resets a.f in
     let end : loop.i ≡ 4 = omega arith in
     filled_all blank_reset f loop.invariant.1 (subst (FilledTo blank_reset f a.e.resets loop.joined) end loop.invariant.2)

@@ -40,8 +40,8 @@ loop-i-preserved c =
     let loop = c.loop-i in
     let a = c.args in
     let first = own a.e.updates in
-    let second = rest a.vars a.t2 in
-    let f = slot a.vars a.e.updates a.t2 in
+    let second = rest a.vars a.f in
+    let f = slot a.vars a.e.updates a.f in
     let next = ⊎_elim
     (λ w. stored blank_update f w.3 (omega arith) loop.invariant.1 loop.invariant.2
     (ap (λ (x : Update). record { update = x }) (w.2.ensures ∙ in_second a.vars first second loop.i w.0.taken)))
@@ -55,6 +55,6 @@ unfolding joined_updates
 returns c =
     let loop = c.loop-i in
     let a = c.args in
-    let f = slot a.vars a.e.updates a.t2 in
+    let f = slot a.vars a.e.updates a.f in
     let end : loop.i ≡ 4 = omega arith in
     filled_all blank_update f loop.invariant.1 (subst (FilledTo blank_update f a.e.updates loop.joined) end loop.invariant.2)

@@ -12,64 +12,64 @@ use Rattle.compose.proofs.moves.edge_of.Goals as goal
 pub bounds-a-edge : goal.bounds-a-edge
 bounds-a-edge c =
     let a = c.args in
-    let move = subst (MoveOf a.t1 a.t2) c.in-FirstAlone.is c.requires.2 in
-    omega (arith, move.0, (formed a.t1 c.requires.0).used_le)
+    let move = subst (MoveOf a.a a.b) c.in-FirstAlone.is c.requires.2 in
+    omega (arith, move.0, (formed a.a c.requires.0).used_le)
 
 pub joined_edge-requires : goal.joined_edge-requires
 joined_edge-requires c =
     let a = c.args in
-    let move = subst (MoveOf a.t1 a.t2) c.in-FirstAlone.is c.requires.2 in
-    let w = formed a.t1 c.requires.0 in
-    let v = formed a.t2 c.requires.1 in (
+    let move = subst (MoveOf a.a a.b) c.in-FirstAlone.is c.requires.2 in
+    let w = formed a.a c.requires.0 in
+    let v = formed a.b c.requires.1 in (
       w.clocks_le,
       w.vars_le,
       v.locations_le,
-      used-edge a.t1 c.requires.0 c.in-FirstAlone.edge move.0,
+      used-edge a.a c.requires.0 c.in-FirstAlone.edge move.0,
       formed_as c.standing.ensures (standing_formed c.in-FirstAlone.stays (omega (arith, move.1, v.locations_le))),
     )
 
 pub bounds-b-edge : goal.bounds-b-edge
 bounds-b-edge c =
     let a = c.args in
-    let move = subst (MoveOf a.t1 a.t2) c.in-SecondAlone.is c.requires.2 in
-    omega (arith, move.0, (formed a.t2 c.requires.1).used_le)
+    let move = subst (MoveOf a.a a.b) c.in-SecondAlone.is c.requires.2 in
+    omega (arith, move.0, (formed a.b c.requires.1).used_le)
 
 pub joined_edge-requires-in-SecondAlone : goal.joined_edge-requires-in-SecondAlone
 joined_edge-requires-in-SecondAlone c =
     let a = c.args in
-    let move = subst (MoveOf a.t1 a.t2) c.in-SecondAlone.is c.requires.2 in
-    let w = formed a.t1 c.requires.0 in
-    let v = formed a.t2 c.requires.1 in (
+    let move = subst (MoveOf a.a a.b) c.in-SecondAlone.is c.requires.2 in
+    let w = formed a.a c.requires.0 in
+    let v = formed a.b c.requires.1 in (
       w.clocks_le,
       w.vars_le,
       v.locations_le,
       formed_as c.standing-in-SecondAlone.ensures (standing_formed c.in-SecondAlone.stays (omega (arith, move.1, w.locations_le))),
-      used-edge a.t2 c.requires.1 c.in-SecondAlone.edge move.0,
+      used-edge a.b c.requires.1 c.in-SecondAlone.edge move.0,
     )
 
 pub bounds-a-first : goal.bounds-a-first
 bounds-a-first c =
     let a = c.args in
-    let move = subst (MoveOf a.t1 a.t2) c.in-Together.is c.requires.2 in
-    omega (arith, move.0, (formed a.t1 c.requires.0).used_le)
+    let move = subst (MoveOf a.a a.b) c.in-Together.is c.requires.2 in
+    omega (arith, move.0, (formed a.a c.requires.0).used_le)
 
 pub bounds-b-second : goal.bounds-b-second
 bounds-b-second c =
     let a = c.args in
-    let move = subst (MoveOf a.t1 a.t2) c.in-Together.is c.requires.2 in
-    omega (arith, move.1, (formed a.t2 c.requires.1).used_le)
+    let move = subst (MoveOf a.a a.b) c.in-Together.is c.requires.2 in
+    omega (arith, move.1, (formed a.b c.requires.1).used_le)
 
 pub joined_edge-requires-in-Together : goal.joined_edge-requires-in-Together
 joined_edge-requires-in-Together c =
     let a = c.args in
-    let move = subst (MoveOf a.t1 a.t2) c.in-Together.is c.requires.2 in
-    let w = formed a.t1 c.requires.0 in
-    let v = formed a.t2 c.requires.1 in (
+    let move = subst (MoveOf a.a a.b) c.in-Together.is c.requires.2 in
+    let w = formed a.a c.requires.0 in
+    let v = formed a.b c.requires.1 in (
       w.clocks_le,
       w.vars_le,
       v.locations_le,
-      used-edge a.t1 c.requires.0 c.in-Together.first move.0,
-      used-edge a.t2 c.requires.1 c.in-Together.second move.1,
+      used-edge a.a c.requires.0 c.in-Together.first move.0,
+      used-edge a.b c.requires.1 c.in-Together.second move.1,
     )
 
 pub returns-in-FirstAlone : goal.returns-in-FirstAlone

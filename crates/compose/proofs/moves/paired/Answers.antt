@@ -7,9 +7,9 @@ use Rattle.compose.proofs.moves.paired.Goals as goal
 pub returns-then-not-shared : goal.returns-then-not-shared
 returns-then-not-shared c =
     let entry = c.args in
-    paired_is entry.t1 entry.t2 entry.e entry.f (told_false c.shared.ensures c.if-not-shared.true-raw) refl
+    paired_is entry.a entry.b entry.e entry.f (told_false c.shared.ensures c.if-not-shared.true-raw) refl
 
 pub returns : goal.returns
 returns c =
     let entry = c.args in
-    paired_is entry.t1 entry.t2 entry.e entry.f (told_true c.shared.ensures c.if-not-shared.false-raw) refl
+    paired_is entry.a entry.b entry.e entry.f (told_true c.shared.ensures c.if-not-shared.false-raw) refl

@@ -16,20 +16,20 @@ use Rattle.counts.proofs.edge.atoms_count.Goals.{After-count_part-a}
 -- with one atom more
 next : (c : After-count_part-a invariant-loop decreases-loop)
     → let l = c.before.before.before.before.loop in let a = c.before.before.before.before.before.args in
-    (x o : ℕ) → Counted (each (l.k + 1) (atom_piece a.b o x a.t2)) (l.clauses + c.count-part.result.clauses) (l.words + c.count-part.result.words)
+    (x o : ℕ) → Counted (each (l.k + 1) (atom_piece a.b o x a.atoms)) (l.clauses + c.count-part.result.clauses) (l.words + c.count-part.result.words)
 next c x o =
     let l = c.before.before.before.before.loop in
     let a = c.before.before.before.before.before.args in
     let r = c.before.atom-part.ensures in
     let n = c.count-part.ensures in
-    counted_each_more _ (l.invariant.1 x o) (atom_counted a.b o x (atom_at a.t2 l.k) (n.0 ∙ ap part_count r) (n.1 ∙ ap part_words r))
+    counted_each_more _ (l.invariant.1 x o) (atom_counted a.b o x (atom_at a.atoms l.k) (n.0 ∙ ap part_count r) (n.1 ∙ ap part_words r))
 
 most : (c : After-count_part-a invariant-loop decreases-loop)
     → let l = c.before.before.before.before.loop in let a = c.before.before.before.before.before.args in
-    Most (each (l.k + 1) (atom_piece a.b 0 0 a.t2)) 128 384
+    Most (each (l.k + 1) (atom_piece a.b 0 0 a.atoms)) 128 384
 most c =
     let p = c.before.before.before.before in
-    atoms_most p.before.args.b p.before.requires 0 0 p.before.args.t2 (p.loop.k + 1) (omega arith)
+    atoms_most p.before.args.b p.before.requires 0 0 p.before.args.atoms (p.loop.k + 1) (omega arith)
 
 pub loop-k-init : goal.loop-k-init
 loop-k-init c = (omega arith, λ x o. counted_each_none _)
@@ -37,7 +37,7 @@ loop-k-init c = (omega arith, λ x o. counted_each_none _)
 pub count_part-a-requires : goal.count_part-a-requires
 count_part-a-requires c =
     let a = c.args in
-    subst (λ (q : Part). q.size ≤ 32) (sym c.atom_part.ensures) (atom_small a.b c.requires 0 (atom_at a.t2 c.loop-k.k))
+    subst (λ (q : Part). q.size ≤ 32) (sym c.atom_part.ensures) (atom_small a.b c.requires 0 (atom_at a.atoms c.loop-k.k))
 
 pub overflow_add-clauses : goal.overflow_add-clauses
 overflow_add-clauses c = omega (arith, clauses_le (next c.before 0 0) (most c.before))

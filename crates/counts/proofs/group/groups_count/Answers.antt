@@ -14,18 +14,18 @@ use Rattle.counts.proofs.group.groups_count.Goals.{After-group_count-a}
 
 -- with one group more
 next : (c : After-group_count-a invariant-loop decreases-loop)
-    → let l = c.before.before.before.loop in let b = c.before.before.before.before.args.t1 in
+    → let l = c.before.before.before.loop in let b = c.before.before.before.before.args.b in
     (o : ℕ) → Counted (each (l.g + 1) (group_piece b o)) (l.clauses + c.group-count.result.clauses) (l.words + c.group-count.result.words)
 next c o =
     let l = c.before.before.before.loop in
-    let b = c.before.before.before.before.args.t1 in
+    let b = c.before.before.before.before.args.b in
     counted_each_more _ (l.invariant.2 o) (c.group-count.ensures (o + first_at b l.g))
 
 most : (c : After-group_count-a invariant-loop decreases-loop)
-    → let l = c.before.before.before.loop in Most (each (l.g + 1) (group_piece c.before.before.before.before.args.t1 0)) 4473 13689
+    → let l = c.before.before.before.loop in Most (each (l.g + 1) (group_piece c.before.before.before.before.args.b 0)) 4473 13689
 most c =
     let p = c.before.before.before in
-    groups_most p.before.args.t1 p.before.requires 0 (p.loop.g + 1) (omega (arith, p.before.requires.groups_le, p.before.requires.vars_le))
+    groups_most p.before.args.b p.before.requires 0 (p.loop.g + 1) (omega (arith, p.before.requires.groups_le, p.before.requires.vars_le))
 
 pub loop-g-init : goal.loop-g-init
 loop-g-init c = (search rules, search rules, λ o. counted_each_none _)

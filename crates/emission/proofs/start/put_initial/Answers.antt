@@ -1,6 +1,6 @@
 -- put_initial: the initial value of each group, a group a turn.
 use lib.ListN.{get_or}
-use mathlib.Core.List.{◌∷◌}
+use mathlib.Core.List.{[], ◌∷◌}
 use Rattle.list.specs.Clauses.{bare, one}
 use native.Mathlib.Omega.{arith}
 use Rattle.model.proofs.FormLaws.{state_size_le}

@@ -64,7 +64,7 @@ pub loop-l-preserved : goal.loop-l-preserved
 loop-l-preserved c =
     let a = c.args in
     let l = c.loop-l.l in
-    let same = atoms_by c.requires.0 a.o (a.o + l) (atoms_of a.t4 l) in
+    let same = atoms_by c.requires.0 a.o (a.o + l) (atoms_of a.invariants l) in
     (omega arith, wrote_each _ _ c.loop-l.invariant.1 (wrote_as same c.put_atoms-end.ensures))
 
 pub returns : goal.returns

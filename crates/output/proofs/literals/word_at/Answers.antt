@@ -10,8 +10,8 @@ use Rattle.output.proofs.literals.word_at.Goals.{After-has_minus}
 
 -- what follows `at` begins with a minus if and only if the test says so
 tested : (c : After-has_minus)
-    → let a = c.before.before.before.args in c.has-minus.result ≡ has_minus (drop a.at a.s.now)
-tested c = let a = c.before.before.before.args in c.has-minus.ensures ∙ ap has_minus (part_to_end a.s.now a.at)
+    → let a = c.args in c.has_minus.result ≡ has_minus (drop a.at a.s.now)
+tested c = let a = c.args in c.has_minus.ensures ∙ ap has_minus (part_to_end a.s.now a.at)
 
 pub digits_at-requires : goal.digits_at-requires
 digits_at-requires c =

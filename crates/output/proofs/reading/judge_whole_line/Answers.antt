@@ -1,6 +1,6 @@
 -- `judge_whole_line`: the tokens of a line, by its form: `line_short`, `line_alone`, and `line_words` where it has literals.
 use mathlib.Core.Path.{◌≡◌}
-use mathlib.Core.List.{foldl}
+use mathlib.Core.List.{[], foldl}
 use Rattle.output.specs.Tokens.{literals_by, line_tokens}
 use Rattle.output.specs.Counting.{literal_up_to, count}
 use Rattle.output.proofs.TokenLaws.{line_alone, line_short, line_words}

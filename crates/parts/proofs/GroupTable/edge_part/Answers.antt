@@ -30,7 +30,7 @@ returns-then-i-self c =
       ne_eqb j 0 c.if-j-eq0.false,
       ne_eqb j 1 c.if-j-eq1.false,
       le-ltb j 6 c.if-j-lt6.false,
-      lt-ltb (j - 6) args.t1.vars c.if-i-self.true,
+      lt-ltb (j - 6) args.self.vars c.if-i-self.true,
     ) c.update_part.ensures
 
 pub returns : goal.returns
@@ -42,5 +42,5 @@ returns c =
       ne_eqb j 0 c.if-j-eq0.false,
       ne_eqb j 1 c.if-j-eq1.false,
       le-ltb j 6 c.if-j-lt6.false,
-      le-ltb (j - 6) args.t1.vars c.if-i-self.false,
+      le-ltb (j - 6) args.self.vars c.if-i-self.false,
     ) c.reset_part.ensures

@@ -1,5 +1,5 @@
 -- both_lead: the truth of a clause that leads from two variables to a third, by that of its first two literals.
-use mathlib.Core.List.{◌∷◌}
+use mathlib.Core.List.{[], ◌∷◌}
 use Rattle.list.specs.Clauses.{bare, negated}
 use Rattle.search.proofs.CheckLaws.{more_true}
 use Rattle.search.proofs.truth.both_lead.Goals as goal

@@ -2,7 +2,7 @@
 use Rattle.search.proofs.CheckLaws.{checked_one, checked_out, checked_in}
 use Rattle.list.specs.Clauses.{negated}
 use mathlib.Core.Path.{sym, ◌∙◌}
-use mathlib.Core.List.{◌∷◌}
+use mathlib.Core.List.{[], ◌∷◌}
 use Rattle.search.proofs.truth.check_excluded.Goals as goal
 
 pub returns-then-holds : goal.returns-then-holds

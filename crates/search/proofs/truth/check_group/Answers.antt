@@ -1,5 +1,5 @@
 -- check_group: the clause of the members, then a loop of checks over the rows of pairs; the row of a member that is false is passed over.
-use mathlib.Core.List.{List, ◌∷◌}
+use mathlib.Core.List.{List, [], ◌∷◌}
 use mathlib.Core.Path.{◌∙◌, refl, sym}
 use Prim.Native.Nat.{◌*◌, ◌+◌, ◌-◌, ℕ}
 use native.Mathlib.Omega.{arith}

@@ -9,7 +9,7 @@ use Rattle.model.specs.Automaton.{shifted, new_value}
 use Rattle.list.specs.Clauses.{bare, negated}
 use Prim.Native.Nat.{◌+◌}
 use mathlib.Core.Path.{◌≡◌, sym, ◌∙◌, ap}
-use mathlib.Core.List.{◌∷◌}
+use mathlib.Core.List.{[], ◌∷◌}
 use native.Mathlib.Omega.{arith}
 use borrow.Author.Rules.{rules}
 use Rattle.search.proofs.truth.check_shifted.Goals as goal
