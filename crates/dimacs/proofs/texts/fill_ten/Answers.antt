@@ -8,7 +8,7 @@ use Rattle.dimacs.proofs.texts.fill_ten.Goals as goal
 use Rattle.dimacs.proofs.texts.fill_ten.Goals.{After-number_text-x}
 
 -- the entry from which the shift is known has two to six bytes
-first : (c : After-number_text-x invariant-loop decreases-loop) →
+first : (c : After-number_text-x) →
     let x = c.number-text.result in
     (2 ≤ x / 2 ^ 56) × (x / 2 ^ 56 ≤ 6)
 first c =

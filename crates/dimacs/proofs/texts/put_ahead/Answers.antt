@@ -13,7 +13,7 @@ use Rattle.dimacs.proofs.texts.put_ahead.Goals as goal
 use Rattle.dimacs.proofs.texts.put_ahead.Goals.{After-entry-x}
 
 -- the entry that was read is that of the word
-known : (c : After-entry-x invariant-loop decreases-loop) →
+known : (c : After-entry-x) →
     let args = c.before.before.before.before.before.before.args in
     let z = get_or args.words.now c.before.before.before.loop.i (pos 0) in
     let x = c.entry.result in

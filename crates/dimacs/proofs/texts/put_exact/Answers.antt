@@ -13,7 +13,7 @@ use Rattle.dimacs.proofs.texts.put_exact.Goals as goal
 use Rattle.dimacs.proofs.texts.put_exact.Goals.{After-entry}
 
 -- the entry that was read is that of the word
-known : (c : After-entry invariant-loop decreases-loop) →
+known : (c : After-entry) →
     let args = c.before.before.before.before.before.before.args in
     text_of c.entry.result ≡ entry_text args.texts.now (get_or args.words.now c.before.before.before.loop.i (pos 0))
 known c =

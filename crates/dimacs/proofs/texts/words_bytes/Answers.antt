@@ -10,7 +10,7 @@ use Rattle.dimacs.proofs.texts.words_bytes.Goals as goal
 use Rattle.dimacs.proofs.texts.words_bytes.Goals.{After-entry}
 
 -- the entry that was read is that of the word
-known : (c : After-entry invariant-loop decreases-loop) →
+known : (c : After-entry) →
     let args = c.before.before.before.before.before.args in
     let z = get_or args.words.now c.before.before.before.loop.i (pos 0) in
     let x = c.entry.result in

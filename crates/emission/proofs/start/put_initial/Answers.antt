@@ -14,7 +14,7 @@ use Rattle.emission.proofs.start.put_initial.Goals as goal
 use Rattle.emission.proofs.start.put_initial.Goals.{After-shared_slice_known-in-loop-g-1}
 
 -- the member lies below the most variables
-member_in : (c : After-shared_slice_known-in-loop-g-1 invariant-loop decreases-loop) → let turn = c.before.before.before in
+member_in : (c : After-shared_slice_known-in-loop-g-1) → let turn = c.before.before.before in
     get_or turn.before.before.before.args.first.now turn.loop.g 0 + c.before.initial-value.result < most_variables
 member_in c =
     let at-loop-test = c.before.before in

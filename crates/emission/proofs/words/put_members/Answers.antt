@@ -10,7 +10,7 @@ use Rattle.emission.proofs.words.put_members.Goals as goal
 use Rattle.emission.proofs.words.put_members.Goals.{Start}
 
 -- the clause takes n + 1 words
-room : (c : Start invariant-loop decreases-loop) → c.args.at + (c.args.n + 1) ≤ length c.args.out.now
+room : (c : Start) → c.args.at + (c.args.n + 1) ≤ length c.args.out.now
 room c = omega (arith, c.requires.1.words.room, size_members c.args.b c.args.n)
 
 pub loop-v-init : goal.loop-v-init
