@@ -1,11 +1,11 @@
 -- check_steps: loops of checks over the steps, the edges of a step, the parts of an edge and the values of a part, one within the other.
 use mathlib.Core.Path.{◌∙◌, ap, refl, sym}
-use Prim.Native.Nat.{◌*◌, ◌-◌, ℕ}
+use Prim.Native.Nat.{◌*◌, ℕ}
 use native.Mathlib.Omega.{arith}
 use borrow.Author.Tests.{not-false, not-true}
 use lib.ListN.{length}
 use Rattle.model.proofs.FormLaws.{choices_is}
-use Rattle.list.specs.Clauses.{clauses, clauses_of, one_hot_width}
+use Rattle.list.specs.Clauses.{clauses_of, one_hot_width}
 use Rattle.list.specs.Items.{state_items}
 use Rattle.counts.proofs.TableLaws.{slots_are}
 use Rattle.counts.specs.Tables.{most_edge_clauses}
@@ -127,7 +127,7 @@ edges-preserved-then-not-is_true c =
     let k = c.requires.0 in
     let o = c.block_start-o.result in
     let e = c.edges.e in
-    let is_false = sym c.is_true.ensures ∙ not-true _ c.if-not-is_true.true-raw in
+    let is_false = sym c.is_true.ensures ∙ c.if-not-is_true.true in
     let all = edge_true k c.args.a.now o _ e edges-test.true (omega (arith, known_state k, known_top k)) is_false in
     upto_over c.edges.invariant edges-test.true (passed_over all (edge_clauses_lem k o e edges-test.true c.requires.3) refl)
     (omega (arith, c.requires.3.few e edges-test.true))
