@@ -3,7 +3,7 @@ use native.Mathlib.Omega.{arith}
 use borrow.Author.Rules.{rules}
 use Rattle.buffer.proofs.BufferLaws.{wrote_none, wrote_then, wrote_one}
 use Rattle.emission.proofs.Members.{members_none, members_more, size_members, one_wrote, wrote_word}
-use Prim.Native.Nat.{◌+◌, ◌-◌, ◌≤◌}
+use Prim.Native.Nat.{◌+◌, ◌≤◌}
 use mathlib.Core.Path.{◌≡◌}
 use lib.ListN.{length}
 use Rattle.emission.proofs.words.put_members.Goals as goal
