@@ -1,12 +1,11 @@
 -- `listed`: the loop has counted the first counters that are set.
-use borrow.Author.Tests.{not-true, not-false}
 use Rattle.model.proofs.IndexedLaws.{sum_none, sum_more}
 use lib.ListN.{get_or}
 use Rattle.model.specs.Automaton.{is_keep, listed}
 use Rattle.model.specs.Record.{blank_update}
 use borrow.Author.Rules.{rules}
 use native.Mathlib.Omega.{arith}
-use Prim.Native.Nat.{ℕ, ◌-◌}
+use Prim.Native.Nat.{ℕ}
 use mathlib.Core.Bool.{Bool, true, false, cond}
 use mathlib.Core.Path.{◌≡◌, sym, ◌∙◌}
 use Rattle.model.proofs.Edge.listed.Goals as goal
@@ -30,7 +29,7 @@ loop-i-preserved c =
       search rules,
       elim c.if-not-is_keep.branch [ then-not-is_keep w ↦ omega arith | else-not-is_keep w ↦ omega arith ],
       elim c.if-not-is_keep.branch [
-        then-not-is_keep w ↦ omega (arith, term, l.invariant.2, set-one (sym keep ∙ w.if-not-is_keep.true))
+        | then-not-is_keep w ↦ omega (arith, term, l.invariant.2, set-one (sym keep ∙ w.if-not-is_keep.true))
         | else-not-is_keep w ↦ omega (arith, term, l.invariant.2, kept-none (sym keep ∙ w.if-not-is_keep.false))
       ],
     )
