@@ -89,10 +89,11 @@ decode_accepts m k a n = (to, of)
 
     to : decode_report m k a n ≡ accepted → T (well_formed m) × (k ≤ 64) × (k ≤ n) × Satisfies m k a
     to h =
-        unfold decode_report in go (well_formed m) (ltb 64 k) (eqb (length a) (variables m k)) (first_wrong_byte 0 a) (ltb n k) (first_false a (clauses m k)) refl
-        refl refl refl refl h
+        unfold decode_report in go (well_formed m) (ltb 64 k) (eqb (length a) (variables m k)) (first_wrong_byte 0 a) (ltb n k) (first_false a (clauses m k))
+        refl refl refl refl refl h
       where
-        go : (w b l : Bool) (x : Option ℕ) (s : Bool) (f : Option ℕ) → ltb 64 k ≡ b → eqb (length a) (variables m k) ≡ l → first_wrong_byte 0 a ≡ x → ltb n k ≡ s
+        go : (w b l : Bool) (x : Option ℕ) (s : Bool) (f : Option ℕ) → ltb 64 k ≡ b → eqb (length a) (variables m k) ≡ l
+            → first_wrong_byte 0 a ≡ x → ltb n k ≡ s
             → first_false a (clauses m k) ≡ f
             → cond (not w) (refusal 20 0) (cond b (refusal 21 0)
             (cond (not l) (refusal 23 0) (maybe x (cond s (refusal 25 0) (maybe f accepted (λ i. refusal 26 i))) (λ i. refusal 24 i)))) ≡ accepted
