@@ -57,7 +57,7 @@ pub data Fact : Type 0 where
   -- the walker refuses the run with this number and place
   run_refused : Model → List ℕ → ℕ → ℕ → Fact
   -- the steps are a run
-  is_aRun : Model → List ℕ → Fact
+  is_a_run : Model → List ℕ → Fact
   -- composing the two records answers with this number
   composing_is : Model → Model → ℕ → Fact
 
@@ -119,7 +119,7 @@ holds (assignment_refused m k a number place) = equal_refusal (decode_report m k
 holds (runs_are m k rs) = equal_lists (equal_lists eqb) (keep_if (is_run m) (strings (choices m) k)) rs
 holds (step_is m l xs byte l' ys) = equal_step (step_report m (standing l xs) byte) (standing l' ys)
 holds (run_refused m r number place) = equal_refusal (walk_report m r) number place
-holds (is_aRun m r) = is_run m r
+holds (is_a_run m r) = is_run m r
 holds (composing_is a b number) = eqb (compose_report a b).number number
 
 -- ---- the rows
@@ -189,7 +189,7 @@ rows =
     P 0 (totals_are logger_and_watchdog 5 21 11) ∷
     P 0 (counts_are logger_and_watchdog 1 53 382 1361) ∷
     P 0 (runs_are logger_and_watchdog 2 []) ∷
-    P 0 (is_aRun logger_and_watchdog (1 ∷ 6 ∷ 1 ∷ 10 ∷ [])) ∷
+    P 0 (is_a_run logger_and_watchdog (1 ∷ 6 ∷ 1 ∷ 10 ∷ [])) ∷
     P 0 (counts_are (apart_a 0 0) 1 14 48 158) ∷
     P 0 (runs_are (apart_a 0 0) 2 ((2 ∷ 5 ∷ []) ∷ (4 ∷ 3 ∷ []) ∷ [])) ∷
     P 0 (counts_are (paired_a 1) 1 11 30 101) ∷

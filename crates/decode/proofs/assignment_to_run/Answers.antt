@@ -5,7 +5,7 @@ use lib.Dec.{eqb}
 use Rattle.model.proofs.IndexedLaws.{T_true}
 use borrow.Author.Tests.{lt-ltb, le-ltb, eq-eqb, ne_eqb}
 use Rattle.search.specs.Answer.{found}
-use Rattle.decode.proofs.Reports.{report_20, report_21, report-23, report-24, report-25, report-26, report_0, refused, written}
+use Rattle.decode.proofs.Reports.{report_20, report_21, report_23, report_24, report_25, report_26, report_0, refused, written}
 use Rattle.decode.proofs.assignment_to_run.Goals as goal
 
 pub returns-then-not-well_formed : goal.returns-then-not-well_formed
@@ -37,7 +37,7 @@ returns-then-a-variables c =
     let m = args.m in
     let a-now = args.a.now in
     let run-now = args.run.now in
-    let e = refused m bound a-now run-now (report-23 m bound a-now (length run-now) (sym well_formed.ensures ∙ c.if-not-well_formed.false)
+    let e = refused m bound a-now run-now (report_23 m bound a-now (length run-now) (sym well_formed.ensures ∙ c.if-not-well_formed.false)
     (le-ltb 64 bound c.if-bound-gt-STEPS.false) (ap (eqb (length a-now)) (sym c.variables.ensures) ∙ ne_eqb _ _ c.if-a-variables.true)) refl in
     record { result_value = e.0; run_after = e.1 }
 
@@ -49,7 +49,7 @@ returns-in-At c =
     let m = args.m in
     let a-now = args.a.now in
     let run-now = args.run.now in
-    let e = refused m bound a-now run-now (report-24 m bound a-now (length run-now) (sym well_formed.ensures ∙ c.if-not-well_formed.false)
+    let e = refused m bound a-now run-now (report_24 m bound a-now (length run-now) (sym well_formed.ensures ∙ c.if-not-well_formed.false)
     (le-ltb 64 bound c.if-bound-gt-STEPS.false)
     (ap (eqb (length a-now)) (sym c.variables.ensures) ∙ eq-eqb _ _ c.if-a-variables.false)
     (sym c.first_wrong_byte-wrong.ensures ∙ ap found c.in-At.is)) refl in
@@ -63,7 +63,7 @@ returns-then-run-bound c =
     let m = args.m in
     let a-now = args.a.now in
     let run-now = args.run.now in
-    let e = refused m bound a-now run-now (report-25 m bound a-now (length run-now) (sym well_formed.ensures ∙ c.if-not-well_formed.false)
+    let e = refused m bound a-now run-now (report_25 m bound a-now (length run-now) (sym well_formed.ensures ∙ c.if-not-well_formed.false)
     (le-ltb 64 bound c.if-bound-gt-STEPS.false)
     (ap (eqb (length a-now)) (sym c.variables.ensures) ∙ eq-eqb _ _ c.if-a-variables.false)
     (sym c.first_wrong_byte-wrong.ensures ∙ ap found c.in_default.is)
@@ -86,7 +86,7 @@ returns-in-At-failing c =
     let m = args.m in
     let a-now = args.a.now in
     let run-now = args.run.now in
-    let e = refused m bound a-now run-now (report-26 m bound a-now (length run-now) (sym well_formed.ensures ∙ c.if-not-well_formed.false)
+    let e = refused m bound a-now run-now (report_26 m bound a-now (length run-now) (sym well_formed.ensures ∙ c.if-not-well_formed.false)
     (le-ltb 64 bound c.if-bound-gt-STEPS.false)
     (ap (eqb (length a-now)) (sym c.variables.ensures) ∙ eq-eqb _ _ c.if-a-variables.false)
     (sym c.first_wrong_byte-wrong.ensures ∙ ap found c.in_default.is)

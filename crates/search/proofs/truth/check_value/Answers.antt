@@ -56,10 +56,10 @@ returns-in-Keep c =
 pub returns-in-Rise : goal.returns-in-Rise
 unfolding value_clauses
 returns-in-Rise c =
-    let rule-is = c.in-Rise.is in
+    let rule_is = c.in-Rise.is in
     let args = c.args in
     let p = args.p in
-    rw (rule-is, ← c.smaller-u.ensures)
+    rw (rule_is, ← c.smaller-u.ensures)
     (checked_one args.a.now (negated args.x ∷ negated (p.before + args.v) ∷ bare (p.after + c.smaller-u.result) ∷ [])
     args.at c.counted-in-Rise.ensures c.both_lead-in-Rise.ensures)
 
