@@ -85,11 +85,13 @@ module _ (a b : Model) (ok : Composable a b) (es : JoinedEdges a b) where
       -- what each part does with the byte of a move
       first_byte : (k : ℕ) → n ≡ ceiling c + 1 + k → (v : Move) → move_at a b k ≡ v → first_step a b n ≡ edge_byte (ceiling a) (first_edge v)
       first_byte k e v m =
-          ap (first_step a b) e ∙ first_is a b (ceiling c + 1 + k) ∙ edge_part_lem first_edge a a b k ∙ ap (λ (u : Move). edge_byte (ceiling a) (first_edge u)) m
+          ap (first_step a b) e ∙ first_is a b (ceiling c + 1 + k) ∙ edge_part_lem first_edge a a b k
+          ∙ ap (λ (u : Move). edge_byte (ceiling a) (first_edge u)) m
 
       second-byte : (k : ℕ) → n ≡ ceiling c + 1 + k → (v : Move) → move_at a b k ≡ v → second_step a b n ≡ edge_byte (ceiling b) (second_edge v)
       second-byte k e v m =
-          ap (second_step a b) e ∙ second_is a b (ceiling c + 1 + k) ∙ edge_part_lem second_edge b a b k ∙ ap (λ (u : Move). edge_byte (ceiling b) (second_edge u)) m
+          ap (second_step a b) e ∙ second_is a b (ceiling c + 1 + k) ∙ edge_part_lem second_edge b a b k
+          ∙ ap (λ (u : Move). edge_byte (ceiling b) (second_edge u)) m
 
       by_move : (k : ℕ) → k < c.used → n ≡ ceiling c + 1 + k → (v : Move) → move_at a b k ≡ v → Parted n r x y t
       by_move k l e (FirstAlone d j) m =
@@ -104,7 +106,7 @@ module _ (a b : Model) (ok : Composable a b) (es : JoinedEdges a b) where
             parts = g.4;
           }
       by_move k l e (SecondAlone f j) m =
-          let g = (law.second_alone_lem k f j l m).parts_step t (rw e at h) in
+          let g = (law.second_alone k f j l m).parts_step t (rw e at h) in
           let z = g.0 in
           let w = g.1 in
           record {

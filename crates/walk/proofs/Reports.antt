@@ -88,6 +88,6 @@ module _ (m : Model) (r : List ℕ) where
       unfolding walk_report start
       walk-29 i = rw (w, l, i)
 
-      pub walk_steps : invariant_holds m (initial_state m) ≡ true → walk_report m r ≡ walk_steps m 1 (initial_state m) r
+      pub walk_steps_lem : invariant_holds m (initial_state m) ≡ true → walk_report m r ≡ walk_steps m 1 (initial_state m) r
       unfolding walk_report start
-      walk_steps i = rw (w, l, i)
+      walk_steps_lem i = rw (w, l, i)
