@@ -96,7 +96,8 @@ module _ {m : Model} {b : GroupTable} (k : Known m b) where
 
   -- ---- the whole list: start, n steps, end
   pub list_counted : {p q r s : ℕ} (n : ℕ) → ((o : ℕ) → Counted (clauses_of (state_items one_hot_width m o)) p q)
-      → ((o : ℕ) → Counted (clauses_of (choice_items one_hot_width m o) ++ clauses_of (delays_items one_hot_width m o) ++ clauses_of (edges_items one_hot_width m o)) r s)
+      → ((o : ℕ) → Counted (clauses_of (choice_items one_hot_width m o) ++ clauses_of (delays_items one_hot_width m o)
+      ++ clauses_of (edges_items one_hot_width m o)) r s)
       → Counted (clauses m n) (p + b.groups + n * (r + p) + 1) (q + b.groups * 2 + n * (s + q) + 2)
   list_counted {p} {q} {r} {s} n state moves =
       counted_as (sym (clauses_pieces m n))

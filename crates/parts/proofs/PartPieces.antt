@@ -23,13 +23,13 @@ use Rattle.model.specs.Automaton.{set_earlier}
 use Rattle.model.proofs.IndexedLaws.{each_zero, each_suc}
 use Rattle.model.proofs.FormLaws.{WellFormed, WellFormedEdge, DeclaredAtom, DeclaredUpdate, DeclaredReset}
 use Rattle.list.specs.Lists.{to_list}
-use Rattle.list.specs.Items.{Member, offset, next_block, state_width, choice_member, exclude_failing, group_items, initial_items, delay_items, update_items, reset_items}
-use Rattle.list.specs.Items.{source_items, target_items, guard_items, read_block, updates_items, resets_items, edge_items}
+use Rattle.list.specs.Items.{Member, offset, next_block, state_width, choice_member, exclude_failing, group_items, initial_items, delay_items}
+use Rattle.list.specs.Items.{update_items, reset_items, source_items, target_items, guard_items, read_block, updates_items, resets_items, edge_items}
 use Rattle.list.specs.Clauses.{bare, negated, Clause, one, one_hot_width, variable_of, group_clauses, expand, clauses_of}
 use Rattle.list.proofs.ListLaws.{each_add, each_cong, flat_none}
 use Rattle.list.proofs.OneHot.{next_block_is}
-use Rattle.list.proofs.PieceClauses.{groups_piece, initial_piece_lem, values_piece, delay_piece_lem, leads_piece, sets_piece, edge_piece_lem, source_piece, target_piece}
-use Rattle.list.proofs.PieceClauses.{guard_piece, updates_piece, resets_piece}
+use Rattle.list.proofs.PieceClauses.{groups_piece, initial_piece_lem, values_piece, delay_piece_lem, leads_piece, sets_piece, edge_piece_lem}
+use Rattle.list.proofs.PieceClauses.{source_piece, target_piece, guard_piece, updates_piece, resets_piece}
 use Rattle.parts.specs.declared.Rule.{Rule}
 use Rattle.parts.specs.declared.Rule.TheVariants.{Exclude, Keep, Rise, Shift, Set, Forbid}
 use Rattle.parts.specs.Rules.{rule_clauses, row_clauses, value_clauses, part_clauses}
@@ -95,7 +95,8 @@ module _ (m : Model) where
 
   -- ---- groups
   pub groups_law : (o : ℕ) → m.vars ≤ 4 → m.clocks ≤ 4
-      → each (group_table m).groups (λ g. group_clauses (o + first_at (group_table m) g) (size_at (group_table m) g)) ≡ clauses_of (group_items one_hot_width m o)
+      → each (group_table m).groups (λ g. group_clauses (o + first_at (group_table m) g) (size_at (group_table m) g))
+      ≡ clauses_of (group_items one_hot_width m o)
   groups_law o p q =
       ap (λ (n : ℕ). each n (λ g. group_clauses (o + first_at (group_table m) g) (size_at (group_table m) g))) groups_are ∙
       each_cong (1 + m.vars + m.clocks) (λ g. group_clauses (o + first_at (group_table m) g) (size_at (group_table m) g))
@@ -165,8 +166,8 @@ module _ (m : Model) where
     delay_at : (o d g : ℕ) → g < 1 + m.vars + m.clocks → part_clauses (o + S + d) (delay_part (group_table m) o d g) ≡ delay_row o d (component_at m g)
     unfolding delay_row
     delay_at o d g l = group_cases m.vars g
-        (λ e. rule-is Keep (lt-ltb g (1 + m.vars) (omega arith)) refl ∙ leads_from (o + S + d) o o Keep k k (ap (component_at m) e) (ap (component_at m) e) ∙ sym
-        (ap (delay_row o d) (ap (component_at m) e)))
+        (λ e. rule-is Keep (lt-ltb g (1 + m.vars) (omega arith)) refl ∙ leads_from (o + S + d) o o Keep k k (ap (component_at m) e) (ap (component_at m) e)
+        ∙ sym (ap (delay_row o d) (ap (component_at m) e)))
         (λ i p e. let z : component_at m g ≡ counter i = ap (component_at m) e ∙ comp_counter m i p in
         rule-is Keep (lt-ltb g (1 + m.vars) (omega arith)) refl ∙ leads_from (o + S + d) o o Keep k k z z ∙ sym (ap (delay_row o d) z))
         (λ i e. let z : component_at m g ≡ clock i = ap (component_at m) e ∙ comp_clock m i in
@@ -186,8 +187,8 @@ module _ (m : Model) where
             ap (λ (c : Bool). part_clauses (o + S + d) (leads_part (group_table m) o o g g (pick c))) e
             ∙ ap (λ (r : Rule). part_clauses (o + S + d) (leads_part (group_table m) o o g g r)) f
 
-    pub delay_law :
-        (o d : ℕ) → each (group_table m).groups (λ g. part_clauses (o + S + d) (delay_part (group_table m) o d g)) ≡ clauses_of (delay_items one_hot_width m o d)
+    pub delay_law : (o d : ℕ)
+        → each (group_table m).groups (λ g. part_clauses (o + S + d) (delay_part (group_table m) o d g)) ≡ clauses_of (delay_items one_hot_width m o d)
     unfolding delay_row
     delay_law o d =
         ap (λ (n : ℕ). each n (λ g. part_clauses (o + S + d) (delay_part (group_table m) o d g))) groups_are ∙
