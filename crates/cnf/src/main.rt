@@ -1,41 +1,51 @@
 // The cnf program: a bound line and a model text from standard input, the DIMACS file to standard output; after a refusal two lines. Input
-// beyond the buffer changes nothing: a model text of more than 8,192 bytes is refused whatever it holds.
+// beyond `LONGEST` changes nothing: a model text of more than 8,192 bytes is refused whatever it holds.
 #![tactic(auto)]
 
 use model::Model;
+use std::io;
+use std::io::Read;
 
-fn line(key: &[u8], n: u64) {
-    io::write_all(1, key);
-    io::print_decimal(1, n);
-    io::write_all(1, b"\n");
+// How many bytes of the input are read at most.
+const LONGEST: u64 = 65536;
+
+fn line(rt: &impl Print, key: &str, n: u64) -> io::Result<()> {
+    println!(rt; "{key}={n}")
 }
 
 // The pages of a row, each written into `space` first.
-fn print_row(m: Model, bound: usize, row: usize, space: &mut [u8]) {
+fn print_row(
+    rt: &impl Print,
+    m: Model,
+    bound: usize,
+    row: usize,
+    space: &mut [u8],
+) -> io::Result<()> {
     for p in 0..dimacs::pages_to_print(m, bound, row) {
         let n = dimacs::page(m, bound, row, p, space);
-        io::write_all(1, &space[..n]);
+        rt.write_all(&space[..n])?;
     }
+    Ok(())
 }
 
 // Each row.
-fn print_file(m: Model, bound: usize) {
-    let mut page = io::large_buffer();
+fn print_file(rt: &impl Print, m: Model, bound: usize) -> io::Result<()> {
+    let mut page = [0u8; 65536];
     let space: &mut [u8] = &mut page;
     for row in 0..dimacs::rows_to_print(m, bound) {
-        print_row(m, bound, row, space);
+        print_row(rt, m, bound, row, space)?;
     }
+    Ok(())
 }
 
-fn main() {
-    let mut input = io::large_buffer();
-    let n = io::read_full(0, &mut input);
-    let asked = dimacs::requested(&input[..n]);
+fn main(rt: HostRuntime) -> io::Result<()> {
+    let mut input = Vec::new(rt.alloc());
+    rt.stdin().take(LONGEST).read_to_end(&mut input)?;
+    let asked = dimacs::requested(&input);
     if asked.number != 0 {
-        line(b"refusal=", asked.number as u64);
-        line(b"line=", asked.line as u64);
-        return;
+        line(&rt, "refusal", asked.number as u64)?;
+        return line(&rt, "line", asked.line as u64);
     }
     let model = asked.model;
-    print_file(model, asked.bound);
+    print_file(&rt, model, asked.bound)
 }

@@ -6,40 +6,41 @@ ghost use Rattle.std.specs.Prelude.{◌≤◌};
 
 use emission::Emission;
 use model::Model;
+use std::io;
 
 const UNTOUCHED: i32 = 7777;
 
-fn text(s: &[u8]) {
-    io::write_all(1, s);
+fn text(rt: &impl Print, s: &str) -> io::Result<()> {
+    rt.print(s)
 }
 
-fn number(n: usize) {
-    io::print_decimal(1, n as u64);
-    text(b" ");
+fn number(rt: &impl Print, n: usize) -> io::Result<()> {
+    print!(rt; "{n} ")
 }
 
-fn word(w: i32) {
+fn word(rt: &impl Print, w: i32) -> io::Result<()> {
     let v = w as i64;
     if v < 0 {
-        text(b"-");
+        text(rt, "-")?;
         let up = -v;
-        io::print_decimal(1, up as u64);
+        rt.print(up as u64)
     } else {
-        io::print_decimal(1, v as u64);
+        rt.print(v as u64)
     }
 }
 
 // The words of the list, a line for each clause.
-fn show(list: &[i32]) {
+fn show(rt: &impl Print, list: &[i32]) -> io::Result<()> {
     for i in 0..list.len() {
         let w = list[i];
-        word(w);
+        word(rt, w)?;
         if w == 0 {
-            text(b"\n");
+            text(rt, "\n")?;
         } else {
-            text(b" ");
+            text(rt, " ")?;
         }
     }
+    Ok(())
 }
 
 fn differs(w: i32) -> usize
@@ -57,56 +58,63 @@ fn changed(rest: &[i32]) -> usize {
     n
 }
 
-fn answer(refusal: usize, variables: usize, clauses: usize, words: usize) {
-    text(b"refusal variables clauses words: ");
-    number(refusal);
-    number(variables);
-    number(clauses);
-    number(words);
-    text(b"\n");
+fn answer(
+    rt: &impl Print,
+    refusal: usize,
+    variables: usize,
+    clauses: usize,
+    words: usize,
+) -> io::Result<()> {
+    text(rt, "refusal variables clauses words: ")?;
+    number(rt, refusal)?;
+    number(rt, variables)?;
+    number(rt, clauses)?;
+    number(rt, words)?;
+    text(rt, "\n")
 }
 
 // The words up to `end`, and whether those beyond are as they were.
-fn written(buffer: &[i32], end: usize) {
+fn written(rt: &impl Print, buffer: &[i32], end: usize) -> io::Result<()> {
     if end <= buffer.len() {
-        show(&buffer[..end]);
-        text(b"changed beyond: ");
-        number(changed(&buffer[end..]));
-        text(b"\n");
+        show(rt, &buffer[..end])?;
+        text(rt, "changed beyond: ")?;
+        number(rt, changed(&buffer[end..]))?;
+        text(rt, "\n")?;
     }
+    Ok(())
 }
 
 // The list for `bound`, at most `limit` words.
-fn list(name: &[u8], m: Model, bound: usize, limit: usize) {
+fn list(rt: &impl Print, name: &str, m: Model, bound: usize, limit: usize) -> io::Result<()> {
     let mut buffer = [UNTOUCHED; 4096];
-    text(name);
-    text(b" bound ");
-    number(bound);
-    text(b"\n");
+    text(rt, name)?;
+    text(rt, " bound ")?;
+    number(rt, bound)?;
+    text(rt, "\n")?;
     let mut end: usize = 0;
     match emission::emit_within(m, bound, limit, &mut buffer) {
-        Emission::NotWellFormed => answer(20, 0, 0, 0),
-        Emission::BoundTooLarge => answer(21, 0, 0, 0),
-        Emission::BufferTooShort { words } => answer(22, 0, 0, words),
+        Emission::NotWellFormed => answer(rt, 20, 0, 0, 0)?,
+        Emission::BoundTooLarge => answer(rt, 21, 0, 0, 0)?,
+        Emission::BufferTooShort { words } => answer(rt, 22, 0, 0, words)?,
         Emission::Written {
             variables,
             clauses,
             words,
         } => {
-            answer(0, variables, clauses, words);
+            answer(rt, 0, variables, clauses, words)?;
             end = words;
         }
     }
-    written(&buffer, end);
+    written(rt, &buffer, end)
 }
 
-fn main() {
-    list(b"A", samples::model_a(), 0, 4096);
-    list(b"A", samples::model_a(), 1, 51);
-    list(b"A", samples::model_a(), 1, 50);
-    list(b"A", samples::model_a(), 2, 4096);
-    list(b"A", samples::model_a(), 65, 4096);
-    list(b"A waiting", samples::waiting_a(), 1, 4096);
-    list(b"B", samples::model_b(), 3, 4096);
-    list(b"largest", samples::full_model(), 64, 4096);
+fn main(rt: HostRuntime) -> io::Result<()> {
+    list(&rt, "A", samples::model_a(), 0, 4096)?;
+    list(&rt, "A", samples::model_a(), 1, 51)?;
+    list(&rt, "A", samples::model_a(), 1, 50)?;
+    list(&rt, "A", samples::model_a(), 2, 4096)?;
+    list(&rt, "A", samples::model_a(), 65, 4096)?;
+    list(&rt, "A waiting", samples::waiting_a(), 1, 4096)?;
+    list(&rt, "B", samples::model_b(), 3, 4096)?;
+    list(&rt, "largest", samples::full_model(), 64, 4096)
 }

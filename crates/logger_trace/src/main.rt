@@ -2,45 +2,46 @@
 #![tactic(auto)]
 
 use model::{Model, State};
+use std::io;
 
-fn text(s: &[u8]) {
-    io::write_all(1, s);
+fn text(rt: &impl Print, s: &str) -> io::Result<()> {
+    rt.print(s)
 }
 
-fn number(n: u8) {
-    io::print_decimal(1, n as u64);
+fn number(rt: &impl Print, n: u8) -> io::Result<()> {
+    rt.print(n)
 }
 
-fn show(s: State) {
-    text(b"location ");
-    number(s.location);
+fn show(rt: &impl Print, s: State) -> io::Result<()> {
+    text(rt, "location ")?;
+    number(rt, s.location)?;
     let counters = s.counters;
-    text(b", v0 ");
-    number(counters[0]);
+    text(rt, ", v0 ")?;
+    number(rt, counters[0])?;
     let clocks = s.clocks;
-    text(b", x0 ");
-    number(clocks[0]);
-    text(b"\n");
+    text(rt, ", x0 ")?;
+    number(rt, clocks[0])?;
+    text(rt, "\n")
 }
 
-fn take(m: Model, s: State, byte: u8, what: &[u8]) -> State {
+fn take(rt: &impl Print, m: Model, s: State, byte: u8, what: &str) -> io::Result<State> {
     let a = walk::step(m, s, byte);
     let t = a.state;
-    text(what);
-    show(t);
-    t
+    text(rt, what)?;
+    show(rt, t)?;
+    Ok(t)
 }
 
-fn main() {
+fn main(rt: HostRuntime) -> io::Result<()> {
     let m = samples::model_b();
     let s = m.initial_state();
-    text(b"initially:               ");
-    show(s);
-    let t = take(m, s, 5, b"5, edge 0, extend:       ");
-    let u = take(m, t, 3, b"3, delay 3:              ");
-    take(m, u, 7, b"7, edge 2, watchdog:     ");
+    text(&rt, "initially:               ")?;
+    show(&rt, s)?;
+    let t = take(&rt, m, s, 5, "5, edge 0, extend:       ")?;
+    let u = take(&rt, m, t, 3, "3, delay 3:              ")?;
+    take(&rt, m, u, 7, "7, edge 2, watchdog:     ")?;
     let verdict = walk::walk(m, &[5, 3, 7]);
-    text(b"the run 5 3 7: refusal ");
-    number(verdict.number());
-    text(b", so a boot of 3 steps reaches the target\n");
+    text(&rt, "the run 5 3 7: refusal ")?;
+    number(&rt, verdict.number())?;
+    text(&rt, ", so a boot of 3 steps reaches the target\n")
 }

@@ -4,6 +4,8 @@
 
 use model::Model;
 use numbers::Numbers;
+use std::io;
+use std::io::Read;
 
 mod answers;
 mod calls;
@@ -11,50 +13,54 @@ mod numbers;
 mod print;
 mod records;
 
-fn command(m: Model, n: Numbers) -> Model {
+// How many bytes of the input are read at most.
+const LONGEST: u64 = 65536;
+
+fn command(rt: &impl Print, m: Model, n: Numbers) -> io::Result<Model> {
     let values = n.values;
     let op = values[0];
     if op < 10 {
-        return records::changed(m, values);
+        return Ok(records::changed(m, values));
     }
     match op {
-        10 => answers::formed(m),
-        11 => answers::ceiling(m),
-        12 => answers::totals_for(m, values[1]),
-        13 => answers::walked(m, values, n.last),
-        14 => answers::stepped(m, values),
-        15 => calls::counted(m, values[1]),
-        16 => calls::emitted(m, values[1], values[2], values[3]),
-        17 => calls::encoded(m, values, n.last),
-        18 => calls::decoded(m, values, n.last),
-        _ => answers::unknown(),
+        10 => answers::formed(rt, m)?,
+        11 => answers::ceiling(rt, m)?,
+        12 => answers::totals_for(rt, m, values[1])?,
+        13 => answers::walked(rt, m, values, n.last)?,
+        14 => answers::stepped(rt, m, values)?,
+        15 => calls::counted(rt, m, values[1])?,
+        16 => calls::emitted(rt, m, values[1], values[2], values[3])?,
+        17 => calls::encoded(rt, m, values, n.last)?,
+        18 => calls::decoded(rt, m, values, n.last)?,
+        _ => answers::unknown(rt)?,
     }
-    m
+    Ok(m)
 }
 
-fn line(s: &[u8], m: Model) -> Model {
+fn line(rt: &impl Print, s: &[u8], m: Model) -> io::Result<Model> {
     if 0 < s.len() {
         if s[0] == b'#' {
-            io::write_all(1, s);
-            io::write_all(1, b"\n");
-            return m;
+            rt.write_all(s)?;
+            rt.print("\n")?;
+            return Ok(m);
         }
     }
-    command(m, numbers::read(s))
+    command(rt, m, numbers::read(s))
 }
 
-fn run(s: &[u8]) {
+fn run(rt: &impl Print, s: &[u8]) -> io::Result<()> {
     let mut m = Model::blank();
     let mut at = 0;
     while at < s.len() {
         let e = numbers::line_end(s, at);
-        m = line(&s[at..e], m);
+        m = line(rt, &s[at..e], m)?;
         at = e + 1;
     }
+    Ok(())
 }
 
-fn main() {
-    let mut buf = io::large_buffer();
-    let n = io::read_full(0, &mut buf);
-    run(&buf[..n]);
+fn main(rt: HostRuntime) -> io::Result<()> {
+    let mut input = Vec::new(rt.alloc());
+    rt.stdin().take(LONGEST).read_to_end(&mut input)?;
+    run(&rt, &input)
 }

@@ -1,26 +1,29 @@
 // The size program: a bound line and a model text on standard input, and five lines of numbers on standard output.
-// A longer input than the buffer is refused like its part in the buffer: a bound line has at most 10 bytes, and a text of more than
+// A longer input than `LONGEST` is refused like its part of that length: a bound line has at most 10 bytes, and a text of more than
 // 8,192 bytes is refused whatever it holds.
 #![tactic(auto)]
 
 use sizing::SizeAnswer;
+use std::io;
+use std::io::Read;
 
-fn line(key: &[u8], n: u64) {
-    io::write_all(1, key);
-    io::print_decimal(1, n);
-    io::write_all(1, b"\n");
+// How many bytes of the input are read at most.
+const LONGEST: u64 = 65536;
+
+fn line(rt: &impl Print, key: &str, n: u64) -> io::Result<()> {
+    println!(rt; "{key}={n}")
 }
 
-fn show(a: SizeAnswer) {
-    line(b"refusal=", a.number as u64);
-    line(b"line=", a.line as u64);
-    line(b"variables=", a.variables as u64);
-    line(b"clauses=", a.clauses as u64);
-    line(b"words=", a.words as u64);
+fn show(rt: &impl Print, a: SizeAnswer) -> io::Result<()> {
+    line(rt, "refusal", a.number as u64)?;
+    line(rt, "line", a.line as u64)?;
+    line(rt, "variables", a.variables as u64)?;
+    line(rt, "clauses", a.clauses as u64)?;
+    line(rt, "words", a.words as u64)
 }
 
-fn main() {
-    let mut input = io::large_buffer();
-    let n = io::read_full(0, &mut input);
-    show(sizing::program_sizes(&input[..n]));
+fn main(rt: HostRuntime) -> io::Result<()> {
+    let mut input = Vec::new(rt.alloc());
+    rt.stdin().take(LONGEST).read_to_end(&mut input)?;
+    show(&rt, sizing::program_sizes(&input))
 }

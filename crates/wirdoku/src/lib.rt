@@ -1,4 +1,5 @@
-// The calls of the library for C: a model text, numbers and lent slices. include/wirdoku.h declares them.
+// The calls of the library for C: a model text, numbers and lent slices. include/wirdoku.h declares them, and the crate wirdoku_c exports
+// each under its name.
 #![tactic(auto)]
 
 ghost use Rattle.std.specs.Prelude.{◌≡◌, length};
@@ -23,6 +24,12 @@ use dimacs::write_file;
 use encode::run_to_assignment;
 use model::{Model, State};
 use output::output_to_assignment;
+pub use pairs::{
+    PairAnswer, PartSteps, wirdoku_pair_assignment_to_run, wirdoku_pair_counts,
+    wirdoku_pair_dimacs, wirdoku_pair_emit, wirdoku_pair_initial, wirdoku_pair_parts,
+    wirdoku_pair_read, wirdoku_pair_refute, wirdoku_pair_run_to_assignment, wirdoku_pair_shape,
+    wirdoku_pair_step, wirdoku_pair_walk,
+};
 use refute::refute;
 use sizing::{SizeAnswer, sizes_of, text_sizes};
 use text::read_model;
@@ -93,8 +100,7 @@ pub struct StateAnswer {
 }
 
 // Reads the text: 1 to 8.
-#[unsafe(no_mangle)]
-pub extern "C" fn wirdoku_read(text: &[u8]) -> Answer
+pub fn wirdoku_read(text: &[u8]) -> Answer
     ensures { answer_told result ≡ text_report (read_report text.now) }
 {
     let read = read_model(text);
@@ -146,8 +152,7 @@ pub(crate) fn refused_shape(number: u8, line: usize) -> Shape
 }
 
 // What the model declares: the text.
-#[unsafe(no_mangle)]
-pub extern "C" fn wirdoku_shape(text: &[u8]) -> Shape
+pub fn wirdoku_shape(text: &[u8]) -> Shape
     ensures { result ≡ if_read (read_report text.now) shape_of refused_shape }
 {
     let read = read_model(text);
@@ -194,8 +199,7 @@ pub(crate) fn counted(c: CountsAnswer) -> SizeAnswer
 }
 
 // The counts of the list for a bound, by formula: the text, 21.
-#[unsafe(no_mangle)]
-pub extern "C" fn wirdoku_counts(text: &[u8], bound: usize) -> SizeAnswer
+pub fn wirdoku_counts(text: &[u8], bound: usize) -> SizeAnswer
     ensures { size_told result ≡ if_read (read_report text.now) (λ m. counted_sizes (list_report m bound)) refused_sizes }
 {
     let read = read_model(text);
@@ -209,8 +213,7 @@ pub extern "C" fn wirdoku_counts(text: &[u8], bound: usize) -> SizeAnswer
 }
 
 // Writes the list for a bound: the text, 21, 22.
-#[unsafe(no_mangle)]
-pub extern "C" fn wirdoku_emit(text: &[u8], bound: usize, out: &mut [i32]) -> SizeAnswer
+pub fn wirdoku_emit(text: &[u8], bound: usize, out: &mut [i32]) -> SizeAnswer
     ensures result_value { size_told result ≡ text_sizes (read_report text.now) bound (length out.old) }
     ensures out_after { out.new ≡ text_left (read_report text.now) bound out.old }
 {
@@ -228,8 +231,7 @@ pub(crate) fn file_reply(number: u8, line: usize, bytes: usize) -> FileReply
 }
 
 // Writes the DIMACS file of the list for a bound: the text, 21, 32.
-#[unsafe(no_mangle)]
-pub extern "C" fn wirdoku_dimacs(text: &[u8], bound: usize, out: &mut [u8]) -> FileReply
+pub fn wirdoku_dimacs(text: &[u8], bound: usize, out: &mut [u8]) -> FileReply
     ensures value { result ≡ if_read (read_report text.now) (λ m. file_reply (file_report m bound (length out.old))) refused_file }
     ensures out_after { out.new ≡ if_read (read_report text.now) (λ m. file_left m bound out.old) (λ n l. out.old) }
 {
@@ -245,8 +247,7 @@ pub extern "C" fn wirdoku_dimacs(text: &[u8], bound: usize, out: &mut [u8]) -> F
 }
 
 // The size program's question, on a bound line and a model text: 9, the text, 21, 22.
-#[unsafe(no_mangle)]
-pub extern "C" fn wirdoku_size(input: &[u8], out: &mut [i32]) -> SizeAnswer
+pub fn wirdoku_size(input: &[u8], out: &mut [i32]) -> SizeAnswer
     ensures result_value { size_told result ≡ size_report input.now (length out.old) }
     ensures out_after { out.new ≡ size_left input.now out.old }
 {
@@ -274,8 +275,7 @@ pub(crate) fn zero_state() -> State
 }
 
 // The initial state, whether or not its invariant holds: the text, and then a state of zeros.
-#[unsafe(no_mangle)]
-pub extern "C" fn wirdoku_initial(text: &[u8]) -> StateAnswer
+pub fn wirdoku_initial(text: &[u8]) -> StateAnswer
     ensures { result ≡ if_read (read_report text.now) (λ m. state_answer 0 0 (initial_state m)) (λ n l. state_answer n l zero_state) }
 {
     let read = read_model(text);
@@ -289,8 +289,7 @@ pub extern "C" fn wirdoku_initial(text: &[u8]) -> StateAnswer
 }
 
 // One step byte from a state: the text, 10, 27, 28, and then the given state.
-#[unsafe(no_mangle)]
-pub extern "C" fn wirdoku_step(text: &[u8], state: State, byte: u8) -> StateAnswer
+pub fn wirdoku_step(text: &[u8], state: State, byte: u8) -> StateAnswer
     ensures { result ≡ if_read (read_report text.now) (λ m. step_answer (step_report m state byte)) (λ n l. state_answer n l state) }
 {
     let read = read_model(text);
@@ -307,8 +306,7 @@ pub extern "C" fn wirdoku_step(text: &[u8], state: State, byte: u8) -> StateAnsw
 }
 
 // Walks a run: the text, 21, 29; per step 27, 28; 30.
-#[unsafe(no_mangle)]
-pub extern "C" fn wirdoku_walk(text: &[u8], run: &[u8]) -> Answer
+pub fn wirdoku_walk(text: &[u8], run: &[u8]) -> Answer
     ensures { answer_told result ≡ if_read (read_report text.now) (λ m. walk_report m run.now) refusal }
 {
     let read = read_model(text);
@@ -323,8 +321,7 @@ pub extern "C" fn wirdoku_walk(text: &[u8], run: &[u8]) -> Answer
 }
 
 // Writes the run of an assignment: the text, 21, 23, 24, 25, 26.
-#[unsafe(no_mangle)]
-pub extern "C" fn wirdoku_assignment_to_run(
+pub fn wirdoku_assignment_to_run(
     text: &[u8],
     bound: usize,
     assignment: &[u8],
@@ -345,12 +342,7 @@ pub extern "C" fn wirdoku_assignment_to_run(
 }
 
 // Writes the assignment of a run: the text, 21 and the walker's rows, 31.
-#[unsafe(no_mangle)]
-pub extern "C" fn wirdoku_run_to_assignment(
-    text: &[u8],
-    run: &[u8],
-    assignment: &mut [u8],
-) -> Answer
+pub fn wirdoku_run_to_assignment(text: &[u8], run: &[u8], assignment: &mut [u8]) -> Answer
     ensures result_value { answer_told result ≡ if_read (read_report text.now) (λ m. encode_report m run.now (length assignment.old)) refusal }
     ensures assignment_after { assignment.new ≡ if_read (read_report text.now) (λ m. encode_left m run.now assignment.old) (λ n l. assignment.old) }
 {
@@ -376,8 +368,7 @@ fn output_reply(number: u8, line: usize, outcome: u8) -> OutputReply
 }
 
 // Reads a solver's output and writes the assignment that it names: 33, 34, 35.
-#[unsafe(no_mangle)]
-pub extern "C" fn wirdoku_output_to_assignment(output: &[u8], assignment: &mut [u8]) -> OutputReply
+pub fn wirdoku_output_to_assignment(output: &[u8], assignment: &mut [u8]) -> OutputReply
     ensures result_value { output_in result ≡ output_report output.now (length assignment.old) }
     ensures assignment_after { assignment.new ≡ output_left output.now assignment.old }
 {
@@ -397,13 +388,7 @@ pub(crate) fn refute_reply(number: u8, line: usize, words: usize, outcome: u8) -
 }
 
 // Writes the list for a bound in front of the lemmas and follows the hints: the text, 21, 22.
-#[unsafe(no_mangle)]
-pub extern "C" fn wirdoku_refute(
-    text: &[u8],
-    bound: usize,
-    words: &mut [i32],
-    hints: &[u32],
-) -> RefuteReply
+pub fn wirdoku_refute(text: &[u8], bound: usize, words: &mut [i32], hints: &[u32]) -> RefuteReply
     ensures value { result ≡ if_read (read_report text.now) (λ m. refute_reply (refute_report m bound words.old hints.now)) refused_refute }
     ensures words_after { words.new ≡ if_read (read_report text.now) (λ m. emit_left m bound (length words.old) words.old) (λ n l. words.old) }
 {

@@ -101,8 +101,7 @@ fn read_pair(first: &[u8], second: &[u8]) -> PairRead
 }
 
 // Reads both texts and composes their models: the first text, the second, 38.
-#[unsafe(no_mangle)]
-pub extern "C" fn wirdoku_pair_read(first: &[u8], second: &[u8]) -> PairAnswer
+pub fn wirdoku_pair_read(first: &[u8], second: &[u8]) -> PairAnswer
     ensures { result ≡ pair_answer (pair_report (read_report first.now) (read_report second.now)) }
 {
     let pair = read_pair(first, second);
@@ -114,8 +113,7 @@ pub extern "C" fn wirdoku_pair_read(first: &[u8], second: &[u8]) -> PairAnswer
 }
 
 // What the composed model declares: both texts, 38.
-#[unsafe(no_mangle)]
-pub extern "C" fn wirdoku_pair_shape(first: &[u8], second: &[u8]) -> Shape
+pub fn wirdoku_pair_shape(first: &[u8], second: &[u8]) -> Shape
     ensures { result ≡ if_pair (pair_report (read_report first.now) (read_report second.now)) shape_of refused_shape }
 {
     let pair = read_pair(first, second);
@@ -127,8 +125,7 @@ pub extern "C" fn wirdoku_pair_shape(first: &[u8], second: &[u8]) -> Shape
 }
 
 // The counts of its list for a bound, by formula: both texts, 38, 21.
-#[unsafe(no_mangle)]
-pub extern "C" fn wirdoku_pair_counts(first: &[u8], second: &[u8], bound: usize) -> SizeAnswer
+pub fn wirdoku_pair_counts(first: &[u8], second: &[u8], bound: usize) -> SizeAnswer
     ensures { size_told result ≡ if_pair (pair_report (read_report first.now) (read_report second.now)) (λ m. counted_sizes (list_report m bound)) refused_sizes }
 {
     let pair = read_pair(first, second);
@@ -140,13 +137,7 @@ pub extern "C" fn wirdoku_pair_counts(first: &[u8], second: &[u8], bound: usize)
 }
 
 // Writes its list for a bound: both texts, 38, 21, 22.
-#[unsafe(no_mangle)]
-pub extern "C" fn wirdoku_pair_emit(
-    first: &[u8],
-    second: &[u8],
-    bound: usize,
-    out: &mut [i32],
-) -> SizeAnswer
+pub fn wirdoku_pair_emit(first: &[u8], second: &[u8], bound: usize, out: &mut [i32]) -> SizeAnswer
     ensures result_value { size_told result ≡ if_pair (pair_report (read_report first.now) (read_report second.now)) (λ m. emitted_sizes (emit_report m bound (length out.old))) refused_sizes }
     ensures out_after { out.new ≡ if_pair (pair_report (read_report first.now) (read_report second.now)) (λ m. emit_left m bound (length out.old) out.old) (λ n l. out.old) }
 {
@@ -159,13 +150,7 @@ pub extern "C" fn wirdoku_pair_emit(
 }
 
 // Writes the DIMACS file of its list for a bound: both texts, 38, 21, 32.
-#[unsafe(no_mangle)]
-pub extern "C" fn wirdoku_pair_dimacs(
-    first: &[u8],
-    second: &[u8],
-    bound: usize,
-    out: &mut [u8],
-) -> FileReply
+pub fn wirdoku_pair_dimacs(first: &[u8], second: &[u8], bound: usize, out: &mut [u8]) -> FileReply
     ensures value { result ≡ if_pair (pair_report (read_report first.now) (read_report second.now)) (λ m. file_reply (file_report m bound (length out.old))) refused_file }
     ensures out_after { out.new ≡ if_pair (pair_report (read_report first.now) (read_report second.now)) (λ m. file_left m bound out.old) (λ n l. out.old) }
 {
@@ -179,8 +164,7 @@ pub extern "C" fn wirdoku_pair_dimacs(
 }
 
 // Its initial state, whether or not its invariant holds: both texts, 38, and then a state of zeros.
-#[unsafe(no_mangle)]
-pub extern "C" fn wirdoku_pair_initial(first: &[u8], second: &[u8]) -> StateAnswer
+pub fn wirdoku_pair_initial(first: &[u8], second: &[u8]) -> StateAnswer
     ensures { result ≡ if_pair (pair_report (read_report first.now) (read_report second.now)) (λ m. state_answer 0 0 (initial_state m)) (λ n l. state_answer n l zero_state) }
 {
     let pair = read_pair(first, second);
@@ -192,13 +176,7 @@ pub extern "C" fn wirdoku_pair_initial(first: &[u8], second: &[u8]) -> StateAnsw
 }
 
 // One step byte from a state of it: both texts, 38, 10, 27, 28, and then the given state.
-#[unsafe(no_mangle)]
-pub extern "C" fn wirdoku_pair_step(
-    first: &[u8],
-    second: &[u8],
-    state: State,
-    byte: u8,
-) -> StateAnswer
+pub fn wirdoku_pair_step(first: &[u8], second: &[u8], state: State, byte: u8) -> StateAnswer
     ensures { result ≡ if_pair (pair_report (read_report first.now) (read_report second.now)) (λ m. step_answer (step_report m state byte)) (λ n l. state_answer n l state) }
 {
     let pair = read_pair(first, second);
@@ -213,8 +191,7 @@ pub extern "C" fn wirdoku_pair_step(
 }
 
 // Walks a run of it: both texts, 38, 21, 29; per step 27, 28; 30.
-#[unsafe(no_mangle)]
-pub extern "C" fn wirdoku_pair_walk(first: &[u8], second: &[u8], run: &[u8]) -> Answer
+pub fn wirdoku_pair_walk(first: &[u8], second: &[u8], run: &[u8]) -> Answer
     ensures { answer_told result ≡ if_pair (pair_report (read_report first.now) (read_report second.now)) (λ m. walk_report m run.now) refusal }
 {
     let pair = read_pair(first, second);
@@ -227,8 +204,7 @@ pub extern "C" fn wirdoku_pair_walk(first: &[u8], second: &[u8], run: &[u8]) -> 
 }
 
 // Writes the run of an assignment: both texts, 38, 21, 23, 24, 25, 26.
-#[unsafe(no_mangle)]
-pub extern "C" fn wirdoku_pair_assignment_to_run(
+pub fn wirdoku_pair_assignment_to_run(
     first: &[u8],
     second: &[u8],
     bound: usize,
@@ -248,8 +224,7 @@ pub extern "C" fn wirdoku_pair_assignment_to_run(
 }
 
 // Writes the assignment of a run of it: both texts, 38, 21 and the walker's rows, 31.
-#[unsafe(no_mangle)]
-pub extern "C" fn wirdoku_pair_run_to_assignment(
+pub fn wirdoku_pair_run_to_assignment(
     first: &[u8],
     second: &[u8],
     run: &[u8],
@@ -268,8 +243,7 @@ pub extern "C" fn wirdoku_pair_run_to_assignment(
 }
 
 // Writes its list for a bound in front of the lemmas and follows the hints: both texts, 38, 21, 22.
-#[unsafe(no_mangle)]
-pub extern "C" fn wirdoku_pair_refute(
+pub fn wirdoku_pair_refute(
     first: &[u8],
     second: &[u8],
     bound: usize,
@@ -300,8 +274,7 @@ fn refused_parts(number: u8, line: usize) -> PartSteps
 }
 
 // What a step byte of the composed model is in each part: both texts, 38, 27, and then 0 and 0.
-#[unsafe(no_mangle)]
-pub extern "C" fn wirdoku_pair_parts(first: &[u8], second: &[u8], byte: u8) -> PartSteps
+pub fn wirdoku_pair_parts(first: &[u8], second: &[u8], byte: u8) -> PartSteps
     ensures { result ≡ if_both (read_report first.now) (read_report second.now) (λ a b. parts_answer (parts_report a b byte)) (λ t. refused_parts) }
 {
     let x = read_model(first);
