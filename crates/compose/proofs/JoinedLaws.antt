@@ -9,7 +9,7 @@ use native.Mathlib.Omega.{arith}
 use lib.Dec.{T, ltb, leb, ltb→lt, lt→ltb, leb→le, le→leb, not_T}
 use borrow.Author.Tests.{not-true}
 use lib.IntN.{nat_abs}
-use lib.ListN.{length, get_or, set, length-set, length-map}
+use lib.ListN.{length, get_or, set, length-set}
 use mir.Val.{Val}
 use denote.Laws.{Is}
 use lib.Seq.{ext_get_or, get_or-set_same, get_or-set_other}
@@ -25,7 +25,8 @@ use Rattle.model.specs.declared.Model.{Model}
 use Rattle.model.specs.Indexed.{list_below, all_below, sum_below}
 use Rattle.model.specs.Record.{atom_at, update_at, counter_in, reset_at, invariant_at, edge_at}
 use Rattle.model.specs.Automaton.{is_keep, listed}
-use Rattle.model.specs.Form.{is_not_equal, atom_formed, is_blank, each_formed, filled_from_first, atoms_formed, update_formed, update_slot_formed, updates_formed}
+use Rattle.model.specs.Form.{is_not_equal, atom_formed, is_blank, each_formed, filled_from_first, atoms_formed, update_formed}
+use Rattle.model.specs.Form.{update_slot_formed, updates_formed}
 use Rattle.model.specs.Form.{order_slot_formed, order_formed, clock_update_formed, is_unchanged, reset_slot_formed, resets_formed, edge_formed, is_blank_edge}
 use Rattle.model.specs.Form.{counters_formed, invariant_slot_formed, invariants_formed, edge_slot_formed, edges_formed, head_formed, well_formed}
 use Rattle.model.proofs.FormLaws.{and₃, and₄, and₇, yes, no, keep_is, hold_is, atoms_at, edge_parts, order_slot, formed}
@@ -138,7 +139,8 @@ each_at atoms h = (all_below_lem (λ k. atom_formed 4 4 (atom_at atoms k)) 4).0 
 
 pub updates_at : (e : Edge) → T (updates_formed 4 e.updates) → (k : ℕ) → k < 4 → T (update_formed 4 (update_at e k))
 unfolding updates_formed
-updates_at e h k l = yes k 4 (update_formed 4 (update_at e k)) (is_keep (update_at e k)) ((all_below_lem (λ k. update_slot_formed 4 (update_at e k) k) 4).0 h k l) l
+updates_at e h k l =
+    yes k 4 (update_formed 4 (update_at e k)) (is_keep (update_at e k)) ((all_below_lem (λ k. update_slot_formed 4 (update_at e k) k) 4).0 h k l) l
 
 pub resets_at : (e : Edge) → T (resets_formed 4 e.resets) → (k : ℕ) → k < 4 → T (clock_update_formed 4 (reset_at e k))
 unfolding resets_formed
@@ -163,7 +165,7 @@ atom_count_le atoms = sum_below_lem (λ k. cond (is_blank (atom_at atoms k)) 0 1
 
 -- what owning an edge tells of its clock slots
 pub resets_long : (e : Edge) (vs : List Val) → Is EdgeT.the_row e vs → length e.resets ≡ 4
-resets_long e vs g = sym (length-map e.resets _) ∙ g.1.1.1.1.1.1.1.1.0.1.0.1
+resets_long e vs g = g.1.1.1.1.1.1.1.1.0.1.0.1
 
 -- ---- what is formed stays so where more is declared
 pub atom_wider : (c v c' v' : ℕ) → c ≤ c' → v ≤ v' → (x : Atom) → T (atom_formed c v x) → T (atom_formed c' v' x)

@@ -6,7 +6,6 @@ use Rattle.model.specs.Indexed.{each, list_below, all_below}
 use Rattle.model.specs.Record.{edge_at}
 use Rattle.compose.specs.declared.moves.Move.{Move}
 use Rattle.compose.specs.declared.moves.Move.TheVariants.{FirstAlone, SecondAlone, Together}
-use Rattle.compose.specs.declared.moves.MoveSlot.{MoveSlot}
 use Rattle.compose.specs.declared.moves.Moves.{Moves}
 use Rattle.compose.specs.Joined.{standing, joined_edge}
 

@@ -120,7 +120,8 @@ module _ (m : Model) (h : T (well_formed m)) where
       (most_as (sym (invariants_piece m o)) (invariants_most o m.locations (omega arith))))
 
   pub moves_most : (o : ℕ)
-      → Most (clauses_of (choice_items one_hot_width m o) ++ clauses_of (delays_items one_hot_width m o) ++ clauses_of (edges_items one_hot_width m o)) 23073 86177
+      → Most (clauses_of (choice_items one_hot_width m o) ++ clauses_of (delays_items one_hot_width m o)
+      ++ clauses_of (edges_items one_hot_width m o)) 23073 86177
   moves_most o =
       most_app _ _ (most_app _ _ (choice_most o) (most_as (sym (delays_piece m o))
       (most_few _ 272 1088 (ceiling m + 1) 32 (omega (arith, ok.ceiling_le)) (λ d l. delay_most o d))))

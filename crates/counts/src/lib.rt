@@ -111,7 +111,8 @@ fn edges_count(m: Model, b: GroupTable) -> Count
 // One step less its state clauses: the choice, each delay (a clause of three literals for each member of a state), each edge.
 fn moves_count(m: Model, b: GroupTable) -> Count
     requires { Known m b }
-    ensures { (o : ℕ) → Counted (clauses_of (choice_items one_hot_width m o) ++ clauses_of (delays_items one_hot_width m o) ++ clauses_of (edges_items one_hot_width m o)) result.clauses result.words }
+    ensures { (o : ℕ) → Counted (clauses_of (choice_items one_hot_width m o) ++ clauses_of (delays_items one_hot_width m o)
+        ++ clauses_of (edges_items one_hot_width m o)) result.clauses result.words }
 {
     let c = group_count(b.choices);
     let delays = (b.top as usize + 1) * b.state;

@@ -39,7 +39,8 @@ clause_raised d c = ap (λ (zs : List ℤ). zs ++ (pos 0 ∷ [])) (literals_rais
 pub words_raised : (d : ℕ) (cs : List Clause) → words_of (raised d cs) ≡ map (raised_word d) (words_of cs)
 unfolding words_of
 words_raised d [] = refl
-words_raised d (c ∷ cs) = ap₂ (λ (x y : List ℤ). x ++ y) (clause_raised d c) (words_raised d cs) ∙ sym (map-append (raised_word d) (clause_words c) (words_of cs))
+words_raised d (c ∷ cs) =
+    ap₂ (λ (x y : List ℤ). x ++ y) (clause_raised d c) (words_raised d cs) ∙ sym (map-append (raised_word d) (clause_words c) (words_of cs))
 
 -- ---- how long the text of a raised word is
 raised_long : (d : ℕ) (z : ℤ) → (nat_abs z ≡ 0 → ⊥) → length (word_text (raised_word d z)) ≡ length (sign_text z) + length (digits (d + nat_abs z)) + 1
@@ -57,13 +58,13 @@ module _ (d n : ℕ) (small : d + n < 100000) (z : ℤ) (h : nat_abs z ≤ n) wh
   Long = (2 ≤ length (word_text (raised_word d z))) × (length (word_text (raised_word d z)) ≤ 7)
 
   raised_between : Long
-  raised_between = ⊎_elim zero-long other-long (lt_or_le (nat_abs z) 1)
+  raised_between = ⊎_elim zero_long other_long (lt_or_le (nat_abs z) 1)
     where
-      zero-long : nat_abs z < 1 → Long
-      zero-long l = let e = ap length (raised_zero d z (omega arith)) in (omega (arith, e), omega (arith, e))
+      zero_long : nat_abs z < 1 → Long
+      zero_long l = let e = ap length (raised_zero d z (omega arith)) in (omega (arith, e), omega (arith, e))
 
-      other-long : 1 ≤ nat_abs z → Long
-      other-long l =
+      other_long : 1 ≤ nat_abs z → Long
+      other_long l =
           let e = raised_long d z (λ q. omega arith) in
           let s = sign_most z in
           (omega (arith, e, digits_some (d + nat_abs z)), omega (arith, e, s, digits_most_five (d + nat_abs z) (omega arith)))

@@ -14,7 +14,8 @@ use Rattle.model.specs.Form.{each_formed, filled_from_first, atoms_formed, edge_
 use Rattle.model.specs.Form.{head_formed, counters_formed, invariants_formed}
 use Rattle.model.specs.Form.{edges_formed, well_formed, counters_in_group, clocks_in_group, state_formed}
 
-pub atoms_is : (clocks vars : ℕ) (l : List AtomSlot) {a b : Bool} → each_formed clocks vars l ≡ a → filled_from_first l ≡ b → a && b ≡ atoms_formed clocks vars l
+pub atoms_is : (clocks vars : ℕ) (l : List AtomSlot) {a b : Bool} → each_formed clocks vars l ≡ a → filled_from_first l ≡ b
+    → a && b ≡ atoms_formed clocks vars l
 unfolding atoms_formed
 atoms_is clocks vars l p q = λ i. (sym p) i && (sym q) i
 

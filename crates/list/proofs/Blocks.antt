@@ -21,12 +21,13 @@ use Rattle.model.specs.Automaton.{Component, loc, counter, clock, value, Declare
 use Rattle.model.proofs.FormLaws.{DeclaredAtom, WellFormed}
 use Rattle.model.proofs.StepLaws.{Shaped, state_ext, state_from, invariant_iff}
 use Rattle.list.specs.Lists.{All}
-use Rattle.list.specs.Items.{Member, Item, group, rule, over_components, offset, state_member, exclude_values, exclude_failing, exclude_all_failing, group_items}
-use Rattle.list.specs.Items.{invariant_of, invariant_items, state_items}
+use Rattle.list.specs.Items.{Member, Item, group, rule, over_components, offset, state_member, exclude_values, exclude_failing, exclude_all_failing}
+use Rattle.list.specs.Items.{group_items, invariant_of, invariant_items, state_items}
 use Rattle.list.proofs.ListLaws.{all_app, all_app₃, all_each}
 use Rattle.list.proofs.Meaning.{Shows, Holds, shows_unique}
 
-cons_at : (P : ℕ → ℕ → Type 0) (x : ℕ) (l : List ℕ) (n : ℕ) → P 0 x → ((i : ℕ) → i < n → P (suc i) (get_or l i 0)) → (i : ℕ) → i < suc n → P i (get_or (x ∷ l) i 0)
+cons_at : (P : ℕ → ℕ → Type 0) (x : ℕ) (l : List ℕ) (n : ℕ) → P 0 x → ((i : ℕ) → i < n → P (suc i) (get_or l i 0))
+    → (i : ℕ) → i < suc n → P i (get_or (x ∷ l) i 0)
 cons_at P x l n p h zero q = p
 cons_at P x l n p h (suc i) q = h i (omega arith)
 

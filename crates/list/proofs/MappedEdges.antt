@@ -120,7 +120,8 @@ module _ (f : Edge → Edge) (keeps : Keeps f) (m : Model) where
     pub same_steps : (s : State) (b : ℕ) → step (map_edges f m) s b ≡ step m s b
     same_steps = steps_same m _ ceiling_same (λ e l s. ap (λ (x : Edge). edge_step m x s) (edge_is f m e (used-small e l)) ∙ keeps.steps m (edge_at m e) s)
 
-    pub edge_items_lem : (width : ℕ → ℕ) (e : ℕ) → e < m.used → (o c : ℕ) → edge_items width m o c (edge_at (map_edges f m) e) ≡ edge_items width m o c (edge_at m e)
+    pub edge_items_lem : (width : ℕ → ℕ) (e : ℕ) → e < m.used → (o c : ℕ)
+        → edge_items width m o c (edge_at (map_edges f m) e) ≡ edge_items width m o c (edge_at m e)
     edge_items_lem width e l o c = ap (edge_items width m o c) (edge_is f m e (used-small e l)) ∙ keeps.clauses width m (formed m ok) o c (edge_at m e)
 
     pub same_lists : (width : ℕ → ℕ) (k : ℕ) → items width (map_edges f m) k ≡ items width m k

@@ -141,8 +141,8 @@ places_are : (m : Model) (a : List ℕ) (k o : ℕ)
 unfolding decoded_from OneHot
 places_are m a zero o = list_none _
 places_are m a (suc k) o =
-    list_cons f k ∙ ap (λ (l : List ℕ). f 0 ∷ l) (list_cong (λ t. f (suc t)) g k (λ t p. ap place (later t)) ∙ places_are m a k (next_block one_hot_width m o)) ∙
-    ap (λ (x : ℕ). x ∷ decoded_from OneHot m a (next_block one_hot_width m o) k) (ap place first)
+    list_cons f k ∙ ap (λ (l : List ℕ). f 0 ∷ l) (list_cong (λ t. f (suc t)) g k (λ t p. ap place (later t)) ∙ places_are m a k (next_block one_hot_width m o))
+    ∙ ap (λ (x : ℕ). x ∷ decoded_from OneHot m a (next_block one_hot_width m o) k) (ap place first)
   where
     S : ℕ
     S = state_width one_hot_width m

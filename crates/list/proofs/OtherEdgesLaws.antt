@@ -2,7 +2,7 @@
 -- ceiling is seen, the two sides are one.
 use mathlib.Core.Path.{◌≡◌, refl, sym, ap, ap₂, subst, ◌∙◌}
 use mathlib.Core.Bool.{Bool, true, false, cond}
-use mathlib.Core.List.{List, ◌++◌}
+use mathlib.Core.List.{List, [], ◌∷◌, ◌++◌}
 use mathlib.Core.Option.{none}
 use Prim.Native.Nat.{ℕ, ◌+◌, ◌-◌, ◌<◌}
 use native.Mathlib.Omega.{arith}
@@ -20,9 +20,9 @@ use Rattle.model.specs.declared.Edge.{Edge}
 use Rattle.model.specs.declared.Model.{Model}
 use Rattle.model.specs.declared.State.{State}
 use Rattle.model.specs.Record.{atom_at, update_at, reset_at, invariant_at, edge_at, past_edge}
-use Rattle.model.specs.Automaton.{ceiling, choices, invariant_holds, delay_step, edge_allowed, edge_step, step}
+use Rattle.model.specs.Automaton.{loc, ceiling, choices, invariant_holds, delay_step, edge_allowed, edge_step, step}
 use Rattle.model.proofs.FormLaws.{choices_is}
-use Rattle.list.specs.Items.{Item, Member, block_at, next_block, exclude_failing, exclude_all_failing, group_items}
+use Rattle.list.specs.Items.{Item, Member, state_member, choice_member, block_at, next_block, exclude_failing, exclude_all_failing, group_items}
 use Rattle.list.specs.Items.{invariant_items, state_items, initial_items, start_items, choice_items, delay_items, delays_items, source_items, target_items}
 use Rattle.list.specs.Items.{guard_items, update_items, updates_items, reset_items, resets_items, edge_items, edges_items, step_items, body_items}
 use Rattle.list.specs.Items.{end_items, items}
@@ -54,7 +54,7 @@ module _ (width : ℕ → ℕ) (m : Model) (es : List Edge) (top : ceiling (with
 
   invariants_same : (o : ℕ) → invariant_items width (with_edges m es) o ≡ invariant_items width m o
   unfolding invariant_items
-  invariants_same o = each_cong m.locations _ _ (λ l p. atoms_same o _ (invariant_at m l))
+  invariants_same o = each_cong m.locations _ _ (λ l p. atoms_same o (state_member width m o loc l ∷ []) (invariant_at m l))
 
   state_same : (o : ℕ) → state_items width (with_edges m es) o ≡ state_items width m o
   unfolding state_items
@@ -87,7 +87,7 @@ module _ (width : ℕ → ℕ) (m : Model) (es : List Edge) (top : ceiling (with
 
     guard_same : (e : Edge) → guard_items width (with_edges m es) o c e ≡ guard_items width m o c e
     unfolding guard_items
-    guard_same e = rw (choices_same, top) (atoms_same o _ e.guard)
+    guard_same e = rw (choices_same, top) (atoms_same o (choice_member width m o c ∷ []) e.guard)
 
     pub edge_same : (e : Edge) → edge_items width (with_edges m es) o c e ≡ edge_items width m o c e
     unfolding edge_items source_items target_items updates_items resets_items

@@ -30,7 +30,8 @@ over_cong m f g h = rw (
       (λ i. f (clock i)) (λ i. g (clock i)) (λ i p. h (clock i)),
 )
 
-pub flat_over : {A B : Type 0} (m : Model) (f : A → List B) (g : Component → List A) → flat_map f (over_components m g) ≡ over_components m (λ x. flat_map f (g x))
+pub flat_over : {A B : Type 0} (m : Model) (f : A → List B) (g : Component → List A)
+    → flat_map f (over_components m g) ≡ over_components m (λ x. flat_map f (g x))
 flat_over m f g = rw (
   flat_app f (g loc ++ each m.vars (λ i. g (counter i))) (each m.clocks (λ i. g (clock i))),
   flat_app f (g loc)
@@ -93,7 +94,8 @@ module _ (m : Model) where
   unfolding initial_items
   initial_piece_lem = over_one m (λ x. rule [] (some (state_member one_hot_width m 0 x (initial_value m x))))
 
-  pub state_piece_lem : (o : ℕ) → clauses_of (state_items one_hot_width m o) ≡ clauses_of (group_items one_hot_width m o) ++ clauses_of (invariant_items one_hot_width m o)
+  pub state_piece_lem : (o : ℕ)
+      → clauses_of (state_items one_hot_width m o) ≡ clauses_of (group_items one_hot_width m o) ++ clauses_of (invariant_items one_hot_width m o)
   unfolding state_items
   state_piece_lem o = flat_app expand (group_items one_hot_width m o) (invariant_items one_hot_width m o)
 
@@ -151,7 +153,8 @@ module _ (m : Model) where
       (λ v p. ap (λ (l : Clause). one (negated (o + S + c) ∷ negated (before + at x + v) ∷ l)) (conclusion (state_member one_hot_width m (after o) y) (f v)))
     where
       item : ℕ → Item
-      item v = rule (choice_member one_hot_width m o c ∷ state_member one_hot_width m before x v ∷ []) (Option.map (state_member one_hot_width m (after o) y) (f v))
+      item v = rule (choice_member one_hot_width m o c ∷ state_member one_hot_width m before x v ∷ [])
+          (Option.map (state_member one_hot_width m (after o) y) (f v))
 
   -- choice c sets a component to a value
   pub sets_piece : (o c : ℕ) (y : Component) (v : Option ℕ)

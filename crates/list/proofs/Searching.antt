@@ -72,4 +72,5 @@ module _ (a : List ℕ) where
   first_false_some cs i h =
       let g = (only_if_lem (ltb (true_before a cs) (length cs)) (true_before a cs) i).0 h in
       let l = ltb→lt (true_before a cs) (length cs) g.0 in
-      subst (λ (n : ℕ). (n < length cs) × T (satisfied a (take n cs)) × (T (clause_true a (get_or cs n [])) → ⊥)) g.1 (l, (first_at_lem cs l).0, (first_at_lem cs l).1)
+      subst (λ (n : ℕ). (n < length cs) × T (satisfied a (take n cs)) × (T (clause_true a (get_or cs n [])) → ⊥))
+      g.1 (l, (first_at_lem cs l).0, (first_at_lem cs l).1)

@@ -18,7 +18,7 @@ use Rattle.model.specs.Automaton.{edge_step}
 use Rattle.model.specs.Form.{is_unchanged, reset_slot_formed, resets_formed}
 use Rattle.model.specs.Form.{well_formed}
 use Rattle.model.proofs.IndexedLaws.{eq_T, all_below_lem, get_d_list}
-use Rattle.model.proofs.FormLaws.{WellFormed, formed}
+use Rattle.model.proofs.FormLaws.{WellFormed}
 use Rattle.list.specs.Items.{Item, reset_items, resets_items, edge_items}
 use Rattle.list.specs.Clauses.{clauses_of, words_of, one_hot_width, clauses, words}
 use Rattle.list.specs.SelfCopies.{self_unchanged, self_slot, self_edge, self_model, SelfCopies}

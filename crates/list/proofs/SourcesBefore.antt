@@ -37,6 +37,7 @@ module _ (width : ℕ → ℕ) (m : Model) (o c : ℕ) where
       ++ resets_items width m o c e
   unfolding edge_items updates_items
   no_earlier_lists e h =
-      ap (λ (updates : List Item). source_items width m o c e ++ target_items width m o c e ++ guard_items width m o c e ++ updates ++ resets_items width m o c e)
+      ap (λ (updates : List Item). source_items width m o c e ++ target_items width m o c e
+      ++ guard_items width m o c e ++ updates ++ resets_items width m o c e)
       (each_cong m.vars (λ i. update_items width m o c e.order i (update_at e i)) (λ i. items_from_before i (update_at e i))
       (λ i p. update_from_before e.order i (update_at e i) (λ w z q. h i w z p q)))

@@ -16,8 +16,8 @@ use Rattle.model.specs.declared.Edge.{Edge}
 use Rattle.model.specs.declared.Model.{Model}
 use Rattle.model.specs.declared.State.{State}
 use Rattle.model.specs.Record.{update_at, reset_at, counter_at}
-use Rattle.model.specs.Automaton.{ceiling, choices, Component, loc, counter, clock, value, Declared, invariant_holds, delayed_value, in_range, shifted, new_counter}
-use Rattle.model.specs.Automaton.{group_size, new_clock, set_earlier, read_by}
+use Rattle.model.specs.Automaton.{ceiling, choices, Component, loc, counter, clock, value, Declared, invariant_holds, delayed_value, in_range, shifted}
+use Rattle.model.specs.Automaton.{new_counter, group_size, new_clock, set_earlier, read_by}
 use Rattle.model.proofs.IndexedLaws.{some_inj}
 use Rattle.model.proofs.FormLaws.{DeclaredUpdate, DeclaredReset, WellFormedEdge, choices_is}
 use Rattle.model.proofs.StepLaws.{EdgeTo, delayed_lt, in_range_lt, shifted_lt}

@@ -20,7 +20,8 @@ use Rattle.model.proofs.StepLaws.{state_ext, shaped_initial, initial_is, initial
 use Rattle.model.proofs.RunLaws.{walk_nil, walk_cons}
 use Rattle.list.specs.Lists.{All}
 use Rattle.list.specs.Items.{Member, Item, group, rule, over_components, state_member, next_block, state_width, choice_width, block_at, state_items}
-use Rattle.list.specs.Items.{initial_items, start_items, choice_items, delay_items, delays_items, edge_of, edges_items, step_items, end_items, body_items, items}
+use Rattle.list.specs.Items.{initial_items, start_items, choice_items, delay_items, delays_items, edge_of, edges_items, step_items, end_items}
+use Rattle.list.specs.Items.{body_items, items}
 use Rattle.list.proofs.ListLaws.{all_app, all_app₄, all_each}
 use Rattle.list.proofs.Meaning.{Shows, Holds, shows_true}
 use Rattle.list.proofs.Blocks.{ShowsState, over_components_lem, state_of, state_to}

@@ -14,7 +14,8 @@ use Rattle.model.specs.declared.Edge.{Edge}
 use Rattle.model.specs.declared.Model.{Model}
 use Rattle.model.specs.Indexed.{each, sum_below}
 use Rattle.model.specs.Record.{atom_at, update_at, reset_at, counter_at, invariant_at, edge_at}
-use Rattle.model.specs.Automaton.{ceiling, choices, Component, loc, counter, clock, group_size, initial_value, meets, delayed_value, in_range, shifted, set_earlier}
+use Rattle.model.specs.Automaton.{ceiling, choices, Component, loc, counter, clock, group_size, initial_value}
+use Rattle.model.specs.Automaton.{meets, delayed_value, in_range, shifted, set_earlier}
 
 -- A member of a group: where the group's variables begin, how many members the group has, and the member's place among them, from 0.
 pub record Member : Type 0 where

@@ -186,7 +186,8 @@ module _ (n limit : ℕ) where
   agrees (literal l ∷ ts) p a b = literal_agrees l ts (agrees ts) p a b
 
 -- from the start: the limit is n, or where the first variable is named again
-pub start_agrees : (n limit : ℕ) (ts : List Token) → limit ≤ n → limit ≤ fresh_after [] (literals_in ts) → (limit ≡ n) ⊎ (limit ≡ fresh_after [] (literals_in ts))
+pub start_agrees : (n limit : ℕ) (ts : List Token) → limit ≤ n → limit ≤ fresh_after [] (literals_in ts)
+    → (limit ≡ n) ⊎ (limit ≡ fresh_after [] (literals_in ts))
     → counted_from (foldl (judge n) start ts) ≡ foldl (count n limit) no_reading ts
 start_agrees n limit ts most first either =
     agrees n limit ts start (record { tally = none_named n })

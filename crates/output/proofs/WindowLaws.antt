@@ -214,7 +214,8 @@ fresh_below low named [] = 0
 fresh_below low named (l ∷ ls) = cond (ltb l.variable low && is_named l.variable named) 0 (fresh_below low (named ++ (l ∷ [])) ls + 1)
 
 module _ (low width : ℕ) (named : List Literal) (l : Literal) (ls : List Literal)
-    (rest : fresh_below (low + width) (named ++ (l ∷ [])) ls ≡ fresh_within low width (named ++ (l ∷ [])) (take (fresh_below low (named ++ (l ∷ [])) ls) ls)) where
+    (rest : fresh_below (low + width) (named ++ (l ∷ [])) ls
+    ≡ fresh_within low width (named ++ (l ∷ [])) (take (fresh_below low (named ++ (l ∷ [])) ls) ls)) where
   Next : Type 0
   Next = fresh_below (low + width) named (l ∷ ls) ≡ fresh_within low width named (take (fresh_below low named (l ∷ ls)) (l ∷ ls))
 

@@ -24,6 +24,6 @@ texts_reported = (
 )
 
 pub texts_written : LeftInTheBuffer
-unfolding starts_with split_on all_below list_below are_digits is_positive has_minus unsigned names_variable is_zero are_literals number_after literal_of is_text
-    words_of is_values form_of line_tokens part_tokens tokens_of is_named all_named judge judged output_report is_bare bytes_of output_left
+unfolding starts_with split_on all_below list_below are_digits is_positive has_minus unsigned names_variable is_zero are_literals number_after literal_of
+    is_text words_of is_values form_of line_tokens part_tokens tokens_of is_named all_named judge judged output_report is_bare bytes_of output_left
 texts_written = (refl, refl, refl)

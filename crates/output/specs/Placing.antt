@@ -1,6 +1,6 @@
 -- The literals of a text, of lines in any form and place, and how they are placed into a window of bytes, one for each variable from `low` on: 2 for
 -- a variable that is not named yet, else 1 or 0.
-use Rattle.std.specs.Prelude.{ℕ, ◌+◌, ◌-◌, List, [], ◌∷◌, ◌++◌, map, Bool, cond, ◌||◌, length, get_or, set, ltb, leb, eqb}
+use Rattle.std.specs.Prelude.{ℕ, ◌+◌, ◌-◌, List, [], ◌∷◌, ◌++◌, map, cond, ◌||◌, length, get_or, set, ltb, leb, eqb}
 use Rattle.text.specs.bytes.Ascii.{ascii}
 use Rattle.text.specs.bytes.Bytes.{starts_with, split_on}
 use Rattle.output.specs.Lines.{words_of}

@@ -32,10 +32,10 @@ use Rattle.parts.specs.declared.GroupTable.{GroupTable}
 use Rattle.parts.specs.StateBlock.{component_at, group_table, first_at, size_at, Bounded}
 use Rattle.parts.specs.PartsOf.{atom_part, leads_part, delay_part, edge_part, AtomIn, UpdateIn, ResetIn}
 use Rattle.parts.proofs.GroupLaws.{size_is, comp_counter, comp_clock, bounded, group_cases, block_is}
-use Rattle.parts.proofs.PartPieces.{groups_are, vars_are, top_is, state_is, choices_are, groups_law, initial_law, atom_law, delay_law, edge-law}
-use Rattle.parts.proofs.PartFits.{group_fits, group_small, locations_in, atom_fits, delay_fits, edge-fits}
-use Rattle.parts.specs.Pieces.{Known, BlockIn, StepIn, group_piece, initial_piece, atom_piece, location_piece, delay_piece, delay_pieces, front_piece, edge_piece}
-use Rattle.parts.specs.Pieces.{edge_clauses, step_clauses}
+use Rattle.parts.proofs.PartPieces.{groups_are, vars_are, top_is, state_is, choices_are, groups_law, initial_law, atom_law, delay_law, edge_law}
+use Rattle.parts.proofs.PartFits.{group_fits, group_small, locations_in, atom_fits, delay_fits, edge_fits}
+use Rattle.parts.specs.Pieces.{Known, BlockIn, StepIn, group_piece, initial_piece, atom_piece, location_piece, delay_piece, delay_pieces, front_piece}
+use Rattle.parts.specs.Pieces.{edge_piece, edge_clauses, step_clauses}
 
 -- ---- initial values by number
 module _ (m : Model) where
@@ -56,7 +56,8 @@ module _ (m : Model) where
   pub initial_in_lem : WellFormed m → (g : ℕ) → initial_value m (component_at m g) < group_size m (component_at m g)
   initial_in_lem ok g = group_cases m.vars g
       (λ e. subst (λ (k : ℕ). initial_value m (component_at m k) < group_size m (component_at m k)) (sym e) ok.initial_ok)
-      (λ i l e. subst (λ (x : Component). initial_value m x < group_size m x) (sym (ap (component_at m) e ∙ comp_counter m i l)) (omega (arith, ok.start_ok i l)))
+      (λ i l e. subst (λ (x : Component). initial_value m x < group_size m x) (sym (ap (component_at m) e ∙ comp_counter m i l))
+      (omega (arith, ok.start_ok i l)))
       (λ i e. subst (λ (x : Component). initial_value m x < group_size m x) (sym (ap (component_at m) e ∙ comp_clock m i)) (omega arith))
 
   pub initial_lies : WellFormed m → (g : ℕ) → g < 1 + m.vars + m.clocks → first_at (group_table m) g + initial_value m (component_at m g) < state_size m
@@ -203,7 +204,8 @@ module _ {m : Model} {b : GroupTable} (k : Known m b) where
   pub members_are : sum_below (size_at b) b.groups ≡ b.state
   members_are =
       subst (λ (x : GroupTable). sum_below (size_at x) x.groups ≡ x.state) (sym k.is)
-      (ap (sum_below (size_at (group_table m))) (groups_are m) ∙ sum_same (size_at (group_table m)) (λ g. group_size m (component_at m g)) (1 + m.vars + m.clocks)
+      (ap (sum_below (size_at (group_table m))) (groups_are m) ∙ sum_same (size_at (group_table m)) (λ g. group_size m (component_at m g))
+      (1 + m.vars + m.clocks)
       (λ g l. size_is m g (omega (arith, wf.vars_le, wf.clocks_le))) ∙ sym (block_is m) ∙ sym (state_is m))
 
   delay_clauses_of : (o d : ℕ) → b.state ≡ length (delay_pieces b o d)
@@ -228,7 +230,8 @@ module _ {m : Model} {b : GroupTable} (k : Known m b) where
   unfolding step_clauses
   step_piece_of t =
       let o = block_at one_hot_width m t in
-      let z : next_block one_hot_width m o ≡ block_at one_hot_width m (t + 1) = omega (arith, suc-mul t (state_width one_hot_width m + choice_width one_hot_width m)) in
+      let z : next_block one_hot_width m o ≡ block_at one_hot_width m (t + 1)
+      = omega (arith, suc-mul t (state_width one_hot_width m + choice_width one_hot_width m)) in
       step_piece_lem m o ∙ ap₂ (λ (l r : List Clause). l ++ clauses_of (edges_items one_hot_width m o) ++ r) (sym (front_piece_of o))
       (ap (λ (n : ℕ). clauses_of (state_items one_hot_width m n)) z)
 
@@ -239,10 +242,10 @@ module _ {m : Model} {b : GroupTable} (k : Known m b) where
       let w : x ≡ o + state_width one_hot_width m + (ceiling m + 1 + e) = z ∙ ap (λ (s : ℕ). o + s + (ceiling m + 1 + e)) (sym (state_width_is m)) in
       subst (λ (y : ℕ). each (b.groups + 5) (edge_piece y b (edge_at m e) o) ≡ clauses_of (edge_of one_hot_width m o e)) (sym w)
       (subst (λ (y : GroupTable). each (y.groups + 5) (edge_piece (o + state_width one_hot_width m + (ceiling m + 1 + e)) y (edge_at m e) o)
-      ≡ clauses_of (edge_of one_hot_width m o e)) (sym k.is) (edge-law m wf o (ceiling m + 1 + e) (edge_at m e) (wf.edge_ok e l)))
+      ≡ clauses_of (edge_of one_hot_width m o e)) (sym k.is) (edge_law m wf o (ceiling m + 1 + e) (edge_at m e) (wf.edge_ok e l)))
 
   pub edge_fits_of :
       (o n : ℕ) → o + state_size m + choices m + state_size m ≤ n → (e : ℕ) → e < m.used → (j : ℕ) → j < b.groups + 5 → Fits (edge_part b (edge_at m e) o j) n
   edge_fits_of o n h e p j l =
       subst (λ (x : GroupTable). Fits (edge_part x (edge_at m e) o j) n) (sym k.is)
-      (edge-fits m wf o n h (edge_at m e) (wf.edge_ok e p) j (subst (λ (x : GroupTable). j < x.groups + 5) k.is l))
+      (edge_fits m wf o n h (edge_at m e) (wf.edge_ok e p) j (subst (λ (x : GroupTable). j < x.groups + 5) k.is l))

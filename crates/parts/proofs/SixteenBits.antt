@@ -78,7 +78,8 @@ module _ (m : Model) where
   unfolding state_numbers
   state_in_order t =
       sym (over_groups m (λ x. list_below (state_number m t x) (group_size m x)))
-      ∙ each_cong (1 + m.vars + m.clocks) (λ g. list_below (state_number m t (component_at m g)) (many g)) (λ g. up_from (start + sum_below many g) (many g)) group
+      ∙ each_cong (1 + m.vars + m.clocks) (λ g. list_below (state_number m t (component_at m g)) (many g))
+      (λ g. up_from (start + sum_below many g) (many g)) group
       ∙ up_each start many (1 + m.vars + m.clocks) ∙ ap (up_from start) (sym (block_is m))
     where
       many : ℕ → ℕ

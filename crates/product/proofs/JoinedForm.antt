@@ -22,7 +22,8 @@ use Rattle.model.specs.declared.Model.{Model}
 use Rattle.model.specs.Indexed.{sum_below}
 use Rattle.model.specs.Record.{blank_atom, blank_update, blank_reset, atom_at, update_at, counter_in, reset_at}
 use Rattle.model.specs.Automaton.{is_keep, listed, place_in, set_earlier}
-use Rattle.model.specs.Form.{is_not_equal, atom_formed, is_blank, no_gap, each_formed, filled_from_first, atoms_formed, update_formed, clock_update_formed, is_unchanged}
+use Rattle.model.specs.Form.{is_not_equal, atom_formed, is_blank, no_gap, each_formed, filled_from_first, atoms_formed, update_formed}
+use Rattle.model.specs.Form.{clock_update_formed, is_unchanged}
 use Rattle.model.specs.Form.{update_slot_formed, updates_formed, order_slot_formed, order_formed, reset_slot_formed, resets_formed, edge_formed}
 use Rattle.model.proofs.IndexedLaws.{and_T, eq_T, T_true, lt_or_le, cond_T, cond_F, not_lt, below_cases, all_below_lem}
 use Rattle.model.proofs.IndexedLaws.{sum_below_lem, sum_same, sum_const, get_d_list, first_is}
@@ -30,7 +31,8 @@ use Rattle.model.proofs.OrderLaws.{Ordered, place_law, place_at, listed_is, list
 use Rattle.model.proofs.FormLaws.{WellFormedEdge, and₃, atoms_at, edge_parts, order_slot, keep_is, yes, no}
 use Rattle.model.proofs.BlankSlots.{and₇_of}
 use Rattle.compose.proofs.JoinedLaws.{atom_wider, update_wider, reset_wider}
-use Rattle.compose.specs.Joined.{shifted_update, shifted_reset, shifted_atom, atom_count, joined_atom, joined_atoms, joined_update, joined_updates, joined_place}
+use Rattle.compose.specs.Joined.{shifted_update, shifted_reset, shifted_atom, atom_count, joined_atom, joined_atoms, joined_update}
+use Rattle.compose.specs.Joined.{joined_updates, joined_place}
 use Rattle.compose.specs.Joined.{joined_location, joined_order, joined_reset, joined_resets, standing, joined_edge}
 
 -- ---- slot by slot
@@ -646,7 +648,8 @@ blank_count = sum_same (λ k. cond (is_blank (atom_at (replicate 4 blank_atom) k
 pub blank_formed : (c v : ℕ) → T (atoms_formed c v (replicate 4 blank_atom))
 unfolding atoms_formed each_formed filled_from_first
 blank_formed c v = (and_T (each_formed c v (replicate 4 blank_atom)) (filled_from_first (replicate 4 blank_atom))).1 (
-  (all_below_lem (λ k. atom_formed c v (atom_at (replicate 4 blank_atom) k)) 4).1 (λ k l. subst (λ (x : Atom). T (atom_formed c v x)) (sym (blank_atom_at k l)) tt),
+  (all_below_lem (λ k. atom_formed c v (atom_at (replicate 4 blank_atom) k)) 4).1
+      (λ k l. subst (λ (x : Atom). T (atom_formed c v x)) (sym (blank_atom_at k l)) tt),
   (all_below_lem (λ k. no_gap (atom_at (replicate 4 blank_atom) k) (atom_at (replicate 4 blank_atom) (k + 1))) 3).1
       (λ k l. no_gap_of (is_blank (atom_at (replicate 4 blank_atom) k)) (is_blank (atom_at (replicate 4 blank_atom) (k + 1)))
       (λ t. subst (λ (x : Atom). T (is_blank x)) (sym (blank_atom_at (k + 1) (omega arith))) tt)),

@@ -76,7 +76,7 @@ module _ (a b : Model) (ok : Composable a b) (es : JoinedEdges a b) (s x y : Sta
       (subst (λ (u : Option State). StepsTogether a b o' u j) (sym e) (subst (λ (u : Option State). StepsTogether a b o' i' u) (sym f) h))
 
   pub steps_as_parts : StepsAsParts a b s x y
-  steps_as_parts = record { delays = λ d l. delay_together a b ok d s x y q seen l; pairs = pairs; first_alone = first_alone; second_alone_lem = second_alone_lem }
+  steps_as_parts = record { delays = λ d l. delay_together a b ok d s x y q seen l; pairs = pairs; first_alone = first_alone; second_alone = second_alone }
     where
       pairs : (n e f : ℕ) → n < c.used → move_at a b n ≡ Together e f
           → StepsTogether a b (step c s (ceiling c + 1 + n)) (step a x (ceiling a + 1 + e)) (step b y (ceiling b + 1 + f))
@@ -92,9 +92,9 @@ module _ (a b : Model) (ok : Composable a b) (es : JoinedEdges a b) (s x y : Sta
           together (edge_step_lem n l (FirstAlone e j) h) (step_byte_lem a x e m.0) (sym (stands b ok.second_ok y seen.second.shape both_hold.1 j m.1))
           (joined_together a b ok (label_at a e) (edge_at a e) (standing j) (es.first_joins e j m.0 m.1) s x y q seen)
 
-      second_alone_lem : (n f i : ℕ) → n < c.used → move_at a b n ≡ SecondAlone f i
+      second_alone : (n f i : ℕ) → n < c.used → move_at a b n ≡ SecondAlone f i
           → StepsTogether a b (step c s (ceiling c + 1 + n)) (stands_in i x) (step b y (ceiling b + 1 + f))
-      second_alone_lem n f i l h =
+      second_alone n f i l h =
           let m = of_move n l (SecondAlone f i) h in
           together (edge_step_lem n l (SecondAlone f i) h) (sym (stands a ok.first_ok x seen.first.shape both_hold.0 i m.1)) (step_byte_lem b y f m.0)
           (joined_together a b ok (label_at b f) (standing i) (edge_at b f) (es.second_joins f i m.0 m.1) s x y q seen)

@@ -110,7 +110,8 @@ module _ (a b : Model) where
   is_20 h = cond_T (not (well_formed a && well_formed b)) (compose_reported 20 blank_model)
       (cond (not (fits a b)) (compose_reported 38 blank_model) (compose_reported 0 (composed a b))) h
 
-  is_composed : T (well_formed a && well_formed b) → compose_report a b ≡ cond (not (fits a b)) (compose_reported 38 blank_model) (compose_reported 0 (composed a b))
+  is_composed : T (well_formed a && well_formed b) → compose_report a b
+      ≡ cond (not (fits a b)) (compose_reported 38 blank_model) (compose_reported 0 (composed a b))
   unfolding compose_report
   is_composed h = cond_F (not (well_formed a && well_formed b)) (compose_reported 20 blank_model)
       (cond (not (fits a b)) (compose_reported 38 blank_model) (compose_reported 0 (composed a b))) (twice (well_formed a && well_formed b) h)

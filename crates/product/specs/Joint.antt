@@ -14,7 +14,8 @@ use Rattle.compose.specs.Composed.{composed}
 use Rattle.compose.specs.Parts.{first_step, second_step, steps_of}
 
 -- ---- parts
--- what model m sees of a joint state, standing in location l, where its clocks and counters begin at these places: its counters, and its clocks cut to its own ceiling
+-- what model m sees of a joint state, standing in location l, where its clocks and counters begin at these places:
+-- its counters, and its clocks cut to its own ceiling
 unfoldable pub part_at : Model → ℕ → ℕ → ℕ → State → State
 part_at m clocks vars l s = record {
   location = l;
@@ -68,7 +69,7 @@ pub record StepsAsParts (a b : Model) (s x y : State) : Type 0 where
   -- a lone edge when its owner allows it while the other stands still
   pub first_alone : (n e j : ℕ) → n < (composed a b).used → move_at a b n ≡ FirstAlone e j
       → StepsTogether a b (step (composed a b) s (ceiling (composed a b) + 1 + n)) (step a x (ceiling a + 1 + e)) (stands_in j y)
-  pub second_alone_lem : (n f i : ℕ) → n < (composed a b).used → move_at a b n ≡ SecondAlone f i
+  pub second_alone : (n f i : ℕ) → n < (composed a b).used → move_at a b n ≡ SecondAlone f i
       → StepsTogether a b (step (composed a b) s (ceiling (composed a b) + 1 + n)) (stands_in i x) (step b y (ceiling b + 1 + f))
 
 -- ---- runs

@@ -181,7 +181,10 @@ zeros_more ms i l k c h = go (eqb c i) refl
         below n = ⊎_elim (λ l. l) (λ g. absurd (n (omega arith))) (lt_or_le c i)
 
 pub zeros_all : (ms : List ℕ) (i : ℕ) → length ms ≤ i → ((c : ℕ) → c < i → get_or ms c 0 ≡ 0) → Fresh ms 1
-zeros_all ms i l k c = ⊎_elim (λ h. rw (k c h) (omega arith)) (λ g. let o : length ms ≤ c = omega arith in rw (get_or-eq_default ms 0 o) (omega arith))
+zeros_all ms i l k c =
+    ⊎_elim
+    (λ h. rw (k c h) (omega arith))
+    (λ (g : i ≤ c). let o : length ms ≤ c = omega arith in rw (get_or-eq_default ms 0 o) (omega arith))
     (lt_or_le c i)
 
 -- ---- hints one by one
@@ -248,22 +251,22 @@ module _ (ws : List ℤ) (n : ℕ) (hs first ms : List ℕ) (at s end j h : ℕ)
     turn_before = begins_before ws at h (is_T _ begun)
 
     module _ (r : ℕ) (left_is : r ≡ left (marked ms s) 0 (drop h ws)) where
-      remains-is : r ≡ left (λ c. is_in c v.taken) 0 (drop h ws)
-      remains-is = left_is ∙ shows_left ms s v.taken v.shows 0 (drop h ws)
+      remains_is : r ≡ left (λ c. is_in c v.taken) 0 (drop h ws)
+      remains_is = left_is ∙ shows_left ms s v.taken v.shows 0 (drop h ws)
 
       pub turn_more : r ≡ 1 → false ≡ whole
-      turn_more o = sym (v.same ∙ hint_more ws at v.taken hs j h l e begun (sym remains-is ∙ o))
+      turn_more o = sym (v.same ∙ hint_more ws at v.taken hs j h l e begun (sym remains_is ∙ o))
 
-      pub turn-done : r ≡ 0 → end ≡ at → true ≡ whole
-      turn-done o z = sym (v.same ∙ hint_done ws at v.taken hs j h l e begun (sym remains-is ∙ o) (omega (arith, v.ends)))
+      pub turn_done : r ≡ 0 → end ≡ at → true ≡ whole
+      turn_done o z = sym (v.same ∙ hint_done ws at v.taken hs j h l e begun (sym remains_is ∙ o) (omega (arith, v.ends)))
 
-      pub turn-ends : r ≡ 0 → (end ≡ at → ⊥) → length ws ≤ end + 1 → false ≡ whole
-      turn-ends o z g =
-          sym (v.same ∙ hint_ends ws at v.taken hs j h l e begun (sym remains-is ∙ o) (λ q. z (omega (arith, v.ends, q))) (omega (arith, v.ends)))
+      pub turn_ends : r ≡ 0 → (end ≡ at → ⊥) → length ws ≤ end + 1 → false ≡ whole
+      turn_ends o z g =
+          sym (v.same ∙ hint_ends ws at v.taken hs j h l e begun (sym remains_is ∙ o) (λ q. z (omega (arith, v.ends, q))) (omega (arith, v.ends)))
 
-      pub turn-next : r ≡ 0 → (end ≡ at → ⊥) → end + 1 < length ws → (ms' new : List ℕ) → length ms' ≡ length ms → (s' end' : ℕ)
+      pub turn_next : r ≡ 0 → (end ≡ at → ⊥) → end + 1 < length ws → (ms' new : List ℕ) → length ms' ≡ length ms → (s' end' : ℕ)
           → Taken ws (end + 1) ms' new s' end' → Following ws n hs first new (end + 1) s' end' (j + 1)
-      turn-next o z g ms' new kept s' end' k =
+      turn_next o z g ms' new kept s' end' k =
           let to : next_at ws at ≡ end + 1 = omega (arith, v.ends) in
           record {
             within = omega arith;
@@ -272,12 +275,12 @@ module _ (ws : List ℤ) (n : ℕ) (hs first ms : List ℕ) (at s end j h : ℕ)
             long = k.long ∙ kept ∙ v.long;
             taken = literals (drop (end + 1) ws) [];
             shows = k.shows;
-            same = v.same ∙ hint_next ws at v.taken hs j h l e begun (sym remains-is ∙ o) (λ q. z (omega (arith, v.ends, q))) (omega arith)
+            same = v.same ∙ hint_next ws at v.taken hs j h l e begun (sym remains_is ∙ o) (λ q. z (omega (arith, v.ends, q))) (omega arith)
                 ∙ ap (λ (p : ℕ). follows ws p (literals (drop p ws) []) (drop (j + 1) hs)) to;
           }
 
-      pub turn-only : (r ≡ 1 → ⊥) → (r ≡ 0 → ⊥) → (o : ℕ) → o ≡ opposite r → o < length ms → Following ws n hs first (set ms o s) at s end (j + 1)
-      turn-only p z o is-o m =
+      pub turn_only : (r ≡ 1 → ⊥) → (r ≡ 0 → ⊥) → (o : ℕ) → o ≡ opposite r → o < length ms → Following ws n hs first (set ms o s) at s end (j + 1)
+      turn_only p z o o_is m =
           record {
             within = omega arith;
             in_words = v.in_words;
@@ -285,8 +288,8 @@ module _ (ws : List ℤ) (n : ℕ) (hs first ms : List ℕ) (at s end j h : ℕ)
             long = length-set ms o s ∙ v.long;
             taken = o ∷ v.taken;
             shows = shows_set ms s v.taken v.shows o m;
-            same = v.same ∙ hint_only ws at v.taken hs j h l e begun (λ q. p (remains-is ∙ q)) (λ q. z (remains-is ∙ q))
-                ∙ ap (λ (x : ℕ). follows ws at (x ∷ v.taken) (drop (j + 1) hs)) (ap opposite (sym remains-is) ∙ sym is-o);
+            same = v.same ∙ hint_only ws at v.taken hs j h l e begun (λ q. p (remains_is ∙ q)) (λ q. z (remains_is ∙ q))
+                ∙ ap (λ (x : ℕ). follows ws at (x ∷ v.taken) (drop (j + 1) hs)) (ap opposite (sym remains_is) ∙ sym o_is);
           }
 
 pub following_first : (ws : List ℤ) (n : ℕ) (hs old ms : List ℕ) (s end : ℕ) → n < length ws → Taken ws n old ms s end → Following ws n hs ms ms n s end 0

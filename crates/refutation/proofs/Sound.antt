@@ -30,6 +30,7 @@ cases false = inr refl
 
 pub T_is : (b : Bool) → T b → b ≡ true
 T_is true t = refl
+T_is false t = elim t [ ]
 
 pub is_T : (b : Bool) → b ≡ true → T b
 is_T b e = rw e tt
@@ -150,6 +151,7 @@ begins_before ws at h t = go (ltb h at) refl t
   where
     go : (a : Bool) → ltb h at ≡ a → T (cond a (cond (eqb h 0) true (closes (get_or ws (h - 1) (pos 0)))) false) → h < at
     go true p t = ltb-true _ _ p
+    go false p t = elim t [ ]
 
 begins_earlier : (ws : List ℤ) (at to h : ℕ) → h < at → T (begins ws to h) → T (begins ws at h)
 unfolding begins
@@ -157,6 +159,7 @@ begins_earlier ws at to h l t = rw (lt-ltb h at l) (go (ltb h to) t)
   where
     go : (a : Bool) → T (cond a (cond (eqb h 0) true (closes (get_or ws (h - 1) (pos 0)))) false) → T (cond (eqb h 0) true (closes (get_or ws (h - 1) (pos 0))))
     go true t = t
+    go false t = elim t [ ]
 
 -- no clause begins inside a clause
 begins_not : (ws : List ℤ) (to h : ℕ) → 0 < h → closes (get_or ws (h - 1) (pos 0)) ≡ false → T (begins ws to h) → ⊥

@@ -7,7 +7,8 @@ use Rattle.text.specs.lines.Sequence.{read_lines}
 use Rattle.text.specs.bytes.Faulty.{line_told, is_no_fault}
 use Rattle.text.specs.declared.bytes.LineFault.{LineFault}
 use Rattle.text.specs.declared.ReadOutcome.{ReadOutcome}
-use Rattle.text.specs.declared.ReadOutcome.TheVariants.{Read, TooLong, NotDue, NotOfItsForm, TooManyItems, OutOfRange, NotDeclared, SetTwiceOrNotRising, BytesLeft}
+use Rattle.text.specs.declared.ReadOutcome.TheVariants.{Read, TooLong, NotDue, NotOfItsForm, TooManyItems, OutOfRange, NotDeclared, SetTwiceOrNotRising}
+use Rattle.text.specs.declared.ReadOutcome.TheVariants.{BytesLeft}
 use Rattle.text.specs.declared.ReadAnswer.{ReadAnswer}
 
 -- ---- the whole text

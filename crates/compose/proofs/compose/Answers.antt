@@ -19,14 +19,14 @@ unfolding compose_report
 returns-then-not-well_formed-2 c =
     let entry = c.args in
     let first = told_true c.well_formed-2.ensures c.if-not-well_formed.false-raw in
-    let second = told_false c.well_formed-2.ensures c.if-not-well_formed-2.true-raw in
+    let second = told_false c.well_formed-3.ensures c.if-not-well_formed-2.true-raw in
     ap (compose_reported 20) c.blank-then-not-well_formed-2.ensures ∙ second_unformed entry.a entry.b _ _ _ first second
 
 pub moves_of-list-requires : goal.moves_of-list-requires
 moves_of-list-requires c =
     let entry = c.args in
     let first = told_true c.well_formed-2.ensures c.if-not-well_formed.false-raw in
-    let second = told_true c.well_formed-2.ensures c.if-not-well_formed-2.false-raw in
+    let second = told_true c.well_formed-3.ensures c.if-not-well_formed-2.false-raw in
     let v = formed entry.a ((T_true _).1 first) in
     let w = formed entry.b ((T_true _).1 second) in
     (v.used_le, w.used_le, v.locations_le, w.locations_le)
@@ -35,7 +35,7 @@ pub fits-requires : goal.fits-requires
 fits-requires c =
     let entry = c.args in
     let first = told_true c.well_formed-2.ensures c.if-not-well_formed.false-raw in
-    let second = told_true c.well_formed-2.ensures c.if-not-well_formed-2.false-raw in
+    let second = told_true c.well_formed-3.ensures c.if-not-well_formed-2.false-raw in
     let v = formed entry.a ((T_true _).1 first) in
     let w = formed entry.b ((T_true _).1 second) in
     (v.used_le, w.used_le, v.locations_le, w.locations_le, count_in entry.a entry.b c.moves_of-list.ensures)
@@ -45,14 +45,14 @@ unfolding compose_report
 returns-then-not-fits c =
     let entry = c.args in
     let first = told_true c.well_formed-2.ensures c.if-not-well_formed.false-raw in
-    let second = told_true c.well_formed-2.ensures c.if-not-well_formed-2.false-raw in
+    let second = told_true c.well_formed-3.ensures c.if-not-well_formed-2.false-raw in
     let large = told_false c.fits.ensures c.if-not-fits.true-raw in
     ap (compose_reported 38) c.blank-then-not-fits.ensures ∙ too_large entry.a entry.b _ _ _ first second large
 
 pub composed-requires : goal.composed-requires
 composed-requires c =
     let first = told_true c.well_formed-2.ensures c.if-not-well_formed.false-raw in
-    let second = told_true c.well_formed-2.ensures c.if-not-well_formed-2.false-raw in
+    let second = told_true c.well_formed-3.ensures c.if-not-well_formed-2.false-raw in
     let fit = told_true c.fits.ensures c.if-not-fits.false-raw in
     ((T_true _).1 first, (T_true _).1 second, (T_true _).1 fit, c.moves_of-list.ensures)
 
@@ -61,6 +61,6 @@ unfolding compose_report
 returns c =
     let entry = c.args in
     let first = told_true c.well_formed-2.ensures c.if-not-well_formed.false-raw in
-    let second = told_true c.well_formed-2.ensures c.if-not-well_formed-2.false-raw in
+    let second = told_true c.well_formed-3.ensures c.if-not-well_formed-2.false-raw in
     let fit = told_true c.fits.ensures c.if-not-fits.false-raw in
     ap (compose_reported 0) c.composed.ensures ∙ taken entry.a entry.b _ _ _ first second fit

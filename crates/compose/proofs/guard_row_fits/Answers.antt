@@ -1,8 +1,6 @@
 -- `guard_row_fits`: so far every guard fitted; the first that does not makes the answer false.
 use borrow.Author.Rules.{rules}
-use Prim.Native.Nat.{◌-◌}
 use mathlib.Core.Path.{◌≡◌, sym}
-use mathlib.Core.Bool.{true}
 use native.Mathlib.Omega.{arith}
 use Rattle.model.proofs.IndexedLaws.{all_none, all_stops, all_goes}
 use Rattle.compose.specs.Composed.{guard_fits}

@@ -1,8 +1,8 @@
 -- `guards_fit`: so far the guards of every row fitted; the first row that does not makes the answer false.
 use borrow.Author.Rules.{rules}
-use Prim.Native.Nat.{ℕ, ◌-◌}
+use Prim.Native.Nat.{ℕ}
 use mathlib.Core.Path.{◌≡◌, sym}
-use mathlib.Core.Bool.{Bool, true}
+use mathlib.Core.Bool.{Bool}
 use native.Mathlib.Omega.{arith}
 use Rattle.model.specs.Indexed.{all_below}
 use Rattle.model.proofs.IndexedLaws.{all_none, all_stops, all_goes}

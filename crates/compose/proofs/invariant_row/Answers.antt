@@ -1,23 +1,13 @@
 -- `invariant_row`: the loop has stored the invariants of the locations so far.
 use borrow.Author.Rules.{rules}
-use Prim.Native.Nat.{ℕ, ◌-◌}
-use mathlib.Core.List.{List}
 use mathlib.Core.Path.{◌≡◌, sym, ap, ◌∙◌}
 use native.Mathlib.Omega.{arith}
-use Rattle.model.specs.declared.AtomSlot.{AtomSlot}
-use Rattle.model.specs.declared.Invariant.{Invariant}
-use Rattle.model.specs.declared.Model.{Model}
-use Rattle.model.specs.Record.{invariant_at}
 use Rattle.model.proofs.IndexedLaws.{list_none}
-use Rattle.compose.specs.Joined.{joined_atoms}
 use Rattle.compose.specs.Moves.{placed}
 use Rattle.compose.proofs.JoinedLaws.{used-invariant}
 use Rattle.compose.proofs.PlacedLaws.{placed_none, placed_turn}
+use Rattle.compose.proofs.invariant_row.Invariants.{row}
 use Rattle.compose.proofs.invariant_row.Goals as goal
-
--- the invariant of location j
-abbrev row : List AtomSlot → ℕ → ℕ → Model → ℕ → Invariant
-row first clocks vars b j = record { atoms = joined_atoms clocks vars first (invariant_at b j) }
 
 pub loop-j-init : goal.loop-j-init
 loop-j-init c =

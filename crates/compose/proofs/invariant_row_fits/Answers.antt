@@ -1,9 +1,8 @@
 -- `invariant_row_fits`: so far every invariant had room for n atoms more; the first that has not makes the answer false.
 use native.Mathlib.Omega.{arith}
 use lib.Dec.{leb}
-use mathlib.Core.Bool.{true}
 use mathlib.Core.Path.{◌≡◌, sym, ap}
-use Prim.Native.Nat.{◌+◌, ◌-◌}
+use Prim.Native.Nat.{◌+◌}
 use borrow.Author.Rules.{rules}
 use Rattle.model.proofs.IndexedLaws.{all_none, all_next, all_fails}
 use Rattle.model.specs.Record.{invariant_at}

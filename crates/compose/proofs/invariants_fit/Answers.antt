@@ -1,25 +1,13 @@
 -- `invariants_fit`: so far every row fitted; the first that does not makes the answer false.
 use native.Mathlib.Omega.{arith}
 use borrow.Author.Rules.{rules}
-use lib.Dec.{leb}
-use mathlib.Core.Bool.{true, Bool}
 use mathlib.Core.Path.{◌≡◌, sym, ap, ◌∙◌}
-use Prim.Native.Nat.{◌+◌, ◌-◌, ℕ}
-use Rattle.model.specs.declared.Model.{Model}
 use Rattle.model.proofs.IndexedLaws.{all_none, all_stops, all_goes}
 use Rattle.model.specs.Record.{invariant_at}
-use Rattle.model.specs.Indexed.{all_below}
 use Rattle.compose.specs.Composed.{invariants_fit}
-use Rattle.compose.specs.Joined.{atom_count}
 use Rattle.compose.proofs.JoinedLaws.{atom_count_le}
+use Rattle.compose.proofs.invariants_fit.Invariants.{row, row_of}
 use Rattle.compose.proofs.invariants_fit.Goals as goal
-
--- a row whose invariant in the first model has n atoms
-abbrev row : Model → ℕ → Bool
-row b n = all_below (λ j. leb (n + atom_count (invariant_at b j)) 4) b.locations
-
-abbrev row_of : Model → Model → ℕ → Bool
-row_of a b i = row b (atom_count (invariant_at a i))
 
 pub loop-i-init : goal.loop-i-init
 loop-i-init c = (search rules, all_none _)

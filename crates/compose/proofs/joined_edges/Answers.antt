@@ -1,8 +1,6 @@
 -- `joined_edges`: the slots so far hold the edges of the moves; the others are blank, as the slots after the last move stay.
 use borrow.Author.Rules.{rules}
-use Prim.Native.Nat.{◌-◌}
 use mathlib.Core.List.{List}
-use mathlib.Core.Logic.{⊎_elim}
 use mathlib.Core.Path.{◌≡◌, sym, ap, subst, ◌∙◌}
 use native.Mathlib.Omega.{arith}
 use lib.ListN.{replicate, get_or-replicate, length-replicate}
@@ -13,16 +11,16 @@ use Rattle.compose.specs.Composed.{composed_edge}
 use Rattle.compose.proofs.ComposedLaws.{count_in, move_in, edge_here, edge_none, standing_blank}
 use Rattle.compose.proofs.JoinedLaws.{FilledTo, filled_none, stored, left, filled_all}
 use Rattle.compose.proofs.MoveLaws.{move_of}
+use Rattle.compose.proofs.joined_edges.Invariants.{blanks}
 use Rattle.compose.proofs.joined_edges.Goals as goal
-
-abbrev blanks : List Edge
-blanks = replicate 32 blank_edge
+use Rattle.compose.proofs.joined_edges.Goals.{then-n-list, else-n-list}
 
 pub loop-n-init : goal.loop-n-init
 loop-n-init c =
     let f = composed_edge c.args.a c.args.b in
     let e = ap (λ (x : Edge). replicate 32 x) (c.standing-edges.ensures ∙ standing_blank) in
-    (search rules, length-replicate 32 c.standing-edges.result, subst (λ (l : List Edge). FilledTo past_edge f blanks l 0) (sym e) (filled_none past_edge f blanks))
+    let none = subst (λ (l : List Edge). FilledTo past_edge f blanks l 0) (sym e) (filled_none past_edge f blanks) in
+    (search rules, length-replicate 32 c.standing-edges.result, none)
 
 pub edge_of-requires : goal.edge_of-requires
 edge_of-requires c =
@@ -41,13 +39,16 @@ loop-n-preserved c =
     let given = c.requires.2 in
     let count = count_in a b given in
     let move = move_in a b given _ loop.n c.loop-n-test.true in
-    let next = ⊎_elim
-    (λ w. stored past_edge (composed_edge a b) w.3 c.loop-n-test.true loop.invariant.1 loop.invariant.2
-    (edge_here a b loop.n (omega (arith, w.0.taken, count)) move w.2.ensures))
-    (λ w. left past_edge (composed_edge a b) w.1 loop.invariant.1 loop.invariant.2
-    (get_or-replicate 32 loop.n blank_edge past_edge c.loop-n-test.true ∙ edge_none a b loop.n (omega (arith, w.0.left, count))))
-    c.if-n-list.branch in
-    (search rules, next.0, next.1)
+    elim c.if-n-list.branch [
+      | then-n-list w ↦
+          let next = stored past_edge (composed_edge a b) w.edges-is c.loop-n-test.true loop.invariant.1 loop.invariant.2
+          (edge_here a b loop.n (omega (arith, count)) move w.edge_of.ensures) in
+          (search rules, next.0, next.1)
+      | else-n-list w ↦
+          let next = left past_edge (composed_edge a b) w.edges-is loop.invariant.1 loop.invariant.2
+          (get_or-replicate 32 loop.n blank_edge past_edge c.loop-n-test.true ∙ edge_none a b loop.n (omega (arith, count))) in
+          (search rules, next.0, next.1)
+    ]
 
 pub returns : goal.returns
 returns c =

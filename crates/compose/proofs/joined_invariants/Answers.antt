@@ -1,13 +1,9 @@
 -- `joined_invariants`: the loop has stored the rows of the locations so far, each as long as the second model has locations.
 use borrow.Author.Rules.{rules}
-use Prim.Native.Nat.{ℕ, ◌-◌}
-use mathlib.Core.List.{List}
+use Prim.Native.Nat.{ℕ}
 use mathlib.Core.Path.{◌≡◌, sym, ap, ◌∙◌}
 use native.Mathlib.Omega.{arith}
 use lib.ListN.{length, replicate}
-use Rattle.model.specs.declared.Invariant.{Invariant}
-use Rattle.model.specs.declared.Model.{Model}
-use Rattle.model.specs.Indexed.{list_below}
 use Rattle.model.specs.Record.{blank_invariant}
 use Rattle.model.proofs.FormLaws.{formed}
 use Rattle.model.proofs.IndexedLaws.{each_zero, length_list}
@@ -15,11 +11,8 @@ use Rattle.compose.specs.Moves.{placed}
 use Rattle.compose.specs.Composed.{joined_invariant, joined_invariants}
 use Rattle.compose.proofs.ComposedLaws.{row_fits}
 use Rattle.compose.proofs.PlacedLaws.{placed_none, rows_turn}
+use Rattle.compose.proofs.joined_invariants.Invariants.{row}
 use Rattle.compose.proofs.joined_invariants.Goals as goal
-
--- the invariants of the locations (i, j) for one i
-abbrev row : Model → Model → ℕ → List Invariant
-row a b i = list_below (joined_invariant a b i) b.locations
 
 pub loop-i-init : goal.loop-i-init
 loop-i-init c = (search rules, sym (ap (placed (replicate 16 blank_invariant) 0) (each_zero _) ∙ placed_none _ _))

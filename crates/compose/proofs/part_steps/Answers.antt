@@ -18,14 +18,14 @@ unfolding parts_report
 returns-then-not-well_formed-2 c =
     let entry = c.args in
     let first = told_true c.well_formed-2.ensures c.if-not-well_formed.false-raw in
-    let second = told_false c.well_formed-2.ensures c.if-not-well_formed-2.true-raw in
+    let second = told_false c.well_formed-3.ensures c.if-not-well_formed-2.true-raw in
     second_unformed entry.a entry.b _ _ _ first second
 
 pub moves_of-list-requires : goal.moves_of-list-requires
 moves_of-list-requires c =
     let entry = c.args in
     let first = told_true c.well_formed-2.ensures c.if-not-well_formed.false-raw in
-    let second = told_true c.well_formed-2.ensures c.if-not-well_formed-2.false-raw in
+    let second = told_true c.well_formed-3.ensures c.if-not-well_formed-2.false-raw in
     let v = formed entry.a ((T_true _).1 first) in
     let w = formed entry.b ((T_true _).1 second) in
     (v.used_le, w.used_le, v.locations_le, w.locations_le)
@@ -34,7 +34,7 @@ pub fits-requires : goal.fits-requires
 fits-requires c =
     let entry = c.args in
     let first = told_true c.well_formed-2.ensures c.if-not-well_formed.false-raw in
-    let second = told_true c.well_formed-2.ensures c.if-not-well_formed-2.false-raw in
+    let second = told_true c.well_formed-3.ensures c.if-not-well_formed-2.false-raw in
     let v = formed entry.a ((T_true _).1 first) in
     let w = formed entry.b ((T_true _).1 second) in
     (v.used_le, w.used_le, v.locations_le, w.locations_le, count_in entry.a entry.b c.moves_of-list.ensures)
@@ -44,14 +44,14 @@ unfolding parts_report
 returns-then-not-fits c =
     let entry = c.args in
     let first = told_true c.well_formed-2.ensures c.if-not-well_formed.false-raw in
-    let second = told_true c.well_formed-2.ensures c.if-not-well_formed-2.false-raw in
+    let second = told_true c.well_formed-3.ensures c.if-not-well_formed-2.false-raw in
     let large = told_false c.fits.ensures c.if-not-fits.true-raw in
     too_large entry.a entry.b _ _ _ first second large
 
 pub steps_of-requires : goal.steps_of-requires
 steps_of-requires c =
     let first = told_true c.well_formed-2.ensures c.if-not-well_formed.false-raw in
-    let second = told_true c.well_formed-2.ensures c.if-not-well_formed-2.false-raw in
+    let second = told_true c.well_formed-3.ensures c.if-not-well_formed-2.false-raw in
     let fit = told_true c.fits.ensures c.if-not-fits.false-raw in
     ((T_true _).1 first, (T_true _).1 second, (T_true _).1 fit, c.moves_of-list.ensures)
 
@@ -60,6 +60,6 @@ unfolding parts_report
 returns c =
     let entry = c.args in
     let first = told_true c.well_formed-2.ensures c.if-not-well_formed.false-raw in
-    let second = told_true c.well_formed-2.ensures c.if-not-well_formed-2.false-raw in
+    let second = told_true c.well_formed-3.ensures c.if-not-well_formed-2.false-raw in
     let fit = told_true c.fits.ensures c.if-not-fits.false-raw in
     c.steps_of.ensures ∙ taken entry.a entry.b _ _ _ first second fit

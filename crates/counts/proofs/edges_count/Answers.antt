@@ -1,6 +1,6 @@
 -- edges_count: edge after edge.
 use native.Mathlib.Omega.{arith}
-use Prim.Native.Nat.{ℕ, ◌+◌, ◌-◌}
+use Prim.Native.Nat.{ℕ, ◌+◌}
 use mathlib.Core.Path.{◌≡◌}
 use Rattle.model.specs.Indexed.{each}
 use Rattle.model.proofs.FormLaws.{formed}
@@ -16,20 +16,12 @@ use Rattle.counts.proofs.edges_count.Goals as goal
 use Rattle.counts.proofs.edges_count.Goals.{After-edge_count-a}
 
 -- with one edge more
-next : (c : After-edge_count-a invariant-loop decreases-loop)
-    → let l = c.before.before.before.loop in let m = c.before.before.before.before.args.m in
-    (o : ℕ) → Counted (each (l.i + 1) (λ j. clauses_of (edge_of one_hot_width m o j)))
-    (l.clauses + c.IsEdge-count.result.clauses) (l.words + c.IsEdge-count.result.words)
-next c o =
-    let p = c.before.before.before in
-    counted_each_more _ (p.loop.invariant.2 o) (edge_counted p.before.requires p.loop.i (omega arith) c.IsEdge-count.ensures o)
+next : (c : After-edge_count-a) → let l = c.loop-i in let r = c.edge_count-a.result in
+    (o : ℕ) → Counted (each (l.i + 1) (λ j. clauses_of (edge_of one_hot_width c.args.m o j))) (l.clauses + r.clauses) (l.words + r.words)
+next c o = counted_each_more _ (c.loop-i.invariant.2 o) (edge_counted c.requires c.loop-i.i (omega arith) c.edge_count-a.ensures o)
 
-most : (c : After-edge_count-a invariant-loop decreases-loop)
-    → let m = c.before.before.before.before.args.m in
-    Most (each (c.before.before.before.loop.i + 1) (λ j. clauses_of (edge_of one_hot_width m 0 j))) 12352 45248
-most c =
-    let p = c.before.before.before in
-    edges_most p.before.args.m p.before.requires.formed 0 (p.loop.i + 1) (omega arith)
+most : (c : After-edge_count-a) → Most (each (c.loop-i.i + 1) (λ j. clauses_of (edge_of one_hot_width c.args.m 0 j))) 12352 45248
+most c = edges_most c.args.m c.requires.formed 0 (c.loop-i.i + 1) (omega arith)
 
 pub loop-i-init : goal.loop-i-init
 loop-i-init c = (search rules, search rules, λ o. counted_each_none _)
@@ -44,13 +36,17 @@ pub edge_count-a-requires : goal.edge_count-a-requires
 edge_count-a-requires c = known_bounded c.requires
 
 pub overflow_add-clauses : goal.overflow_add-clauses
-overflow_add-clauses c = omega (arith, clauses_le (next c.before 0) (most c.before))
+overflow_add-clauses c =
+    let k = (goal.at.overflow_add-clauses c).After-edge_count-a in
+    omega (arith, clauses_le (next k 0) (most k))
 
 pub overflow_add-words : goal.overflow_add-words
-overflow_add-words c = omega (arith, words_le (next c.before.before 0) (most c.before.before))
+overflow_add-words c =
+    let k = (goal.at.overflow_add-words c).After-edge_count-a in
+    omega (arith, words_le (next k 0) (most k))
 
 pub loop-i-preserved : goal.loop-i-preserved
-loop-i-preserved c = (search rules, search rules, next c.before.before)
+loop-i-preserved c = (search rules, search rules, next (goal.at.loop-i-preserved c).After-edge_count-a)
 
 pub returns : goal.returns
 returns c =

@@ -1,6 +1,6 @@
 -- invariants_count: location after location.
 use native.Mathlib.Omega.{arith}
-use Prim.Native.Nat.{ℕ, ◌+◌, ◌-◌}
+use Prim.Native.Nat.{ℕ, ◌+◌}
 use mathlib.Core.Path.{◌≡◌}
 use Rattle.model.specs.Indexed.{each}
 use Rattle.model.proofs.FormLaws.{formed}
@@ -16,20 +16,12 @@ use Rattle.counts.proofs.invariants_count.Goals as goal
 use Rattle.counts.proofs.invariants_count.Goals.{After-atoms_count-a}
 
 -- with one location more
-next : (c : After-atoms_count-a invariant-loop decreases-loop)
-    → let l = c.before.before.before.before.loop in let m = c.before.before.before.before.before.args.m in
-    (o : ℕ) → Counted (each (l.l + 1) (λ j. clauses_of (invariant_of one_hot_width m o j)))
-    (l.clauses + c.atoms-count.result.clauses) (l.words + c.atoms-count.result.words)
-next c o =
-    let p = c.before.before.before.before in
-    counted_each_more _ (p.loop.invariant.2 o) (location_counted p.before.requires p.loop.l (omega arith) c.atoms-count.ensures o)
+next : (c : After-atoms_count-a) → let l = c.loop-l in let r = c.atoms_count-a.result in
+    (o : ℕ) → Counted (each (l.l + 1) (λ j. clauses_of (invariant_of one_hot_width c.args.m o j))) (l.clauses + r.clauses) (l.words + r.words)
+next c o = counted_each_more _ (c.loop-l.invariant.2 o) (location_counted c.requires c.loop-l.l (omega arith) c.atoms_count-a.ensures o)
 
-most : (c : After-atoms_count-a invariant-loop decreases-loop)
-    → let m = c.before.before.before.before.before.args.m in
-    Most (each (c.before.before.before.before.loop.l + 1) (λ j. clauses_of (invariant_of one_hot_width m 0 j))) 2048 6144
-most c =
-    let p = c.before.before.before.before in
-    invariants_most p.before.args.m p.before.requires.formed 0 (p.loop.l + 1) (omega arith)
+most : (c : After-atoms_count-a) → Most (each (c.loop-l.l + 1) (λ j. clauses_of (invariant_of one_hot_width c.args.m 0 j))) 2048 6144
+most c = invariants_most c.args.m c.requires.formed 0 (c.loop-l.l + 1) (omega arith)
 
 pub loop-l-init : goal.loop-l-init
 loop-l-init c = (search rules, search rules, λ o. counted_each_none _)
@@ -44,13 +36,17 @@ pub atoms_count-a-requires : goal.atoms_count-a-requires
 atoms_count-a-requires c = known_bounded c.requires
 
 pub overflow_add-clauses : goal.overflow_add-clauses
-overflow_add-clauses c = omega (arith, clauses_le (next c.before 0) (most c.before))
+overflow_add-clauses c =
+    let k = (goal.at.overflow_add-clauses c).After-atoms_count-a in
+    omega (arith, clauses_le (next k 0) (most k))
 
 pub overflow_add-words : goal.overflow_add-words
-overflow_add-words c = omega (arith, words_le (next c.before.before 0) (most c.before.before))
+overflow_add-words c =
+    let k = (goal.at.overflow_add-words c).After-atoms_count-a in
+    omega (arith, words_le (next k 0) (most k))
 
 pub loop-l-preserved : goal.loop-l-preserved
-loop-l-preserved c = (search rules, search rules, next c.before.before)
+loop-l-preserved c = (search rules, search rules, next (goal.at.loop-l-preserved c).After-atoms_count-a)
 
 pub returns : goal.returns
 returns c =

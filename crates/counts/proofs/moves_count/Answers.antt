@@ -13,8 +13,8 @@ use Rattle.counts.proofs.PieceBounds.{moves_most}
 use Rattle.counts.proofs.moves_count.Goals as goal
 use Rattle.counts.proofs.moves_count.Goals.{After-edges_count-e, Start}
 
-delays-le : (c : Start) → (c.args.b.top + 1) * c.args.b.state ≤ 8704
-delays-le c =
+delays_le : (c : Start) → (c.args.b.top + 1) * c.args.b.state ≤ 8704
+delays_le c =
     let h = known_bounded c.requires in
     let t : c.args.b.top + 1 ≤ 32 = omega (arith, h.top_le) in
     mul-le-mul t h.state_le
@@ -39,22 +39,36 @@ pub group_count-c-requires : goal.group_count-c-requires
 group_count-c-requires c = (known_bounded c.requires).choices_le
 
 pub overflow_mul-delays : goal.overflow_mul-delays
-overflow_mul-delays c = omega (arith, delays-le c.before.before.before)
+overflow_mul-delays c =
+    let k = (goal.at.overflow_mul-delays c).Start in
+    omega (arith, delays_le k)
 
 pub overflow_add-result : goal.overflow_add-result
-overflow_add-result c = omega (arith, clauses_le (counted c.before 0) (most c.before))
+overflow_add-result c =
+    let k = (goal.at.overflow_add-result c).After-edges_count-e in
+    omega (arith, clauses_le (counted k 0) (most k))
 
 pub overflow_add-result-2 : goal.overflow_add-result-2
-overflow_add-result-2 c = omega (arith, clauses_le (counted c.before.before 0) (most c.before.before))
+overflow_add-result-2 c =
+    let k = (goal.at.overflow_add-result-2 c).After-edges_count-e in
+    omega (arith, clauses_le (counted k 0) (most k))
 
 pub overflow_mul-result : goal.overflow_mul-result
-overflow_mul-result c = omega (arith, delays-le c.before.before.before.before.before.before)
+overflow_mul-result c =
+    let k = (goal.at.overflow_mul-result c).Start in
+    omega (arith, delays_le k)
 
 pub overflow_add-result-3 : goal.overflow_add-result-3
-overflow_add-result-3 c = omega (arith, words_le (counted c.before.before.before 0) (most c.before.before.before))
+overflow_add-result-3 c =
+    let k = (goal.at.overflow_add-result-3 c).After-edges_count-e in
+    omega (arith, words_le (counted k 0) (most k))
 
 pub overflow_add-result-4 : goal.overflow_add-result-4
-overflow_add-result-4 c = omega (arith, words_le (counted c.before.before.before.before 0) (most c.before.before.before.before))
+overflow_add-result-4 c =
+    let k = (goal.at.overflow_add-result-4 c).After-edges_count-e in
+    omega (arith, words_le (counted k 0) (most k))
 
 pub returns : goal.returns
-returns c = counted c.before.before.before.before
+returns c =
+    let k = (goal.at.returns c).After-edges_count-e in
+    counted k

@@ -21,11 +21,15 @@ groups_count-g-requires c = known_bounded c.requires
 
 pub overflow_add-result : goal.overflow_add-result
 overflow_add-result c =
-    omega (arith, clauses_le (counted c.before.before 0) (state_most c.args.m c.requires.formed 0))
+    let k = (goal.at.overflow_add-result c).After-invariants_count-i in
+    omega (arith, clauses_le (counted k 0) (state_most c.args.m c.requires.formed 0))
 
 pub overflow_add-result-2 : goal.overflow_add-result-2
 overflow_add-result-2 c =
-    omega (arith, words_le (counted c.before.before.before.before 0) (state_most c.args.m c.requires.formed 0))
+    let k = (goal.at.overflow_add-result-2 c).After-invariants_count-i in
+    omega (arith, words_le (counted k 0) (state_most c.args.m c.requires.formed 0))
 
 pub returns : goal.returns
-returns c = counted c.before.before.before.before
+returns c =
+    let k = (goal.at.returns c).After-invariants_count-i in
+    counted k

@@ -1,11 +1,9 @@
 -- `clocks_in_group`: so far every clock was within its group; the first that is not makes the answer false.
 use borrow.Author.Rules.{rules}
 use Rattle.model.proofs.IndexedLaws.{all_none, all_stops, all_goes}
-use Rattle.model.specs.Form.{slot_in_group, clocks_in_group}
+use Rattle.model.specs.Form.{clocks_in_group}
 use native.Mathlib.Omega.{arith}
-use mathlib.Core.Bool.{true}
 use mathlib.Core.Path.{◌≡◌, sym}
-use Prim.Native.Nat.{◌-◌}
 use Rattle.form.proofs.clocks_in_group.Goals as goal
 
 pub loop-i-init : goal.loop-i-init

@@ -1,11 +1,9 @@
 -- `counters_formed`: so far every slot was well formed; the first that is not makes the answer false.
 use borrow.Author.Rules.{rules}
-use Prim.Native.Nat.{◌-◌}
 use mathlib.Core.Path.{◌≡◌, sym}
-use mathlib.Core.Bool.{true}
 use native.Mathlib.Omega.{arith}
 use Rattle.model.proofs.IndexedLaws.{all_none, all_stops, all_goes}
-use Rattle.model.specs.Form.{counter_slot_formed, counters_formed}
+use Rattle.model.specs.Form.{counters_formed}
 use Rattle.form.proofs.counters_formed.Goals as goal
 
 pub loop-i-init : goal.loop-i-init

@@ -1,11 +1,9 @@
 -- `counters_in_group`: so far every counter was within its group; the first that is not makes the answer false.
 use borrow.Author.Rules.{rules}
 use Rattle.model.proofs.IndexedLaws.{all_none, all_stops, all_goes}
-use Rattle.model.specs.Form.{slot_in_group, counters_in_group}
+use Rattle.model.specs.Form.{counters_in_group}
 use native.Mathlib.Omega.{arith}
-use mathlib.Core.Bool.{true}
 use mathlib.Core.Path.{◌≡◌, sym}
-use Prim.Native.Nat.{◌-◌}
 use Rattle.form.proofs.counters_in_group.Goals as goal
 
 pub loop-i-init : goal.loop-i-init

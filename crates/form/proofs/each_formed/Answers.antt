@@ -1,11 +1,9 @@
 -- `each_formed`: so far every atom was well formed; the first that is not makes the answer false.
 use borrow.Author.Rules.{rules}
-use Prim.Native.Nat.{◌-◌}
 use mathlib.Core.Path.{◌≡◌, sym}
-use mathlib.Core.Bool.{true}
 use native.Mathlib.Omega.{arith}
 use Rattle.model.proofs.IndexedLaws.{all_none, all_stops, all_goes}
-use Rattle.model.specs.Form.{atom_formed, each_formed}
+use Rattle.model.specs.Form.{each_formed}
 use Rattle.form.proofs.each_formed.Goals as goal
 
 pub loop-k-init : goal.loop-k-init

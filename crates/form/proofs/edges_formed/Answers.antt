@@ -1,11 +1,9 @@
 -- `edges_formed`: so far every edge slot was well formed; the first that is not makes the answer false.
 use borrow.Author.Rules.{rules}
-use Rattle.model.specs.Form.{edge_slot_formed, edges_formed}
+use Rattle.model.specs.Form.{edges_formed}
 use Rattle.model.proofs.IndexedLaws.{all_none, all_stops, all_goes}
 use native.Mathlib.Omega.{arith}
-use mathlib.Core.Bool.{true}
 use mathlib.Core.Path.{◌≡◌, sym}
-use Prim.Native.Nat.{◌-◌}
 use Rattle.form.proofs.edges_formed.Goals as goal
 
 pub loop-e-init : goal.loop-e-init

@@ -1,11 +1,9 @@
 -- `filled_from_first`: so far no atom stood after a blank slot; the first that does makes the answer false.
 use borrow.Author.Rules.{rules}
-use Prim.Native.Nat.{◌-◌}
 use mathlib.Core.Path.{◌≡◌, sym}
-use mathlib.Core.Bool.{true}
 use native.Mathlib.Omega.{arith}
 use Rattle.model.proofs.IndexedLaws.{all_none, all_stops, all_goes}
-use Rattle.model.specs.Form.{no_gap, filled_from_first}
+use Rattle.model.specs.Form.{filled_from_first}
 use Rattle.form.proofs.filled_from_first.Goals as goal
 
 pub loop-k-init : goal.loop-k-init

@@ -1,11 +1,9 @@
 -- `invariants_formed`: so far every invariant slot was well formed; the first that is not makes the answer false.
 use borrow.Author.Rules.{rules}
-use Rattle.model.specs.Form.{invariant_slot_formed, invariants_formed}
+use Rattle.model.specs.Form.{invariants_formed}
 use Rattle.model.proofs.IndexedLaws.{all_none, all_stops, all_goes}
 use native.Mathlib.Omega.{arith}
-use mathlib.Core.Bool.{true}
 use mathlib.Core.Path.{◌≡◌, sym}
-use Prim.Native.Nat.{◌-◌}
 use Rattle.form.proofs.invariants_formed.Goals as goal
 
 pub loop-l-init : goal.loop-l-init

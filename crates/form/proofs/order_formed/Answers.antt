@@ -1,10 +1,9 @@
 -- `order_formed`: so far every slot of the order was well formed; the first that is not makes the answer false.
 use Rattle.model.proofs.IndexedLaws.{all_none, all_stops, all_goes}
-use Rattle.model.specs.Form.{order_slot_formed, order_formed}
+use Rattle.model.specs.Form.{order_formed}
 use borrow.Author.Rules.{rules}
 use native.Mathlib.Omega.{arith}
 use mathlib.Core.Path.{◌≡◌, sym}
-use Prim.Native.Nat.{◌-◌}
 use Rattle.form.proofs.order_formed.Goals as goal
 
 pub loop-k-init : goal.loop-k-init

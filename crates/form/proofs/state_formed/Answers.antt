@@ -11,7 +11,8 @@ pub returns-then-s-m : goal.returns-then-s-m
 returns-then-s-m c = state_is _ _ (le-ltb _ _ c.if-s-m.true) refl refl
 
 pub returns-then-not-counters_in_group : goal.returns-then-not-counters_in_group
-returns-then-not-counters_in_group c = state_is _ _ (lt-ltb _ _ c.if-s-m.false) (told_false c.counters_in_group.ensures c.if-not-counters_in_group.true-raw) refl
+returns-then-not-counters_in_group c =
+    state_is _ _ (lt-ltb _ _ c.if-s-m.false) (told_false c.counters_in_group.ensures c.if-not-counters_in_group.true-raw) refl
 
 pub returns : goal.returns
 returns c =

@@ -1,11 +1,9 @@
 -- `updates_formed`: so far every update slot was well formed; the first that is not makes the answer false.
 use borrow.Author.Rules.{rules}
-use Prim.Native.Nat.{◌-◌}
 use mathlib.Core.Path.{◌≡◌, sym}
-use mathlib.Core.Bool.{true}
 use native.Mathlib.Omega.{arith}
 use Rattle.model.proofs.IndexedLaws.{all_none, all_stops, all_goes}
-use Rattle.model.specs.Form.{update_slot_formed, updates_formed}
+use Rattle.model.specs.Form.{updates_formed}
 use Rattle.form.proofs.updates_formed.Goals as goal
 
 pub loop-i-init : goal.loop-i-init

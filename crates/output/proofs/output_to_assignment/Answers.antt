@@ -12,7 +12,7 @@ returns-then-outcome-eq10 c =
     let old = args.assignment.now in
     let told = c.answer-a.ensures ∙ report_is (length old) text c.read_output-r.ensures.0 in
     let outcome = sym (ap (λ (r : OutputReport). r.outcome) told) ∙ sym c.outcome.ensures ∙ c.if-outcome-eq10.true in
-    (told, c.write.ensures ∙ left_written text old outcome)
+    record { result_value = told; assignment_after = c.write.ensures ∙ left_written text old outcome }
 
 pub returns-else-outcome-eq10 : goal.returns-else-outcome-eq10
 returns-else-outcome-eq10 c =
@@ -21,4 +21,7 @@ returns-else-outcome-eq10 c =
     let old = args.assignment.now in
     let told = c.answer-a.ensures ∙ report_is (length old) text c.read_output-r.ensures.0 in
     let outcome = ap (λ (r : OutputReport). r.outcome) told in
-    (told, left_kept text old (λ h. c.if-outcome-eq10.false (c.outcome.ensures ∙ outcome ∙ h)))
+    record {
+      result_value = told;
+      assignment_after = left_kept text old (λ h. c.if-outcome-eq10.false (c.outcome.ensures ∙ outcome ∙ h));
+    }

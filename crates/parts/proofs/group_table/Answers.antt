@@ -9,7 +9,7 @@ use Rattle.model.proofs.IndexedLaws.{list_none}
 use Rattle.model.specs.Automaton.{group_size}
 use Rattle.model.specs.Indexed.{list_below}
 use lib.ListN.{length-set}
-use Prim.Native.Nat.{ℕ, ◌+◌, ◌-◌}
+use Prim.Native.Nat.{ℕ, ◌+◌}
 use mathlib.Core.Path.{◌≡◌, refl, sym, ◌∙◌, ap}
 use native.Mathlib.Omega.{arith}
 use Rattle.parts.proofs.group_table.Goals as goal

@@ -11,8 +11,10 @@ use Rattle.parts.proofs.group_table.Given as goal
 
 abbrev pub invariant-loop-g : goal.invariant-loop-g
 invariant-loop-g l =
-    (l.g ≤ 9) × (length l.first ≡ 9) × (length l.size ≡ 9) × (l.top ≡ ceiling l.m) × (l.sum ≤ l.g * 32) × (l.sum ≡ offset one_hot_width l.m (component_at l.m l.g))
-    × (take l.g l.first ≡ list_below (λ j. offset one_hot_width l.m (component_at l.m j)) l.g) × (take l.g l.size ≡ list_below (λ j. group_size l.m (component_at l.m j)) l.g)
+    (l.g ≤ 9) × (length l.first ≡ 9) × (length l.size ≡ 9) × (l.top ≡ ceiling l.m) × (l.sum ≤ l.g * 32)
+    × (l.sum ≡ offset one_hot_width l.m (component_at l.m l.g))
+    × (take l.g l.first ≡ list_below (λ j. offset one_hot_width l.m (component_at l.m j)) l.g)
+    × (take l.g l.size ≡ list_below (λ j. group_size l.m (component_at l.m j)) l.g)
 
 abbrev pub decreases-loop-g : goal.decreases-loop-g
 decreases-loop-g l = 9 - l.g

@@ -2,7 +2,6 @@
 use Rattle.refutation.proofs.Laws.{within_next, within_fails, within_end}
 use mathlib.Core.Path.{refl, sym, ◌∙◌}
 use native.Mathlib.Omega.{arith}
-use Prim.Native.Nat.{◌-◌}
 use Rattle.refutation.proofs.all_within.Goals as goal
 
 pub loop-i-init : goal.loop-i-init

@@ -1,7 +1,6 @@
 -- `clear`: the marks before i are 0.
 use Rattle.refutation.proofs.Laws.{zeros_more, zeros_all}
 use lib.ListN.{length-set}
-use Prim.Native.Nat.{◌-◌}
 use native.Mathlib.Omega.{arith}
 use mathlib.Core.Path.{refl, ◌∙◌}
 use Rattle.refutation.proofs.clear.Goals as goal

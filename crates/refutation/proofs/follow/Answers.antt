@@ -1,12 +1,13 @@
 -- `follow`: what the hints say from the first lemma equals what the rest of them says from here (`Following`), one law for each way through a turn.
-use Rattle.refutation.proofs.Laws.{following_first, turn_late, turn_before, turn_more, turn-done, turn-ends, turn-next, turn-only}
+use Rattle.refutation.proofs.Laws.{following_first, turn_late, turn_before, turn_more, turn_done, turn_ends, turn_next, turn_only}
 use Rattle.refutation.proofs.Laws.{turn_last, opposite_below}
 use Rattle.refutation.proofs.Sound.{two}
 use Rattle.refutation.specs.Marks.{Below}
 use borrow.Author.Rules.{rules}
-use mathlib.Core.Path.{refl, sym, ◌∙◌, subst}
+use mathlib.Core.Path.{refl, sym, ap, ◌∙◌, subst}
+use mathlib.Core.Bool.{not}
 use native.Mathlib.Omega.{arith}
-use Prim.Native.Nat.{◌<◌, ◌-◌}
+use Prim.Native.Nat.{◌<◌}
 use Rattle.refutation.proofs.follow.Goals as goal
 
 pub take-end-requires : goal.take-end-requires
@@ -36,7 +37,7 @@ pub returns-then-not-begins : goal.returns-then-not-begins
 returns-then-not-begins c =
     let loop = c.loop-j in
     let turn = c.loop-j-test in
-    turn_late _ _ _ _ _ _ _ _ _ _ loop.invariant turn.true refl _ c.begins.ensures c.if-not-begins.true-raw
+    turn_late _ _ _ _ _ _ _ _ _ _ loop.invariant turn.true refl _ c.begins.ensures (ap not c.if-not-begins.true)
 
 pub left-only-requires : goal.left-only-requires
 left-only-requires c =
@@ -48,7 +49,7 @@ left-only-requires c =
     let args = c.args in
     let v = loop.invariant in
     let all = sym (v.long ∙ take.ensures.long ∙ pre.2) in (
-      omega (arith, v.in_words, turn_before _ _ _ _ _ _ _ _ _ _ v turn.true refl _ begins.ensures c.if-not-begins.false-raw),
+      omega (arith, v.in_words, turn_before _ _ _ _ _ _ _ _ _ _ v turn.true refl _ begins.ensures (ap not c.if-not-begins.false)),
       subst (Below args.words.now) all pre.1,
     )
 
@@ -63,7 +64,7 @@ returns-then-only-eq1 c =
     let loop = c.loop-j in
     let turn = c.loop-j-test in
     let begins = c.begins in
-    turn_more _ _ _ _ _ _ _ _ _ _ loop.invariant turn.true refl _ begins.ensures c.if-not-begins.false-raw _ c.left-only.ensures.0 c.if-only-eq1.true
+    turn_more _ _ _ _ _ _ _ _ _ _ loop.invariant turn.true refl _ begins.ensures (ap not c.if-not-begins.false) _ c.left-only.ensures.0 c.if-only-eq1.true
 
 pub shape_of-marks-then-end-at : goal.shape_of-marks-then-end-at
 shape_of-marks-then-end-at c =
@@ -77,7 +78,7 @@ returns-then-end-at c =
     let turn = c.loop-j-test in
     let begins = c.begins in
     let at_left = c.left-only in
-    turn-done _ _ _ _ _ _ _ _ _ _ loop.invariant turn.true refl _ begins.ensures c.if-not-begins.false-raw _ at_left.ensures.0 c.if-only-eq0.true
+    turn_done _ _ _ _ _ _ _ _ _ _ loop.invariant turn.true refl _ begins.ensures (ap not c.if-not-begins.false) _ at_left.ensures.0 c.if-only-eq0.true
     c.if-end-at.true
 
 pub shape_of-marks-then-end-words : goal.shape_of-marks-then-end-words
@@ -93,7 +94,7 @@ returns-then-end-words c =
     let begins = c.begins in
     let at_left = c.left-only in
     let if3 = c.if-only-eq0 in
-    turn-ends _ _ _ _ _ _ _ _ _ _ loop.invariant turn.true refl _ begins.ensures c.if-not-begins.false-raw _ at_left.ensures.0 if3.true
+    turn_ends _ _ _ _ _ _ _ _ _ _ loop.invariant turn.true refl _ begins.ensures (ap not c.if-not-begins.false) _ at_left.ensures.0 if3.true
     c.if-end-at.false (omega arith)
 
 pub shape_of-marks-then-at-words : goal.shape_of-marks-then-at-words
@@ -110,7 +111,7 @@ returns-then-at-words c =
     let at_left = c.left-only in
     let if3 = c.if-only-eq0 in
     let if4 = c.if-end-at in
-    turn-ends _ _ _ _ _ _ _ _ _ _ loop.invariant turn.true refl _ begins.ensures c.if-not-begins.false-raw _ at_left.ensures.0 if3.true
+    turn_ends _ _ _ _ _ _ _ _ _ _ loop.invariant turn.true refl _ begins.ensures (ap not c.if-not-begins.false) _ at_left.ensures.0 if3.true
     if4.false c.if-at-words.true
 
 pub next_stamp-stamp-requires : goal.next_stamp-stamp-requires
@@ -121,11 +122,11 @@ next_stamp-stamp-requires c =
 pub take-end-requires-then-only-eq0 : goal.take-end-requires-then-only-eq0
 take-end-requires-then-only-eq0 c =
     let pre = c.requires in
-    let next-stamp = c.next_stamp-stamp in
+    let stamping = c.next_stamp-stamp in
     let loop = c.loop-j in
     let take = c.take-end in
     let args = c.args in
-    let stamped = next-stamp.ensures in
+    let stamped = stamping.ensures in
     let all = sym (stamped.0 ∙ loop.invariant.long ∙ take.ensures.long ∙ pre.2) in
     (search rules, subst (Below args.words.now) all pre.1, stamped.1)
 
@@ -137,10 +138,10 @@ loop-j-preserved-then-only-eq0 c =
     let at_left = c.left-only in
     let if4 = c.if-end-at in
     let if6 = c.if-at-words in
-    let next-stamp = c.next_stamp-stamp in
+    let stamping = c.next_stamp-stamp in
     let take2 = c.take-end-then-only-eq0 in
-    turn-next _ _ _ _ _ _ _ _ _ _ loop.invariant turn.true refl _ begins.ensures c.if-not-begins.false-raw _ at_left.ensures.0 c.if-only-eq0.true
-    if4.false if6.false _ _ next-stamp.ensures.0 _ _ take2.ensures
+    turn_next _ _ _ _ _ _ _ _ _ _ loop.invariant turn.true refl _ begins.ensures (ap not c.if-not-begins.false) _ at_left.ensures.0 c.if-only-eq0.true
+    if4.false if6.false _ _ stamping.ensures.0 _ _ take2.ensures
 
 pub opposite-other-requires : goal.opposite-other-requires
 opposite-other-requires c =
@@ -176,7 +177,7 @@ loop-j-preserved c =
     let all = v.long ∙ take.ensures.long ∙ pre.2 in
     let r = at_left.result in
     let small : r < 43554 = omega (arith, at_left.ensures.1 (two _ if2.false c.if-only-eq0.false), all) in
-    turn-only _ _ _ _ _ _ _ _ _ _ v turn.true refl _ begins.ensures c.if-not-begins.false-raw _ at_left.ensures.0 if2.false c.if-only-eq0.false _
+    turn_only _ _ _ _ _ _ _ _ _ _ v turn.true refl _ begins.ensures (ap not c.if-not-begins.false) _ at_left.ensures.0 if2.false c.if-only-eq0.false _
     c.opposite-other.ensures
     (omega (arith, all, c.opposite-other.ensures, opposite_below r small))
 

@@ -1,6 +1,5 @@
 -- `left`: what the clause leaves from its first word equals what its rest leaves beside `only`.
 use borrow.Author.Tests.{eq-eqb, ne_eqb}
-use Prim.Native.Nat.{◌-◌}
 use native.Mathlib.Omega.{arith}
 use mathlib.Core.Path.{refl, sym, ◌∙◌}
 use Rattle.refutation.proofs.Laws.{left_end, left_closed, left_skip, left_first, left_again, left_clash}

@@ -1,6 +1,6 @@
 -- `take`: the stamped literals are those of the words so far, and the rest of the clause adds the others.
 use lib.ListN.{length, length-set}
-use Prim.Native.Nat.{ℕ, ◌≤◌, ◌<◌, ◌-◌}
+use Prim.Native.Nat.{ℕ, ◌≤◌, ◌<◌}
 use native.Mathlib.Omega.{arith}
 use mathlib.Core.List.{List, [], ◌∷◌}
 use mathlib.Core.Path.{refl, sym, ◌∙◌, subst}

@@ -34,8 +34,9 @@ use Rattle.text.specs.lines.Lines.{from_line, to_line, label_line, when_line, se
 use Rattle.text.specs.lines.Sequence.{in_turn, read_head, read_counters, read_invariants, read_edge, read_edges, read_lines}
 use Rattle.text.specs.Text.{ReadReport, read_refused, read_accepted, read_ended, read_report}
 use Rattle.text.proofs.Laws.Keeping.{Good, line_keeps, turns_keep}
-use Rattle.text.proofs.Laws.Partial.{Partial, whole, with_locations_lem, with_initial_lem, with_target_lem, with_clocks_lem, with_vars_lem, with_used_lem, with_counter_lem}
-use Rattle.text.proofs.Laws.Partial.{with_invariant_lem, with_count, with_source_lem, with_edge_target_lem, with_label_lem, with_guard_lem, with_updates_lem, with_resets_lem}
+use Rattle.text.proofs.Laws.Partial.{Partial, whole, with_locations_lem, with_initial_lem, with_target_lem, with_clocks_lem, with_vars_lem, with_used_lem}
+use Rattle.text.proofs.Laws.Partial.{with_counter_lem, with_invariant_lem, with_count, with_source_lem, with_edge_target_lem, with_label_lem, with_guard_lem}
+use Rattle.text.proofs.Laws.Partial.{with_updates_lem, with_resets_lem}
 
 -- ---- the head
 head_keeps : (t : List ℕ) → Good (Partial 0 0 0) (read_head (unread t))
@@ -198,8 +199,8 @@ refused_blank t = go (ltb 8192 (length t)) (eqb (read_lines t).number 0) (ltb 0 
 
 -- so every answer holds a well-formed record
 pub blank_formed : T (well_formed blank_model)
-unfolding blank_model well_formed head_formed counters_formed invariants_formed edges_formed edge_formed atoms_formed each_formed filled_from_first updates_formed
-    order_formed listed resets_formed all_below sum_below
+unfolding blank_model well_formed head_formed counters_formed invariants_formed edges_formed edge_formed atoms_formed each_formed filled_from_first
+    updates_formed order_formed listed resets_formed all_below sum_below
 blank_formed = tt
 
 pub answer_formed : (t : List ℕ) → T (well_formed (read_report t).model)

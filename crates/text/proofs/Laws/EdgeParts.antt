@@ -19,7 +19,8 @@ use Rattle.model.specs.declared.Edge.{Edge}
 use Rattle.model.specs.Indexed.{all_below}
 use Rattle.model.specs.Record.{blank_update, blank_reset, atom_at}
 use Rattle.model.specs.Automaton.{is_keep}
-use Rattle.model.specs.Form.{is_not_equal, atom_formed, update_formed, clock_update_formed, is_unchanged, reset_slot_formed, each_formed, filled_from_first, atoms_formed}
+use Rattle.model.specs.Form.{is_not_equal, atom_formed, update_formed, clock_update_formed, is_unchanged, reset_slot_formed, each_formed, filled_from_first}
+use Rattle.model.specs.Form.{atoms_formed}
 use Rattle.model.specs.Form.{update_slot_formed, updates_formed, order_formed, resets_formed, edge_formed}
 use Rattle.model.proofs.IndexedLaws.{and_T, all_below_lem}
 

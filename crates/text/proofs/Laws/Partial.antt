@@ -16,7 +16,8 @@ use Rattle.model.specs.declared.Edge.{Edge}
 use Rattle.model.specs.declared.Model.{Model}
 use Rattle.model.specs.Indexed.{all_below, sum_below}
 use Rattle.model.specs.Record.{blank_counter, blank_invariant, blank_edge, blank_model, past_invariant, past_edge, edge_at}
-use Rattle.model.specs.Form.{counter_formed, is_blank_counter, counters_formed, each_formed, filled_from_first, atoms_formed, invariant_slot_formed, invariants_formed}
+use Rattle.model.specs.Form.{counter_formed, is_blank_counter, counters_formed, each_formed, filled_from_first, atoms_formed, invariant_slot_formed}
+use Rattle.model.specs.Form.{invariants_formed}
 use Rattle.model.specs.Automaton.{listed}
 use Rattle.model.specs.Form.{updates_formed, order_formed, resets_formed, edge_formed, is_blank_edge, edge_slot_formed, edges_formed, head_formed, well_formed}
 use Rattle.model.proofs.IndexedLaws.{and_T, all_below_lem}

@@ -28,7 +28,8 @@ use Rattle.text.proofs.updates.OrderFormed.{counter_at, SetLine, set_line, slot_
 
 -- ---- the update that an item gives its counter
 -- items that do not set a counter leave its slot
-slot_left : (l : List SetRead) (slots : List UpdateSlot) (i : ℕ) → times_set i l ≡ 0 → get_or (foldl placed slots l) i blank_update ≡ get_or slots i blank_update
+slot_left : (l : List SetRead) (slots : List UpdateSlot) (i : ℕ) → times_set i l ≡ 0
+    → get_or (foldl placed slots l) i blank_update ≡ get_or slots i blank_update
 unfolding times_set
 slot_left [] slots i h = refl
 slot_left (a ∷ l) slots i h =

@@ -62,10 +62,13 @@ made_proper name (Number i) r c = valued_proper name i r c
 
 atom_proper : (l : List ℕ) → T (proper (atom_of l))
 unfolding atom_of
-atom_proper l = made_proper (get_or l 0 0) (leading (drop 1 l)) (relation_of (after_name l)) (number_of (drop (width (relation_of (after_name l))) (after_name l)))
+atom_proper l =
+    made_proper (get_or l 0 0) (leading (drop 1 l)) (relation_of (after_name l))
+    (number_of (drop (width (relation_of (after_name l))) (after_name l)))
 
 -- ---- an atom without faults is formed; one of an inv line also where no counter is declared
-atom_formed_lem : (clocks vars : ℕ) (a : AtomRead) → T (proper a) → is_outside a ≡ false → is_undeclared clocks vars a ≡ false → T (atom_formed clocks vars (atom_in a))
+atom_formed_lem : (clocks vars : ℕ) (a : AtomRead) → T (proper a) → is_outside a ≡ false → is_undeclared clocks vars a ≡ false
+    → T (atom_formed clocks vars (atom_in a))
 atom_formed_lem clocks vars Malformed p o u = tt
 atom_formed_lem clocks vars (ClockAtom x r c) p o u = rw (lt-ltb x clocks (leb-false clocks x u), le-leb c 30 (ltb-false 30 c o)) p
 atom_formed_lem clocks vars (CounterAtom v r c) p o u = rw (lt-ltb v vars (leb-false vars v u), le-leb c 31 (ltb-false 31 c o)) tt
@@ -100,7 +103,8 @@ no_gap_lem (a ∷ l) n zero m = rw (filled_in a (any_head is_malformed a l m)) t
 no_gap_lem (a ∷ l) n (suc k) m = no_gap_lem l n k (any_tail is_malformed a l m)
 
 module _ (clocks vars declared : ℕ) (item : List ℕ → AtomRead)
-    (formed : (l : List ℕ) → is_outside (item l) ≡ false → is_undeclared clocks vars (item l) ≡ false → T (atom_formed clocks declared (atom_in (item l)))) where
+    (formed : (l : List ℕ) → is_outside (item l) ≡ false → is_undeclared clocks vars (item l) ≡ false
+    → T (atom_formed clocks declared (atom_in (item l)))) where
   each_formed_lem : (l : List (List ℕ)) (n k : ℕ) → any_of is_outside (map item l) ≡ false → any_of (is_undeclared clocks vars) (map item l) ≡ false
       → T (atom_formed clocks declared (atom_at (filled_to n (map item l)) k))
   each_formed_lem [] n k o u = rw (blank_at n k) tt
@@ -115,7 +119,8 @@ module _ (clocks vars declared : ℕ) (item : List ℕ → AtomRead)
       let n = 4 - length (map item l) in
       let slots = filled_to n (map item l) in
       let each = (all_below_lem (λ k. atom_formed clocks declared (atom_at slots k)) 4).1 (λ k p. each_formed_lem l n k g.inside g.declared) in
-      let gapless = (all_below_lem (λ k. no_gap (atom_at slots k) (atom_at slots (k + 1))) 3).1 (λ k p. rw (add-one k) (no_gap_lem (map item l) n k g.well_formed_lem)) in
+      let gapless = (all_below_lem (λ k. no_gap (atom_at slots k) (atom_at slots (k + 1))) 3).1
+      (λ k p. rw (add-one k) (no_gap_lem (map item l) n k g.well_formed_lem)) in
       (and_T (each_formed clocks declared slots) (filled_from_first slots)).1 (each, gapless)
 
 pub when_formed :
@@ -123,7 +128,8 @@ pub when_formed :
 unfolding when_items
 when_formed clocks vars v = slots_formed clocks vars vars (item_of true) (λ l. atom_formed_lem clocks vars (atom_of l) (atom_proper l)) (items_of v)
 
-pub inv_formed : (clocks vars : ℕ) (v : List ℕ) → fault_number (atom_faults clocks vars (inv_items v)) ≡ 0 → T (atoms_formed clocks 0 (atom_slots (inv_items v)))
+pub inv_formed : (clocks vars : ℕ) (v : List ℕ) → fault_number (atom_faults clocks vars (inv_items v)) ≡ 0
+    → T (atoms_formed clocks 0 (atom_slots (inv_items v)))
 unfolding inv_items
 inv_formed clocks vars v =
     slots_formed clocks vars 0 (item_of false)

@@ -30,7 +30,8 @@ vars_line = read_line (ascii "vars=") (λ m v. number_faults 0 4 (number_of v)) 
 
 -- counter i
 unfoldable pub var_line : ℕ → Progress → Progress
-var_line i = read_line (ascii "var=") (λ m v. counter_faults (greatest_of v) (initial_of v)) (λ m v. with_counter m i (counter_in (greatest_of v) (initial_of v)))
+var_line i =
+    read_line (ascii "var=") (λ m v. counter_faults (greatest_of v) (initial_of v)) (λ m v. with_counter m i (counter_in (greatest_of v) (initial_of v)))
 
 -- the invariant of location l: up to 4 clock atoms
 unfoldable pub inv_line : ℕ → Progress → Progress

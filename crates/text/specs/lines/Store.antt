@@ -24,7 +24,8 @@ model_of l i t c v counters invariants u edges = record {
 }
 
 abbrev edge_of : ℕ → ℕ → ℕ → List AtomSlot → List UpdateSlot → List ℕ → List ClockSlot → Edge
-edge_of s t label guard updates order resets = record { source = s; target = t; label = label; guard = guard; updates = updates; order = order; resets = resets }
+edge_of s t label guard updates order resets =
+    record { source = s; target = t; label = label; guard = guard; updates = updates; order = order; resets = resets }
 
 -- ---- the numbers of the model
 unfoldable pub with_locations : Model → ℕ → Model

@@ -12,7 +12,8 @@ use Rattle.text.specs.updates.Sets.{counter_of, update_in}
 -- one item: its counter gets the new value, if that lies in the counter's range; the values that it reads are those that the counters show then
 abbrev pub after_item : List Counter → List ℕ → SetRead → Option (List ℕ)
 after_item counters vs a =
-    map (set vs (counter_of a)) (new_counter (λ w. get_or vs w 0) (get_or counters (counter_of a) blank_counter).greatest (get_or vs (counter_of a) 0) (update_in a))
+    map (set vs (counter_of a)) (new_counter (λ w. get_or vs w 0) (get_or counters (counter_of a) blank_counter).greatest
+    (get_or vs (counter_of a) 0) (update_in a))
 
 -- the next item, unless one before it left its range
 abbrev pub next_item : List Counter → Option (List ℕ) → SetRead → Option (List ℕ)

@@ -8,7 +8,8 @@ use Rattle.walk.proofs.walk_from.Given as goal
 
 abbrev pub invariant-loop-t : goal.invariant-loop-t
 invariant-loop-t l =
-    (l.t ≤ l.t-end) × (l.t-end ≡ length l.run) × (l.choices ≡ choiceCount l.m) × (l.top ≡ ceiling l.m) × (walk_steps l.m 1 l.initial.s l.run ≡ walk_steps l.m (l.t + 1) l.s (drop l.t l.run))
+    (l.t ≤ l.t-end) × (l.t-end ≡ length l.run) × (l.choices ≡ choiceCount l.m) × (l.top ≡ ceiling l.m)
+    × (walk_steps l.m 1 l.initial.s l.run ≡ walk_steps l.m (l.t + 1) l.s (drop l.t l.run))
 
 abbrev pub decreases-loop-t : goal.decreases-loop-t
 decreases-loop-t l = l.t-end - l.t

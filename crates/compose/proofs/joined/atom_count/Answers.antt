@@ -1,16 +1,15 @@
 -- `atom_count`: the loop has counted the first slots that hold an atom.
 use native.Mathlib.Omega.{arith}
 use borrow.Author.Rules.{rules}
-use borrow.Author.Tests.{not-true, not-false}
 use mathlib.Core.Bool.{Bool, true, false, cond}
-use mathlib.Core.Logic.{⊎_elim}
 use mathlib.Core.Path.{◌≡◌, sym, ◌∙◌}
-use Prim.Native.Nat.{ℕ, ◌-◌}
+use Prim.Native.Nat.{ℕ}
 use Rattle.model.proofs.IndexedLaws.{sum_none, sum_more}
 use Rattle.model.specs.Form.{is_blank}
 use Rattle.model.specs.Record.{atom_at}
 use Rattle.compose.specs.Joined.{atom_count}
 use Rattle.compose.proofs.joined.atom_count.Goals as goal
+use Rattle.compose.proofs.joined.atom_count.Goals.{then-not-is_blank, else-not-is_blank}
 
 there : {b : Bool} → b ≡ false → ◌≡◌ {A = ℕ} (cond b 0 1) 1
 there e = rw e
@@ -28,11 +27,11 @@ loop-k-preserved c =
     let blank = c.is_blank.ensures in
     let term = sum_more (λ i. cond (is_blank (atom_at atoms i)) 0 1) loop.k in (
       search rules,
-      ⊎_elim (λ w. omega (arith, w.1)) (λ w. omega (arith, w.1)) c.if-not-is_blank.branch,
-      ⊎_elim
-          (λ w. omega (arith, w.1, term, loop.invariant.2, there (sym blank ∙ not-true _ w.0.taken)))
-          (λ w. omega (arith, w.1, term, loop.invariant.2, none (sym blank ∙ not-false _ w.0.left)))
-          c.if-not-is_blank.branch,
+      elim c.if-not-is_blank.branch [ then-not-is_blank w ↦ omega arith | else-not-is_blank w ↦ omega arith ],
+      elim c.if-not-is_blank.branch [
+        | then-not-is_blank w ↦ omega (arith, term, loop.invariant.2, there (sym blank ∙ w.if-not-is_blank.true))
+        | else-not-is_blank w ↦ omega (arith, term, loop.invariant.2, none (sym blank ∙ w.if-not-is_blank.false))
+      ],
     )
 
 pub returns : goal.returns

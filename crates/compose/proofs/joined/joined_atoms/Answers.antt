@@ -1,25 +1,16 @@
 -- `joined_atoms`: the slots so far hold the first's atoms, then the second's shifted; the others are still the first's.
 use native.Mathlib.Omega.{arith}
 use borrow.Author.Rules.{rules}
-use mathlib.Core.List.{List}
-use mathlib.Core.Logic.{⊎_elim}
 use mathlib.Core.Path.{◌≡◌, ap, subst, ◌∙◌}
 use Prim.Native.Nat.{ℕ, ◌-◌}
 use Rattle.model.specs.Record.{blank_atom, atom_at}
 use Rattle.model.specs.Indexed.{list_below}
-use Rattle.model.specs.declared.AtomSlot.{AtomSlot}
 use Rattle.model.specs.declared.Atom.{Atom}
-use Rattle.compose.specs.Joined.{shifted_atom, joined_atoms}
-use Rattle.compose.proofs.JoinedLaws.{in_two, in_first, in_second, FilledTo, filled_none, stored, left, filled_all, each_at}
+use Rattle.compose.specs.Joined.{joined_atoms}
+use Rattle.compose.proofs.JoinedLaws.{in_first, in_second, FilledTo, filled_none, stored, left, filled_all, each_at}
+use Rattle.compose.proofs.joined.joined_atoms.Invariants.{rest, slot}
 use Rattle.compose.proofs.joined.joined_atoms.Goals as goal
-
--- the second's atoms, shifted
-abbrev rest : ℕ → ℕ → List AtomSlot → ℕ → Atom
-rest clocks vars second k = shifted_atom clocks vars (atom_at second k)
-
--- slot k, where the first has n atoms
-abbrev slot : ℕ → ℕ → List AtomSlot → List AtomSlot → ℕ → ℕ → AtomSlot
-slot clocks vars first second n k = record { atom = in_two n (atom_at first) (rest clocks vars second) k }
+use Rattle.compose.proofs.joined.joined_atoms.Goals.{then-k-n, else-k-n}
 
 pub loop-k-init : goal.loop-k-init
 loop-k-init c = (search rules, search rules, filled_none _ _ _)
@@ -36,13 +27,16 @@ loop-k-preserved c =
     let n = c.atom_count-n.result in
     let second = rest a.clocks a.vars a.second in
     let f = slot a.clocks a.vars a.first a.second n in
-    let next = ⊎_elim
-    (λ w. stored blank_atom f w.3 (omega arith) loop.invariant.1 loop.invariant.2
-    (ap (λ (x : Atom). record { atom = x }) (w.2.ensures ∙ in_second n (atom_at a.first) second loop.k w.0.taken)))
-    (λ w. left blank_atom f w.1 loop.invariant.1 loop.invariant.2
-    (ap (λ (x : Atom). record { atom = x }) (in_first n (atom_at a.first) second loop.k (omega (arith, w.0.left)))))
-    c.if-k-n.branch in
-    (search rules, next.0, next.1)
+    elim c.if-k-n.branch [
+      | then-k-n w ↦
+          let next = stored blank_atom f w.joined-is (omega arith) loop.invariant.1 loop.invariant.2
+          (ap (λ (x : Atom). record { atom = x }) (w.shifted_atom.ensures ∙ in_second n (atom_at a.first) second loop.k w.if-k-n.true)) in
+          (search rules, next.0, next.1)
+      | else-k-n w ↦
+          let next = left blank_atom f w.joined-is loop.invariant.1 loop.invariant.2
+          (ap (λ (x : Atom). record { atom = x }) (in_first n (atom_at a.first) second loop.k (omega arith))) in
+          (search rules, next.0, next.1)
+    ]
 
 pub returns : goal.returns
 unfolding joined_atoms

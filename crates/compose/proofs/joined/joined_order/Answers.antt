@@ -3,10 +3,9 @@ use native.Mathlib.Omega.{arith}
 use borrow.Author.Rules.{rules}
 use lib.ListN.{length-set}
 use mathlib.Core.Path.{◌≡◌, refl, sym}
-use Prim.Native.Nat.{◌-◌}
 use Rattle.model.proofs.Filled.{filled, whole}
 use Rattle.model.proofs.IndexedLaws.{list_none}
-use Rattle.compose.specs.Joined.{joined_place, joined_order}
+use Rattle.compose.specs.Joined.{joined_order}
 use Rattle.compose.proofs.joined.joined_order.Goals as goal
 
 pub loop-k-init : goal.loop-k-init

@@ -1,8 +1,6 @@
 -- `bears`: so far no edge bears the label; the first that does makes the answer true.
 use borrow.Author.Rules.{rules}
-use Prim.Native.Nat.{◌-◌}
 use mathlib.Core.Path.{◌≡◌}
-use mathlib.Core.Bool.{true}
 use native.Mathlib.Omega.{arith}
 use Rattle.model.proofs.IndexedLaws.{all_none}
 use Rattle.compose.proofs.Parts.{none_more, one_bears, none_bears}

@@ -1,6 +1,6 @@
 -- `first_alone`: the loop has added the moves of the locations so far.
 use borrow.Author.Rules.{rules}
-use Prim.Native.Nat.{ℕ, ◌-◌}
+use Prim.Native.Nat.{ℕ}
 use mathlib.Core.Path.{◌≡◌}
 use native.Mathlib.Omega.{arith}
 use Rattle.model.specs.Indexed.{list_below}

@@ -1,15 +1,13 @@
 -- `first_moves`: the loop has added the moves of the edges so far; an edge whose label is shared has none.
 use borrow.Author.Rules.{rules}
-use Prim.Native.Nat.{◌-◌}
-use mathlib.Core.Path.{◌≡◌, ◌∙◌}
-use mathlib.Core.Logic.{⊎_elim}
+use mathlib.Core.Path.{◌≡◌, sym, ◌∙◌}
 use native.Mathlib.Omega.{arith}
 use Rattle.model.specs.Indexed.{each}
-use Rattle.model.proofs.IndexedLaws.{told_false, told_true}
 use Rattle.compose.specs.Moves.{first_alone, no_moves}
 use Rattle.compose.proofs.Adding.{counted, each_start, each_turn, each_skip, first_here, first_none}
 use Rattle.compose.proofs.MoveCounts.{each_most, first_most}
 use Rattle.compose.proofs.moves.first_moves.Goals as goal
+use Rattle.compose.proofs.moves.first_moves.Goals.{then-not-shared, else-not-shared}
 
 pub loop-e-init : goal.loop-e-init
 loop-e-init c = (search rules, c.no_moves-moves.ensures ∙ each_start no_moves _)
@@ -29,11 +27,12 @@ loop-e-preserved c =
     let b = c.args.b in
     let told = c.shared.ensures in (
       search rules,
-      ⊎_elim
-          (λ w. each_turn no_moves (first_alone a b) loop.e _ loop.invariant.1 (w.2 ∙ w.1.ensures)
-          (first_here a b loop.e (told_false told w.0.taken)))
-          (λ w. each_skip no_moves (first_alone a b) loop.e loop.invariant.1 w.1 (first_none a b loop.e (told_true told w.0.left)))
-          c.if-not-shared.branch,
+      elim c.if-not-shared.branch [
+        | then-not-shared w ↦ each_turn no_moves (first_alone a b) loop.e _ loop.invariant.1 (w.moves-is ∙ w.first_alone-moves.ensures)
+            (first_here a b loop.e (sym told ∙ w.if-not-shared.true))
+        | else-not-shared w ↦ each_skip no_moves (first_alone a b) loop.e loop.invariant.1 w.moves-is
+            (first_none a b loop.e (sym told ∙ w.if-not-shared.false))
+      ],
     )
 
 pub returns : goal.returns

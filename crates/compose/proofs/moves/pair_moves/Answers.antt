@@ -1,6 +1,5 @@
 -- `pair_moves`: the loop has added the pairs of the edges so far.
 use borrow.Author.Rules.{rules}
-use Prim.Native.Nat.{◌-◌}
 use mathlib.Core.Path.{◌≡◌, refl}
 use native.Mathlib.Omega.{arith}
 use Rattle.model.specs.Indexed.{each}

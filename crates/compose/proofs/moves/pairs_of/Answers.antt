@@ -1,14 +1,13 @@
 -- `pairs_of`: the loop has added the pairs with the edges so far.
 use borrow.Author.Rules.{rules}
-use Prim.Native.Nat.{◌-◌}
 use mathlib.Core.Path.{◌≡◌, sym, ◌∙◌}
-use mathlib.Core.Logic.{⊎_elim}
 use native.Mathlib.Omega.{arith}
 use Rattle.model.specs.Indexed.{each}
 use Rattle.compose.specs.Moves.{pair_of, pairs_of}
 use Rattle.compose.proofs.Adding.{counted, each_start, each_turn, each_skip, pair_here, pair_none}
 use Rattle.compose.proofs.MoveCounts.{some_pairs_most}
 use Rattle.compose.proofs.moves.pairs_of.Goals as goal
+use Rattle.compose.proofs.moves.pairs_of.Goals.{then-paired, else-paired}
 
 pub loop-f-init : goal.loop-f-init
 loop-f-init c = (search rules, each_start _ _)
@@ -32,11 +31,12 @@ loop-f-preserved c =
     let pairs = pair_of entry.a entry.b entry.e in
     let told = sym c.paired.ensures in (
       search rules,
-      ⊎_elim
-          (λ w. each_turn entry.list pairs loop.f _ loop.invariant.1 (w.2 ∙ w.1.ensures)
-          (pair_here entry.a entry.b entry.e loop.f (told ∙ w.0.taken)))
-          (λ w. each_skip entry.list pairs loop.f loop.invariant.1 w.1 (pair_none entry.a entry.b entry.e loop.f (told ∙ w.0.left)))
-          c.if-paired.branch,
+      elim c.if-paired.branch [
+        | then-paired w ↦ each_turn entry.list pairs loop.f _ loop.invariant.1 (w.moves-is ∙ w.add-moves.ensures)
+            (pair_here entry.a entry.b entry.e loop.f (told ∙ w.if-paired.true))
+        | else-paired w ↦ each_skip entry.list pairs loop.f loop.invariant.1 w.moves-is
+            (pair_none entry.a entry.b entry.e loop.f (told ∙ w.if-paired.false))
+      ],
     )
 
 pub returns : goal.returns

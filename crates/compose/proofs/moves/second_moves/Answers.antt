@@ -1,15 +1,13 @@
 -- `second_moves`: the loop has added the moves of the edges so far; an edge whose label is shared has none.
 use borrow.Author.Rules.{rules}
-use Prim.Native.Nat.{◌-◌}
-use mathlib.Core.Path.{◌≡◌, ◌∙◌}
-use mathlib.Core.Logic.{⊎_elim}
+use mathlib.Core.Path.{◌≡◌, sym, ◌∙◌}
 use native.Mathlib.Omega.{arith}
 use Rattle.model.specs.Indexed.{each}
-use Rattle.model.proofs.IndexedLaws.{told_false, told_true}
 use Rattle.compose.specs.Moves.{second_alone}
 use Rattle.compose.proofs.Adding.{counted, each_start, each_turn, each_skip, second_here, second_none}
 use Rattle.compose.proofs.MoveCounts.{each_most, second_most}
 use Rattle.compose.proofs.moves.second_moves.Goals as goal
+use Rattle.compose.proofs.moves.second_moves.Goals.{then-not-shared, else-not-shared}
 
 pub loop-f-init : goal.loop-f-init
 loop-f-init c = (search rules, each_start _ _)
@@ -29,12 +27,12 @@ loop-f-preserved c =
     let b = c.args.b in
     let told = c.shared.ensures in (
       search rules,
-      ⊎_elim
-          (λ w. each_turn c.args.list (second_alone a b) loop.f _ loop.invariant.1 (w.2 ∙ w.1.ensures)
-          (second_here a b loop.f (told_false told w.0.taken)))
-          (λ w. each_skip c.args.list (second_alone a b) loop.f loop.invariant.1 w.1 (second_none a b loop.f
-          (told_true told w.0.left)))
-          c.if-not-shared.branch,
+      elim c.if-not-shared.branch [
+        | then-not-shared w ↦ each_turn c.args.list (second_alone a b) loop.f _ loop.invariant.1 (w.moves-is ∙ w.second_alone-moves.ensures)
+            (second_here a b loop.f (sym told ∙ w.if-not-shared.true))
+        | else-not-shared w ↦ each_skip c.args.list (second_alone a b) loop.f loop.invariant.1 w.moves-is
+            (second_none a b loop.f (sym told ∙ w.if-not-shared.false))
+      ],
     )
 
 pub returns : goal.returns

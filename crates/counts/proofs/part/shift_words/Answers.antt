@@ -1,8 +1,6 @@
 -- shift_words: value after value; each has three words and one more if its result lies in range.
 use native.Mathlib.Omega.{arith}
-use mathlib.Core.Logic.{⊎_elim}
 use mathlib.Core.Path.{◌≡◌, sym, ap, ◌∙◌}
-use Prim.Native.Nat.{◌-◌}
 use lib.IntN.{ℤ}
 use mir.Syntax.{w8}
 use mir.Val.{to_z, of_z}
@@ -15,6 +13,7 @@ use Rattle.counts.specs.PartCounts.{rule_words}
 use Rattle.counts.proofs.PartLaws.{length_some, length_none}
 use borrow.Author.Rules.{rules}
 use Rattle.counts.proofs.part.shift_words.Goals as goal
+use Rattle.counts.proofs.part.shift_words.Goals.{then-lands, else-lands}
 
 pub loop-v-init : goal.loop-v-init
 loop-v-init c = (search rules, search rules, sym (sum_none _))
@@ -25,14 +24,19 @@ loop-v-preserved c =
     let a = c.args in
     let z = to_z w8 (of_z w8 a.offset) in
     let f = shifted z a.greatest l.v in
-    let next = sum_more (rule_words (Shift z a.greatest)) l.v in (
-      search rules,
-      ⊎_elim (λ w. omega (arith, w.1)) (λ w. omega (arith, w.1)) c.if-lands.branch,
-      ⊎_elim
-          (λ w. omega (arith, w.1, next, l.invariant.2, length_some f (sym c.lands.ensures ∙ w.0.taken)))
-          (λ w. omega (arith, w.1, next, l.invariant.2, length_none f (sym c.lands.ensures ∙ w.0.left)))
-          c.if-lands.branch,
-    )
+    let next = sum_more (rule_words (Shift z a.greatest)) l.v in
+    elim c.if-lands.branch [
+      | then-lands w ↦ (
+        search rules,
+        omega arith,
+        omega (arith, next, l.invariant.2, length_some f (sym c.lands.ensures ∙ w.if-lands.true)),
+      )
+      | else-lands w ↦ (
+        search rules,
+        omega arith,
+        omega (arith, next, l.invariant.2, length_none f (sym c.lands.ensures ∙ w.if-lands.false)),
+      )
+    ]
 
 pub returns : goal.returns
 returns c =

@@ -1,6 +1,5 @@
 -- edge_table: edge after edge, slot after slot of the table.
 use native.Mathlib.Omega.{arith}
-use Prim.Native.Nat.{◌-◌}
 use mathlib.Core.Path.{◌≡◌, refl}
 use Rattle.model.proofs.FormLaws.{formed}
 use Rattle.parts.proofs.KnownLaws.{known_bounded}

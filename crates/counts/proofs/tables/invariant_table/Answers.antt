@@ -1,6 +1,5 @@
 -- invariant_table: location after location, slot after slot of the table.
 use native.Mathlib.Omega.{arith}
-use Prim.Native.Nat.{◌-◌}
 use mathlib.Core.Path.{◌≡◌, refl}
 use Rattle.model.proofs.FormLaws.{formed}
 use Rattle.parts.proofs.KnownLaws.{known_bounded}

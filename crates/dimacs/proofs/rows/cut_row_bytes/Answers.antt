@@ -1,6 +1,6 @@
 -- cut_row_bytes: the bytes of a piece a turn.
 use mathlib.Core.List.{List}
-use Rattle.dimacs.proofs.BaseLaws.{piece-texts, piece-lines, row_pieces_joined, held_piece_most}
+use Rattle.dimacs.proofs.BaseLaws.{piece_texts, piece_lines, row_pieces_joined, held_piece_most}
 use Rattle.dimacs.proofs.PageLaws.{piece_most}
 use Rattle.dimacs.specs.File.{lines_of}
 use Rattle.emission.proofs.CutLaws.{row_pieces_most}
@@ -9,7 +9,7 @@ use Rattle.list.proofs.ListLaws.{each_more}
 use Rattle.model.proofs.IndexedLaws.{each_zero}
 use Rattle.model.specs.Indexed.{each}
 use lib.ListN.{length, length-append}
-use Prim.Native.Nat.{ℕ, ◌-◌, ◌<◌}
+use Prim.Native.Nat.{ℕ, ◌<◌}
 use mathlib.Core.Path.{◌≡◌, refl, sym, ap, ◌∙◌}
 use native.Mathlib.Omega.{arith}
 use Rattle.dimacs.proofs.rows.cut_row_bytes.Goals as goal
@@ -31,30 +31,28 @@ put_base_piece-count-requires c =
 
 pub words_bytes-bytes-requires : goal.words_bytes-bytes-requires
 words_bytes-bytes-requires c =
-    let entry = c.before.before.before.before.before.before.before.before.before.before in
-    let a = entry.args in
-    let pre = entry.requires in
+    let a = c.args in
+    let pre = c.requires in
     let m = a.m in
     let k = a.bound in
     let r = a.row in
     let p = c.loop-piece.piece in
     let in_row : p < row_pieces m k r = omega (arith, c.loop-piece-test.true, c.row_pieces-piece-end.ensures) in
     let held = c.put_base_piece-count.ensures.0 in
-    let texts = piece-texts m pre.0.formed k r pre.3 pre.4 pre.6 p in_row held.front in
+    let texts = piece_texts m pre.0.formed k r pre.3 pre.4 pre.6 p in_row held.front in
     (held.fits, held_piece_most m pre.0.formed k r p in_row held, pre.6.long, texts)
 
 pub overflow_add-bytes : goal.overflow_add-bytes
 overflow_add-bytes c =
-    let entry = c.before.before.before.before.before.before.before.before.before.before.before in
-    let a = entry.args in
-    let pre = entry.requires in
+    let a = c.args in
+    let pre = c.requires in
     let m = a.m in
     let k = a.bound in
     let r = a.row in
     let p = c.loop-piece.piece in
     let in_row : p < row_pieces m k r = omega (arith, c.loop-piece-test.true, c.row_pieces-piece-end.ensures) in
     let held = c.put_base_piece-count.ensures.0 in
-    let text = piece-lines m pre.0.formed k r pre.3 pre.4 pre.6 p in_row held.front in
+    let text = piece_lines m pre.0.formed k r pre.3 pre.4 pre.6 p in_row held.front in
     let most = piece_most m pre.0.formed k pre.3 r p pre.4 in_row in
     omega (arith, c.words_bytes-bytes.ensures, ap length text, most, c.loop-piece.invariant.2, row_pieces_most m pre.0.formed k r, in_row)
 
@@ -66,9 +64,8 @@ loop-piece-smaller c = omega arith
 
 pub loop-piece-preserved : goal.loop-piece-preserved
 loop-piece-preserved c =
-    let entry = c.before.before.before.before.before.before.before.before.before.before.before in
-    let a = entry.args in
-    let pre = entry.requires in
+    let a = c.args in
+    let pre = c.requires in
     let m = a.m in
     let k = a.bound in
     let r = a.row in
@@ -76,7 +73,7 @@ loop-piece-preserved c =
     let f : ℕ → List ℕ = λ i. lines_of (piece_of m k r i) in
     let in_row : p < row_pieces m k r = omega (arith, c.loop-piece-test.true, c.row_pieces-piece-end.ensures) in
     let held = c.put_base_piece-count.ensures in
-    let text = piece-lines m pre.0.formed k r pre.3 pre.4 pre.6 p in_row held.0.front in
+    let text = piece_lines m pre.0.formed k r pre.3 pre.4 pre.6 p in_row held.0.front in
     let most = piece_most m pre.0.formed k pre.3 r p pre.4 in_row in
     let bytes = c.words_bytes-bytes.ensures in (
       omega arith,

@@ -1,5 +1,5 @@
 -- row_bytes: the whole row at once, or piece after piece.
-use Rattle.dimacs.proofs.BaseLaws.{row_texts, row-lines, held_row_most}
+use Rattle.dimacs.proofs.BaseLaws.{row_texts, row_lines, held_row_most}
 use Rattle.dimacs.specs.Rows.{FewWords}
 use lib.ListN.{length}
 use mathlib.Core.Path.{ap, ◌∙◌}
@@ -8,9 +8,8 @@ use Rattle.dimacs.proofs.rows.row_bytes.Goals as goal
 
 pub words_bytes-requires : goal.words_bytes-requires
 words_bytes-requires c =
-    let entry = c.before.before.before.before.before.before.before.before.before.before.before.before.before.before in
-    let a = entry.args in
-    let pre = entry.requires in
+    let a = c.args in
+    let pre = c.requires in
     let m = a.m in
     let k = a.bound in
     let r = a.row in
@@ -22,13 +21,12 @@ words_bytes-requires c =
 
 pub returns-then-one-le-WORDS : goal.returns-then-one-le-WORDS
 returns-then-one-le-WORDS c =
-    let entry = c.before.before.before.before.before.before.before.before.before.before.before.before.before.before.before in
-    let a = entry.args in
-    let pre = entry.requires in
+    let a = c.args in
+    let pre = c.requires in
     let m = a.m in
     let k = a.bound in
     let r = a.row in
     let held = c.put_base_row-count.ensures in
     let texts = c.fill_row.ensures in
-    let text = row-lines m pre.0.formed k r pre.4 pre.5 texts held.0.front in
+    let text = row_lines m pre.0.formed k r pre.4 pre.5 texts held.0.front in
     (c.words_bytes.ensures ∙ ap length text, held.1, texts.long)

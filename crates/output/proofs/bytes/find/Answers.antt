@@ -1,5 +1,4 @@
 -- `find`: the invariant is that the first byte from the start is the first one from here.
-use Prim.Native.Nat.{◌-◌}
 use native.Mathlib.Omega.{arith}
 use Rattle.text.proofs.Laws.Bytewise.{first_at_here, first_at_next, first_at_end}
 use Rattle.output.proofs.bytes.find.Goals as goal

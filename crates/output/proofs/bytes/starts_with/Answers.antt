@@ -1,5 +1,4 @@
 -- `starts_with`: the invariant is that the rest of the key begins the rest of the bytes if and only if the whole does.
-use Prim.Native.Nat.{◌-◌}
 use mathlib.Core.Path.{sym, ◌∙◌}
 use Rattle.text.proofs.Laws.Bytewise.{starts_with_next, starts_with_other, starts_with_short, starts_with_done}
 use borrow.Author.Rules.{rules}

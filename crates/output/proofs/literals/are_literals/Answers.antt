@@ -1,9 +1,7 @@
 -- `are_literals`: the invariant is that the words from here on are literals if and only if all are.
-use Prim.Native.Nat.{◌-◌}
 use mathlib.Core.Path.{refl, sym, ◌∙◌}
 use native.Mathlib.Omega.{arith}
 use borrow.Author.Rules.{rules}
-use borrow.Author.Tests.{not-true, not-false}
 use Rattle.output.proofs.ByteLaws.{words_last, words_other, words_next}
 use Rattle.output.proofs.literals.are_literals.Goals as goal
 
@@ -16,12 +14,12 @@ returns-then-e-s c =
 
 pub returns-then-not-names_variable : goal.returns-then-not-names_variable
 returns-then-not-names_variable c =
-    let other = sym c.names_variable.ensures ∙ not-true _ c.if-not-names_variable.true-raw in
+    let other = sym c.names_variable.ensures ∙ c.if-not-names_variable.true in
     sym (words_other _ _ _ c.find-e.ensures c.if-e-s.false other) ∙ c.loop-i.invariant.1
 
 pub loop-i-preserved : goal.loop-i-preserved
 loop-i-preserved c =
-    let named = sym c.names_variable.ensures ∙ not-false _ c.if-not-names_variable.false-raw in
+    let named = sym c.names_variable.ensures ∙ c.if-not-names_variable.false in
     (omega (arith, c.find-e.ensures.high), sym (words_next _ _ _ c.find-e.ensures c.if-e-s.false named) ∙ c.loop-i.invariant.1)
 
 pub loop-i-smaller : goal.loop-i-smaller

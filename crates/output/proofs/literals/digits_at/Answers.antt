@@ -1,5 +1,4 @@
 -- `digits_at`: the invariant is `Digits`, that the bytes passed say the number and none of them is a space.
-use Prim.Native.Nat.{◌-◌}
 use Rattle.output.proofs.WordLaws.{digits_none, digits_more, digits_space, digits_all}
 use Rattle.output.proofs.literals.digits_at.Goals as goal
 
@@ -10,8 +9,10 @@ pub returns-then-b-eq32 : goal.returns-then-b-eq32
 returns-then-b-eq32 c =
     let loop = c.loop-i in
     let bare = c.args.bare in
-    rw c.word_of.ensures
-    (digits_space loop.invariant c.loop-i-test.true c.if-b-eq32.true, λ j. record { variable = loop.invariant.number j; bare = bare })
+    rw c.word_of.ensures (record {
+      first_from = digits_space loop.invariant c.loop-i-test.true c.if-b-eq32.true;
+      literal_value = λ j. record { variable = loop.invariant.number j; bare = bare };
+    })
 
 pub loop-i-preserved : goal.loop-i-preserved
 loop-i-preserved c =
@@ -21,4 +22,7 @@ pub returns : goal.returns
 returns c =
     let loop = c.loop-i in
     let bare = c.args.bare in
-    rw c.word_of-2.ensures (digits_all loop.invariant c.loop-i-test.false, λ j. record { variable = loop.invariant.number j; bare = bare })
+    rw c.word_of-2.ensures (record {
+      first_from = digits_all loop.invariant c.loop-i-test.false;
+      literal_value = λ j. record { variable = loop.invariant.number j; bare = bare };
+    })

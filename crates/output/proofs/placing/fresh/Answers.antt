@@ -1,5 +1,4 @@
 -- `fresh`: the invariant is `Looking`, that so many literals are left after the windows below `low`; each turn looks at one window more.
-use Prim.Native.Nat.{◌-◌}
 use native.Mathlib.Omega.{arith}
 use Rattle.output.specs.Placing.{literals_of}
 use Rattle.output.specs.Literals.{literal_of}

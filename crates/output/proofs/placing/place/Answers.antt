@@ -1,12 +1,12 @@
 -- `place`: the cases of `placed`, by the bound, the window and the byte that stands there.
 use Prim.Native.Nat.{◌-◌}
 use mathlib.Core.Path.{◌≡◌, sym, ap}
-use mathlib.Core.Logic.{⊎_elim}
 use mathlib.Core.Bool.{cond}
 use lib.ListN.{length, get_or, set}
 use borrow.Author.Tests.{eq-eqb, ne_eqb, lt-ltb, le-ltb, le-leb, lt-leb}
 use Rattle.output.specs.Placing.{marking, placed}
 use Rattle.output.proofs.placing.place.Goals as goal
+use Rattle.output.proofs.placing.place.Goals.{then-l, else-l}
 
 pub returns-then-p : goal.returns-then-p
 unfolding placed
@@ -52,5 +52,5 @@ returns c =
     let within = lt-leb (length m) i c.if-marks-i.false in
     let unnamed = eq-eqb (get_or m i 0) 2 c.if-marks-i-ne-UNNAMED.false in
     let byte : c.if-l.marks ≡ cond a.l.bare 1 0 =
-    ⊎_elim (λ w. rw w.0.taken w.1) (λ w. rw w.0.left w.1) c.if-l.branch in
+    elim c.if-l.branch [ then-l w ↦ rw w.if-l.true w.marks-is | else-l w ↦ rw w.if-l.false w.marks-is ] in
     rw (more, from, within, unnamed, sym byte) (ap (λ p. marking p (set m i c.if-l.marks)) c.placing_of-2.ensures)

@@ -1,6 +1,5 @@
 -- `place_literals`: each turn of the loop places the line up to the next LF. The invariant is `Passing`: what is left to place, placed from here,
 -- comes to the whole text placed from the first state. The bound ends it, since nothing is placed after it. The window keeps its length.
-use Prim.Native.Nat.{◌-◌}
 use mathlib.Core.Path.{refl, ap}
 use native.Mathlib.Omega.{arith}
 use borrow.Author.Rules.{rules}

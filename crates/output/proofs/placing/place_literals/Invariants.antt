@@ -11,7 +11,8 @@ use Rattle.output.proofs.placing.place_literals.Given as goal
 abbrev pub invariant-loop-p : goal.invariant-loop-p
 invariant-loop-p l =
     (length l.marks ≡ length l.initial.marks)
-    × Passing (placed l.low) (part_literals (literal_up_to l.most)) (marking (record { seen = 0; l.bound = l.bound }) l.initial.marks) l.text (marking l.p l.marks) l.i
+    × Passing (placed l.low) (part_literals (literal_up_to l.most)) (marking (record { seen = 0; bound = l.bound }) l.initial.marks) l.text
+    (marking l.p l.marks) l.i
 
 abbrev pub decreases-loop-p : goal.decreases-loop-p
 decreases-loop-p l = length l.text - l.i

@@ -10,7 +10,8 @@ use Rattle.output.proofs.placing.place_words.Given as goal
 
 abbrev pub invariant-loop-w : goal.invariant-loop-w
 invariant-loop-w l =
-    (length l.marks ≡ length l.initial.marks) × Absorbing (placed l.low) (literal_up_to l.most) (marking l.initial.p l.initial.marks) l.s (marking l.p l.marks) l.i
+    (length l.marks ≡ length l.initial.marks)
+    × Absorbing (placed l.low) (literal_up_to l.most) (marking l.initial.p l.initial.marks) l.s (marking l.p l.marks) l.i
 
 abbrev pub decreases-loop-w : goal.decreases-loop-w
 decreases-loop-w l = length l.s - l.i

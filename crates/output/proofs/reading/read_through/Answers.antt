@@ -1,13 +1,13 @@
 -- `read_through`: each turn of the loop judges the line up to the next LF. The invariant is `Passing`, and that at most i lines were judged:
 -- what is left, judged from here, comes to the whole text. A fault ends it, since no token changes a reading with a fault.
-use Prim.Native.Nat.{◌-◌, ◌+◌, ◌≤◌, ◌<◌}
+use Prim.Native.Nat.{ℕ, ◌-◌, ◌+◌, ◌≤◌, ◌<◌}
 use mathlib.Core.Path.{◌≡◌, sym, ap, ◌∙◌}
 use mathlib.Core.Bool.{false}
-use mathlib.Core.List.{foldl}
+use mathlib.Core.List.{List, foldl}
 use native.Mathlib.Omega.{arith}
-use lib.ListN.{take, drop}
-use borrow.Author.Tests.{not-true}
-use Rattle.output.specs.Tokens.{part_tokens, tokens_of}
+use lib.ListN.{length, take, drop}
+use Rattle.text.specs.bytes.Bytes.{FirstFrom}
+use Rattle.output.specs.Tokens.{line_tokens, part_tokens, tokens_of}
 use Rattle.output.specs.OutputCall.{is_no_fault}
 use Rattle.output.specs.Counting.{literal_up_to, no_reading, count}
 use Rattle.output.specs.declared.lines.LineForm.TheVariants.{Malformed}
@@ -15,24 +15,19 @@ use Rattle.output.specs.declared.reading.Reading.{Reading}
 use Rattle.output.proofs.TokenLaws.{tokens_by_line, last_none, last_some, fault_stays, line_grows, one_line}
 use Rattle.output.proofs.TokenLaws.{Passing, pass_none, pass_last, pass_more, pass_stays}
 use Rattle.output.proofs.reading.read_through.Goals as goal
-use Rattle.output.proofs.reading.read_through.Goals.{After-judge_whole_line-r}
 
 -- a line more
-turned : (c : After-judge_whole_line-r invariant-loop decreases-loop)
-    → let at-find = c.before.before.before in
-    let a = at-find.before.before.before.before.args in
-    let r = c.judge-whole-line.result in
-    let e = at-find.find.result in
-    Passing (count a.most a.limit) (part_tokens (literal_up_to a.most)) no_reading a.text.now r (e + 1) × (r.line ≤ e + 1)
-turned c =
-    let at-find = c.before.before.before in
-    let loop = at-find.before.loop in
-    let a = at-find.before.before.before.before.args in
-    let first = at-find.find.ensures in
-    let l = take (at-find.find.result - loop.i) (drop loop.i a.text.now) in
-    let line = ap (λ (r : Reading). r.line) c.judge-whole-line.ensures in (
-      pass_more loop.invariant.0 (tokens_by_line _) first c.judge-whole-line.ensures c.before.before.if1.false,
-      omega (arith, line, one_line a.most a.limit (literal_up_to a.most) l loop.r, loop.invariant.1, first.low),
+turned : (text : List ℕ) (most limit : ℕ) (before after : Reading) (i e : ℕ)
+    → Passing (count most limit) (part_tokens (literal_up_to most)) no_reading text before i × (before.line ≤ i)
+    → FirstFrom 10 i text e
+    → after ≡ foldl (count most limit) before (line_tokens (literal_up_to most) (take (e - i) (drop i text)))
+    → (e ≡ length text → ⊥)
+    → Passing (count most limit) (part_tokens (literal_up_to most)) no_reading text after (e + 1) × (after.line ≤ e + 1)
+turned text most limit before after i e v first r more =
+    let l = take (e - i) (drop i text) in
+    let line = ap (λ (r : Reading). r.line) r in (
+      pass_more v.0 (tokens_by_line _) first r more,
+      omega (arith, line, one_line most limit (literal_up_to most) l before, v.1, first.low),
     )
 
 pub loop-r-init : goal.loop-r-init
@@ -67,8 +62,8 @@ unfolding tokens_of
 returns-then-not-is_none c =
     let a = c.args in
     let r = c.judge_whole_line-r.result in
-    let fault : is_no_fault r.fault ≡ false = sym c.is_none.ensures ∙ not-true _ c.if-not-is_none.true-raw in
-    let after = turned c.before.before in
+    let fault : is_no_fault r.fault ≡ false = sym c.is_none.ensures ∙ c.if-not-is_none.true in
+    let after = turned a.text.now a.most a.limit c.loop-r.r _ _ _ c.loop-r.invariant c.find-e.ensures c.judge_whole_line-r.ensures c.if-e-text.false in
     (pass_stays after.0 (fault_stays a.most a.limit r fault), omega (arith, after.1, after.0.within))
 
 pub overflow_add-i : goal.overflow_add-i
@@ -78,4 +73,6 @@ pub loop-r-smaller : goal.loop-r-smaller
 loop-r-smaller c = omega (arith, c.if-e-text.false)
 
 pub loop-r-preserved : goal.loop-r-preserved
-loop-r-preserved c = turned c.before.before
+loop-r-preserved c =
+    let a = c.args in
+    turned a.text.now a.most a.limit c.loop-r.r _ _ _ c.loop-r.invariant c.find-e.ensures c.judge_whole_line-r.ensures c.if-e-text.false

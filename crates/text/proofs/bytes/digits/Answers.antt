@@ -1,5 +1,4 @@
 -- `digits`: the invariant is that the digits of the whole are those passed and the leading ones of the rest.
-use Prim.Native.Nat.{◌-◌}
 use mathlib.Core.Path.{sym, ◌∙◌}
 use native.Mathlib.Omega.{arith}
 use Rattle.text.proofs.Laws.Bytewise.{digits_of_here, digits_of_next, digits_of_end}

@@ -1,5 +1,4 @@
 -- `read_counters`: the loop's invariant is `Turning`: after i turns the first i counters are read.
-use Prim.Native.Nat.{◌-◌}
 use mathlib.Core.Path.{refl}
 use borrow.Author.Rules.{rules}
 use Rattle.text.specs.lines.Sequence.{read_counters}

@@ -1,5 +1,4 @@
 -- `read_invariants`: the loop's invariant is `Turning`: after i turns the first i invariants are read.
-use Prim.Native.Nat.{◌-◌}
 use mathlib.Core.Path.{refl}
 use borrow.Author.Rules.{rules}
 use Rattle.text.specs.lines.Sequence.{read_invariants}

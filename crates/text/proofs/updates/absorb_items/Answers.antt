@@ -1,6 +1,5 @@
 -- `absorb_items`: each turn of the loop absorbs the item up to the next comma. The invariant is `Absorbing`: what is left to absorb, absorbed
 -- into the state, comes to the whole value absorbed into the first state.
-use Prim.Native.Nat.{◌-◌}
 use mathlib.Core.Path.{ap, ◌∙◌}
 use native.Mathlib.Omega.{arith}
 use Rattle.text.specs.updates.OnePass.{absorbed}
