@@ -2,7 +2,7 @@
 """Brings the repository's own definitions and lemmas to today's spelling: snake case, an apostrophe for a prime.
 
 usage: tools/respell_names.py          in the repository, once, after port.py: respells crates/ by tools/respelled.tsv
-       tools/respell_names.py table    writes tools/respelled.tsv from the names that crates/ declares
+       tools/respell_names.py table    prints the rows of such a table for the names that crates/ declares outside `where`, as a start of tools/respelled.tsv
 
 A definition in camel case and a lemma with a dash are written with '_'. Where a lemma would then have the name of a definition or of another lemma, it gets
 '_lem'. Names of functions, exported names and strings stay, since the table has only names that specs/ and proofs/ declare.
@@ -75,8 +75,8 @@ def make_table():
             taken.add(new[n])
     for n in SAME:
         new[n] = n + "_lem"
-    with open(TABLE, "w", encoding="utf-8") as f:
-        f.writelines(f"{a}\t{b}\n" for a, b in sorted(new.items()))
+    for a, b in sorted(new.items()):
+        print(f"{a}\t{b}")
 
 
 def respell_line(line, table, is_antt):

@@ -204,18 +204,18 @@ module _ (room : ℕ → ℕ) (m : Model) (j k : ℕ) (d : Emitted (calls_with r
       steps : length r ≡ j
       steps = length-take-le j (run_of m k a) (omega (arith, ((list_2 room m k e).decodes a (solves_satisfies room m k e a h)).long))
 
-      list-cut : Satisfies m j (take (variables m j) a) ↔ T (is_run m r)
-      list-cut = list_3.cut a (solves_satisfies room m k e a h)
+      list_cut : Satisfies m j (take (variables m j) a) ↔ T (is_run m r)
+      list_cut = list_3.cut a (solves_satisfies room m k e a h)
 
       to : SolvesList d (take (variables_told d) a) → Accepts (walk_report m r)
       to x =
           let s = solves_satisfies room m j d (take (variables_told d) a) x in
           let i = subst (λ (i : ℕ). Satisfies m j (take i a)) (facts room m j d).variables_are_lem s in
-          (walked_run room m j d r (record { long = steps; ends = list-cut.0 i })).walked
+          (walked_run room m j d r (record { long = steps; ends = list_cut.0 i })).walked
 
       of : Accepts (walk_report m r) → SolvesList d (take (variables_told d) a)
       of x =
-          let s = list-cut.1 (run_walked room m j d r (record { long = steps; walked = x })).ends in
+          let s = list_cut.1 (run_walked room m j d r (record { long = steps; walked = x })).ends in
           satisfies_solves room m j d (take (variables_told d) a) (subst (λ (i : ℕ). Satisfies m j (take i a)) (sym (facts room m j d).variables_are_lem) s)
 
   pub demand_3 : EmittedDemand3 (calls_with room m) j k d e

@@ -41,7 +41,7 @@ use Rattle.list.specs.Assignments.{satisfied}
 use Rattle.emission.specs.EmitCall.{EmitReport}
 use Rattle.dimacs.specs.DimacsCall.{FileReport}
 use Rattle.refutation.specs.Refutation.{refutes}
-use Rattle.refute.specs.RefuteCall.{RefuteReport}
+use Rattle.refute.specs.RefuteCall.{RefuteReport, refute_report}
 use Rattle.dimacs.specs.File.{file}
 use Rattle.list.proofs.SourcesBefore
 use Rattle.list.proofs.SourcesBefore.{items_from_before}
@@ -72,9 +72,10 @@ use Rattle.claims.specs.Files.{Filed, bytes_left, FiledBytes}
 use Rattle.claims.specs.Texts.{text_model, text_calls, IsRead, Never20, RowTexts}
 use Rattle.claims.specs.Pairs.{IsPair, pair_model, pair_calls, PairNever20, WorkedPairs}
 use Rattle.claims.specs.Outputs.{SaysSatisfiable, EmittedOutput}
-use Rattle.claims.specs.Refuted.{RefutedList, NoRun}
+use Rattle.claims.specs.Refuted.{Refuting, record_refutes, text_refutes, pair_refutes, RefutedList, RefutesNever20, NoRun}
 use Rattle.claims.specs.Answers.{answers, LabelsAlone}
 use Rattle.claims.specs.Cases.{all_rows_hold}
+use Rattle.claims.specs.Refutations.{all_refutations_hold}
 use Rattle.claims.proofs.Within
 use Rattle.claims.proofs.Accepted
 use Rattle.claims.proofs.CallProofs
@@ -142,12 +143,12 @@ pub refuted_false : (ws lemmas : List ℤ) (hints : List ℕ) → T (refutes (ws
 refuted_false = Refuted.refuted_false
 
 -- What the contract of the call promises of an answer with the outcome 1 is a refuted list.
-pub from_refute_call : (c : Calls) (k : ℕ) (old : List ℤ) (hints : List ℕ) (x : RefuteReport) → x ≡ c.refutes k old hints → x.outcome ≡ 1 → RefutedList c k
+pub from_refute_call : (c : Refuting) (k : ℕ) (old : List ℤ) (hints : List ℕ) (x : RefuteReport) → x ≡ c k old hints → x.outcome ≡ 1 → RefutedList c k
 from_refute_call = Refuted.from_call
 
 -- A list that is refuted for k: the model has no run of k steps or fewer. One refutation, for k, serves every smaller bound; for 64, every run has more
 -- than 64 steps.
-pub refuted_no_run : (room : ℕ → ℕ) (m : Model) (k : ℕ) → RefutedList (calls_with room m) k → NoRun (calls_with room m) k
+pub refuted_no_run : (room : ℕ → ℕ) (m : Model) (k : ℕ) → RefutedList (record_refutes m) k → NoRun (calls_with room m) k
 refuted_no_run = Refuted.no_run
 
 -- ---- the DIMACS file
@@ -199,10 +200,10 @@ text_demand_2 = Texts.text_2
 pub text_demand_3 : (t : List ℕ) (j k : ℕ) (d : Emitted (text_calls t) j) (e : Emitted (text_calls t) k) → j ≤ k → EmittedDemand3 (text_calls t) j k d e
 text_demand_3 = Texts.text_3
 
-pub text_refuted_read : (t : List ℕ) (k : ℕ) → RefutedList (text_calls t) k → IsRead t
+pub text_refuted_read : (t : List ℕ) (k : ℕ) → RefutedList (text_refutes t) k → IsRead t
 text_refuted_read = Texts.refuted_read
 
-pub text_no_run : (t : List ℕ) (k : ℕ) → RefutedList (text_calls t) k → NoRun (text_calls t) k
+pub text_no_run : (t : List ℕ) (k : ℕ) → RefutedList (text_refutes t) k → NoRun (text_calls t) k
 text_no_run = Texts.text_no_run
 
 pub text_shortest : (t : List ℕ) (e : (k : ℕ) → k ≤ 64 → Emitted (text_calls t) k) → EmittedShortest (text_calls t) e
@@ -317,10 +318,10 @@ pub pair_demand_3 :
     (t u : List ℕ) (j k : ℕ) (d : Emitted (pair_calls t u) j) (e : Emitted (pair_calls t u) k) → j ≤ k → EmittedDemand3 (pair_calls t u) j k d e
 pair_demand_3 = Pairs.pair_3
 
-pub pair_refuted_read : (t u : List ℕ) (k : ℕ) → RefutedList (pair_calls t u) k → IsPair t u
+pub pair_refuted_read : (t u : List ℕ) (k : ℕ) → RefutedList (pair_refutes t u) k → IsPair t u
 pair_refuted_read = Pairs.refuted_pair
 
-pub pair_no_run : (t u : List ℕ) (k : ℕ) → RefutedList (pair_calls t u) k → NoRun (pair_calls t u) k
+pub pair_no_run : (t u : List ℕ) (k : ℕ) → RefutedList (pair_refutes t u) k → NoRun (pair_calls t u) k
 pair_no_run = Pairs.pair_no_run
 
 pub pair_shortest : (t u : List ℕ) (e : (k : ℕ) → k ≤ 64 → Emitted (pair_calls t u) k) → EmittedShortest (pair_calls t u) e
@@ -336,6 +337,9 @@ never_20 = Texts.never_20
 
 pub pair_never_20 : PairNever20
 pair_never_20 = Pairs.never_20
+
+pub refutes_never_20 : RefutesNever20
+refutes_never_20 = Pairs.refutes_never_20
 
 -- ---- updates in their written order
 -- The counters after the updates of an edge are the fold over the items of its set line, as they are written: each reads what those before it left, and
@@ -393,6 +397,15 @@ unlabelled_answered = SameAnswers.unlabelled_same
 pub labels_alone : (m n : Model) → T (well_formed m) → T (well_formed n) → LabelsAlone m n → answers m ≡ answers n
 labels_alone = SameAnswers.labels_alone
 
+-- The refuting call answers the same, too: of self-copies, and where labels alone differ.
+pub self_copies_refutes : (m : Model) → T (well_formed m) → (k : ℕ) (old : List ℤ) (hints : List ℕ)
+    → refute_report (self_model m) k old hints ≡ refute_report m k old hints
+self_copies_refutes = SameAnswers.self_copies_refutes
+
+pub labels_alone_refutes : (m n : Model) → T (well_formed m) → T (well_formed n) → LabelsAlone m n → (k : ℕ) (old : List ℤ) (hints : List ℕ)
+    → refute_report m k old hints ≡ refute_report n k old hints
+labels_alone_refutes = SameAnswers.labels_alone_refutes
+
 -- So do the records of any two texts that are read, if they differ in labels alone. (That emission, file, walker and conversions for C are those on the
 -- record read is `text_calls_lem`.)
 pub text_labels_alone : (t u : List ℕ) → IsRead t → IsRead u → LabelsAlone (text_model t) (text_model u) → answers (text_model t) ≡ answers (text_model u)
@@ -408,6 +421,10 @@ sixteen_bits_lem = SixteenLaws.sixteen_bits_lem
 -- P1 to P10, the lists of the small models, what pairs compose, and numbers of members: every row holds.
 pub all_rows : T all_rows_hold
 all_rows = Rows.all_rows
+
+-- Refutations of model A's list, and lemmas and hints that are none: the call tells them apart.
+pub all_refutations : T all_refutations_hold
+all_refutations = Rows.all_refutations
 
 -- The small models are what their texts say.
 pub row_texts : RowTexts

@@ -24,8 +24,8 @@ use Rattle.refute.specs.RefuteCall.{refute_report}
 use Rattle.wirdoku.specs.TextCall.{file_reply, refused_file, refute_reply, refused_refute}
 use Rattle.claims.specs.Calls.{Calls, record_calls, Emitted, EmittedWords, EmittedDemand2, EmittedDemand3, EmittedShortest}
 use Rattle.claims.specs.Files.{Filed, FiledBytes}
-use Rattle.claims.specs.Texts.{counts_in, file_in, refutes_in, Not20}
-use Rattle.claims.specs.Refuted.{RefutedList, NoRun}
+use Rattle.claims.specs.Texts.{counts_in, file_in, Not20}
+use Rattle.claims.specs.Refuted.{Refuting, record_refutes, refutes_in, RefutedList, NoRun}
 use Rattle.claims.proofs.Accepted.{emits}
 use Rattle.claims.proofs.CallProofs.{words_are, demand_2, demand_3, shortest}
 use Rattle.claims.proofs.Files.{files, filed_bytes}
@@ -44,8 +44,11 @@ calls_if b n l m = record {
   decoded = λ k a run. cond b (decode_left m k a run) run;
   encodes = λ r out. cond b (encode_report m r (length out)) (refusal n l);
   encoded = λ r out. cond b (encode_left m r out) out;
-  refutes = λ k old hints. refutes_in (cond b (refute_reply (refute_report m k old hints)) (refused_refute n l));
 }
+
+-- the refuting call, likewise
+abbrev refutes_if : Bool → ℕ → ℕ → Model → Refuting
+refutes_if b n l m = λ k old hints. refutes_in (cond b (refute_reply (refute_report m k old hints)) (refused_refute n l))
 
 module _ (n l : ℕ) (m : Model) where
   abbrev pub calls : Calls
@@ -97,15 +100,23 @@ module _ (n l : ℕ) (m : Model) where
       (shortest (λ n. n) m) e
 
   -- a list that is refuted means that there is a model
-  pub refuted_given : (k : ℕ) → RefutedList calls k → n ≡ 0
+  pub refuted_given : (k : ℕ) → RefutedList (refutes_if (eqb n 0) n l m) k → n ≡ 0
   refuted_given k x = go (eqb n 0) refl x.answers
     where
-      go : (b : Bool) → eqb n 0 ≡ b → ((calls_if b n l m).refutes k x.old x.hints).outcome ≡ 1 → n ≡ 0
+      go : (b : Bool) → eqb n 0 ≡ b → (refutes_if b n l m k x.old x.hints).outcome ≡ 1 → n ≡ 0
       go true q h = eqb-true n 0 q
       go false q h = absurd (omega arith)
 
-  pub given_no_run : (k : ℕ) → RefutedList calls k → NoRun calls k
-  given_no_run k x = subst (λ (c : Calls). RefutedList c k → NoRun c k) (sym (given_calls (refuted_given k x))) (no_run (λ n. n) m k) x
+  -- and that the list of its record is refuted
+  refuted_record : (k : ℕ) → RefutedList (refutes_if (eqb n 0) n l m) k → RefutedList (record_refutes m) k
+  refuted_record k x = record { old = x.old; hints = x.hints; answers = go (eqb n 0) x.answers }
+    where
+      go : (b : Bool) → (refutes_if b n l m k x.old x.hints).outcome ≡ 1 → (refute_report m k x.old x.hints).outcome ≡ 1
+      go true h = h
+      go false h = absurd (omega arith)
+
+  pub given_no_run : (k : ℕ) → RefutedList (refutes_if (eqb n 0) n l m) k → NoRun calls k
+  given_no_run k x = subst (λ (c : Calls). NoRun c k) (sym (given_calls (refuted_given k x))) (no_run (λ n. n) m k (refuted_record k x))
 
   -- 20, where the call on a well-formed record does not answer it
   pub given_not_20 : {A : Type 0} (number : A → ℕ) (call : Model → A) (refuse : ℕ → ℕ → A) → ((m : Model) → T (well_formed m) → Not20 (number (call m)))

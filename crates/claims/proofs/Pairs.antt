@@ -43,12 +43,12 @@ use Rattle.wirdoku.specs.declared.StateAnswer.{StateAnswer}
 use Rattle.wirdoku.specs.declared.pairs.PartSteps.{PartSteps}
 use Rattle.claims.specs.Calls.{record_calls, Emitted, EmittedWords, EmittedDemand2, EmittedDemand3, EmittedShortest}
 use Rattle.claims.specs.Files.{Filed, FiledBytes}
-use Rattle.claims.specs.Refuted.{RefutedList, NoRun}
+use Rattle.claims.specs.Refuted.{pair_refutes, RefutedList, RefutesNever20, NoRun}
 use Rattle.claims.specs.Texts.{Not20}
 use Rattle.claims.specs.Pairs.{pair_of, IsPair, pair_model, pair_calls, PairNever20}
 use Rattle.claims.proofs.Given.{given_calls, emitted_given, filed_given, given_emits, given_files, given_filed, given_words, given_2, given_3}
 use Rattle.claims.proofs.Given.{given_shortest, given_not_20, refuted_given, given_no_run}
-use Rattle.claims.proofs.Texts.{read_number, emit_not, refute_not, file_not, list_not, step_not, walk_not, decode_not, encode_not}
+use Rattle.claims.proofs.Texts.{read_number, emit_not, refute_not, refutes_not, file_not, list_not, step_not, walk_not, decode_not, encode_not}
 
 -- ---- two texts, by whether each is read
 module _ (t u : List ℕ) where
@@ -133,11 +133,11 @@ module _ (t u : List ℕ) where
   unfolding if_pair
   pair_3 = given_3 n l m
 
-  pub refuted_pair : (k : ℕ) → RefutedList (pair_calls t u) k → IsPair t u
+  pub refuted_pair : (k : ℕ) → RefutedList (pair_refutes t u) k → IsPair t u
   unfolding if_pair
   refuted_pair = refuted_given n l m
 
-  pub pair_no_run : (k : ℕ) → RefutedList (pair_calls t u) k → NoRun (pair_calls t u) k
+  pub pair_no_run : (k : ℕ) → RefutedList (pair_refutes t u) k → NoRun (pair_calls t u) k
   unfolding if_pair
   pair_no_run = given_no_run n l m
 
@@ -186,10 +186,15 @@ never_20 = record {
   walk = λ t u r. refusal_not (λ m. walk_report m r) (λ m ok. walk_not m ok r) t u;
   assignment_to_run = λ t u k a room. refusal_not (λ m. decode_report m k a room) (λ m ok. decode_not m ok k a room) t u;
   run_to_assignment = λ t u r room. refusal_not (λ m. encode_report m r room) (λ m ok. encode_not m ok r room) t u;
-  refute = λ t u k old hints.
-      not_20 (λ (x : RefuteReply). x.number) (λ m. refute_reply (refute_report m k old hints)) refused_refute (λ m ok. refute_not m ok k old hints)
-      (λ n l. refl) t u;
   parts = λ t u byte.
       by_text t u (λ (p : PartSteps). Not20 p.number) (λ a b. parts_answer (parts_report a b byte)) (λ text. refused_parts)
       (λ x y. parts_not (read_report t).model (read_report u).model x y byte) (λ text n l no small h. omega (arith, h, small));
+}
+
+pub refutes_never_20 : RefutesNever20
+refutes_never_20 = record {
+  text = refutes_not;
+  pair = λ t u k old hints.
+      not_20 (λ (x : RefuteReply). x.number) (λ m. refute_reply (refute_report m k old hints)) refused_refute (λ m ok. refute_not m ok k old hints)
+      (λ n l. refl) t u;
 }

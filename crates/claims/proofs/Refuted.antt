@@ -26,7 +26,7 @@ use Rattle.refutation.proofs.Laws.{begins_after}
 use Rattle.refute.specs.RefuteCall.{RefuteReport, checked_report, refute_reported, after_emission, refute_report}
 use Rattle.claims.specs.Words.{is_zero, on_first, clauses_in, word_true, words_true}
 use Rattle.claims.specs.Calls.{Calls, calls_with, record_calls, Accepts, Emitted}
-use Rattle.claims.specs.Refuted.{RefutedList, NoRun}
+use Rattle.claims.specs.Refuted.{Refuting, record_refutes, RefutedList, NoRun}
 use Rattle.claims.proofs.Accepted.{Facts, facts, walk_accepted}
 use Rattle.claims.proofs.CallProofs.{words_true_lem, solves_satisfies}
 
@@ -190,7 +190,7 @@ refuted_false ws lemmas hints t a h = refutes_sound (code_true a) (opposed a) (w
 
 -- ---- a list that is refuted
 -- what the call's contract promises of an answer with the outcome 1
-pub from_call : (c : Calls) (k : ℕ) (old : List ℤ) (hints : List ℕ) (x : RefuteReport) → x ≡ c.refutes k old hints → x.outcome ≡ 1 → RefutedList c k
+pub from_call : (c : Refuting) (k : ℕ) (old : List ℤ) (hints : List ℕ) (x : RefuteReport) → x ≡ c k old hints → x.outcome ≡ 1 → RefutedList c k
 from_call c k old hints x told h = record { old = old; hints = hints; answers = ap (λ (y : RefuteReport). y.outcome) (sym told) ∙ h }
 
 outcome_one : (e : EmitReport) (left : List ℤ) (hints : List ℕ) → (after_emission e left hints).outcome ≡ 1 → (e.number ≡ 0) × T (refutes left e.words hints)
@@ -202,7 +202,7 @@ outcome_one e left hints h = go (eqb e.number 0) (refutes left e.words hints) re
     go true false p h = absurd (omega arith)
     go false r p h = absurd (omega arith)
 
-module _ (room : ℕ → ℕ) (m : Model) (k : ℕ) (x : RefutedList (calls_with room m) k) where
+module _ (room : ℕ → ℕ) (m : Model) (k : ℕ) (x : RefutedList (record_refutes m) k) where
   checked : ((emit_report m k (length x.old)).number ≡ 0)
       × T (refutes (emit_left m k (length x.old) x.old) (emit_report m k (length x.old)).words x.hints)
   unfolding refute_report

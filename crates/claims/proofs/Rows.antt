@@ -31,6 +31,7 @@ use Rattle.refutation.specs.Refutation.{is_in, left, span, literals, follows, re
 use Rattle.refute.specs.RefuteCall.{refute_report}
 use Rattle.claims.specs.PairModels.{logger, watchdog, logger_and_watchdog, apart_a, paired_a}
 use Rattle.claims.specs.Cases.{holds, rows, all_rows_hold}
+use Rattle.claims.specs.Refutations.{tells, refutations, all_refutations_hold}
 
 pub all_rows : T all_rows_hold
 unfolding model_a waiting_a model_b full_model variable_number state_numbers choice_numbers numbers_in_order clock_relations counter_relations counter_updates two_of_each
@@ -43,5 +44,13 @@ unfolding model_a waiting_a model_b full_model variable_number state_numbers cho
     edges_items step_items end_items body_items items clause_words words_of one members pairs group_clauses clauses words satisfied true_before first_false place_of_true
     run_of state_bytes steps_bytes assignment_of walk_steps walk_report encode_report encode_left first_wrong_byte decode_report decode_left emit_report emit_left holds
     logger watchdog logger_and_watchdog apart_a paired_a compose_report fits invariants_fit guards_fit bears shared paired first_alone second_alone pairs_of moves
-    atom_count composed opposite begins all_within is_in left span literals follows refutes refute_report rows all_rows_hold
+    atom_count composed rows all_rows_hold
 all_rows = tt
+
+pub all_refutations : T all_refutations_hold
+unfolding model_a each list_below all_below max_below sum_below first_below greatest_constant ceiling state_size choices variables well_formed head_formed each_formed
+    filled_from_first atoms_formed updates_formed order_formed resets_formed edge_formed counters_formed invariants_formed edges_formed counters_in_group clocks_in_group
+    group_items invariant_items state_items initial_items start_items choice_items delay_items delays_items source_items target_items guard_items updates_items
+    resets_items edge_items edges_items step_items end_items body_items items clause_words words_of one members pairs group_clauses clauses words flat_map listed
+    place_in emit_report emit_left opposite begins all_within is_in left span literals follows refutes refute_report tells refutations all_refutations_hold
+all_refutations = tt

@@ -135,7 +135,7 @@ module _ (f : Edge → Edge) (keeps : Keeps f) (m : Model) (ok : T (well_formed 
   unfolding emit_left
   emitted_same k room out = rw (emits_same k room, words_same k) refl
 
-  refutes_same : (k : ℕ) (old : List ℤ) (hints : List ℕ) → refute_report n k old hints ≡ refute_report m k old hints
+  pub refutes_same : (k : ℕ) (old : List ℤ) (hints : List ℕ) → refute_report n k old hints ≡ refute_report m k old hints
   unfolding refute_report
   refutes_same k old hints = λ i. after_emission (emits_same k (length old) i) (emitted_same k (length old) old i) hints
 
@@ -224,7 +224,6 @@ module _ (f : Edge → Edge) (keeps : Keeps f) (m : Model) (ok : T (well_formed 
     decoded = λ k a old. decoded_same k a old i;
     encodes = λ r room. encodes_same r room i;
     encoded = λ r old. encoded_same r old i;
-    refutes = λ k old hints. refutes_same k old hints i;
   }
 
 -- ---- self-copies and labels
@@ -241,3 +240,19 @@ labels_alone m n ok ok' same = sym (unlabelled_same m ok) ∙ ap answers same �
 
 pub text_labels_alone : (t u : List ℕ) → IsRead t → IsRead u → LabelsAlone (text_model t) (text_model u) → answers (text_model t) ≡ answers (text_model u)
 text_labels_alone t u z y = labels_alone (text_model t) (text_model u) (accepted_formed t z) (accepted_formed u y)
+
+-- the refuting call, likewise
+pub self_copies_refutes : (m : Model) → T (well_formed m) → (k : ℕ) (old : List ℤ) (hints : List ℕ)
+    → refute_report (self_model m) k old hints ≡ refute_report m k old hints
+unfolding self_model
+self_copies_refutes m ok = refutes_same self_edge SelfCopyLaws.keeps m ok
+
+unlabelled_refutes : (m : Model) → T (well_formed m) → (k : ℕ) (old : List ℤ) (hints : List ℕ)
+    → refute_report (unlabelled m) k old hints ≡ refute_report m k old hints
+unfolding unlabelled
+unlabelled_refutes m ok = refutes_same unlabelled_edge LabelLaws.keeps m ok
+
+pub labels_alone_refutes : (m n : Model) → T (well_formed m) → T (well_formed n) → LabelsAlone m n → (k : ℕ) (old : List ℤ) (hints : List ℕ)
+    → refute_report m k old hints ≡ refute_report n k old hints
+labels_alone_refutes m n ok ok' same k old hints =
+    sym (unlabelled_refutes m ok k old hints) ∙ ap (λ (x : Model). refute_report x k old hints) same ∙ unlabelled_refutes n ok' k old hints

@@ -58,7 +58,7 @@ use Rattle.wirdoku.specs.declared.Shape.{Shape}
 use Rattle.wirdoku.specs.declared.StateAnswer.{StateAnswer}
 use Rattle.claims.specs.Calls.{record_calls, Emitted, EmittedWords, EmittedDemand2, EmittedDemand3, EmittedShortest}
 use Rattle.claims.specs.Files.{Filed, FiledBytes}
-use Rattle.claims.specs.Refuted.{RefutedList, NoRun}
+use Rattle.claims.specs.Refuted.{text_refutes, RefutedList, NoRun}
 use Rattle.claims.specs.Texts.{text_calls, IsRead, Not20, Never20, RowTexts}
 use Rattle.claims.specs.RowModels.{clock_relations, counter_relations, counter_updates, two_of_each, raised_then_copied, copied_then_raised, two_orders}
 use Rattle.claims.specs.RowModels.{reset_and_copied, clocks_swapped}
@@ -112,11 +112,11 @@ module _ (t : List ℕ) where
   unfolding if_read
   text_3 = given_3 n l m
 
-  pub refuted_read : (k : ℕ) → RefutedList (text_calls t) k → IsRead t
+  pub refuted_read : (k : ℕ) → RefutedList (text_refutes t) k → IsRead t
   unfolding if_read
   refuted_read = refuted_given n l m
 
-  pub text_no_run : (k : ℕ) → RefutedList (text_calls t) k → NoRun (text_calls t) k
+  pub text_no_run : (k : ℕ) → RefutedList (text_refutes t) k → NoRun (text_calls t) k
   unfolding if_read
   text_no_run = given_no_run n l m
 
@@ -361,6 +361,13 @@ state_not : (call : Model → StateAnswer) (s : State) → ((m : Model) → T (w
     → Not20 (if_read (read_report t) call (λ n l. state_answer n l s)).number
 state_not call s f t = not_20 (λ (x : StateAnswer). x.number) call (λ n l. state_answer n l s) f (λ n l. refl) t
 
+-- the refuting call
+pub refutes_not : (t : List ℕ) (k : ℕ) (old : List ℤ) (hints : List ℕ)
+    → Not20 (if_read (read_report t) (λ m. refute_reply (refute_report m k old hints)) refused_refute).number
+refutes_not t k old hints =
+    not_20 (λ (x : RefuteReply). x.number) (λ m. refute_reply (refute_report m k old hints)) refused_refute (λ m ok. refute_not m ok k old hints)
+    (λ n l. refl) t
+
 pub never_20 : Never20
 never_20 = record {
   read = text_not;
@@ -376,9 +383,6 @@ never_20 = record {
   walk = λ t r. refusal_not (λ m. walk_report m r) (λ m ok. walk_not m ok r) t;
   assignment_to_run = λ t k a room. refusal_not (λ m. decode_report m k a room) (λ m ok. decode_not m ok k a room) t;
   run_to_assignment = λ t r room. refusal_not (λ m. encode_report m r room) (λ m ok. encode_not m ok r room) t;
-  refute = λ t k old hints.
-      not_20 (λ (x : RefuteReply). x.number) (λ m. refute_reply (refute_report m k old hints)) refused_refute (λ m ok. refute_not m ok k old hints)
-      (λ n l. refl) t;
 }
 
 -- ---- the small models

@@ -15,7 +15,6 @@ use Rattle.counts.specs.CountsCall.{ListReport, list_report}
 use Rattle.emission.specs.EmitCall.{EmitReport, emit_report, emit_left}
 use Rattle.dimacs.specs.DimacsCall.{FileReport, file_report, file_left}
 use Rattle.dimacs.specs.Pages.{rows_to_print, pages_to_print, page_text}
-use Rattle.refute.specs.RefuteCall.{RefuteReport, refute_report}
 use Rattle.encode.specs.EncodeCall.{encode_report, encode_left}
 use Rattle.decode.specs.DecodeCall.{decode_report, decode_left}
 
@@ -54,8 +53,6 @@ pub record Answers : Type 0 where
   -- from a run to its assignment, likewise
   pub encodes : List ℕ → ℕ → Refusal
   pub encoded : List ℕ → List ℕ → List ℕ
-  -- the list for a bound refuted by lemmas behind it in the words, and hints: the answer (what is left is what emission leaves)
-  pub refutes : ℕ → List ℤ → List ℕ → RefuteReport
 
 -- The answers for the record m.
 abbrev pub answers : Model → Answers
@@ -81,7 +78,6 @@ answers m = record {
   decoded = decode_left m;
   encodes = encode_report m;
   encoded = encode_left m;
-  refutes = refute_report m;
 }
 
 -- Two records differ in labels alone: without labels they are the same.

@@ -13,11 +13,10 @@ use Rattle.encode.specs.EncodeCall.{encode_report, encode_left}
 use Rattle.decode.specs.DecodeCall.{decode_report, decode_left}
 use Rattle.emission.specs.EmitCall.{EmitReport, emit_report, emit_left}
 use Rattle.dimacs.specs.DimacsCall.{FileReport, file_report, file_left}
-use Rattle.refute.specs.RefuteCall.{RefuteReport, refute_report}
 use Rattle.claims.specs.Words.{clauses_in, joined, read_back, less_last_clause, Solves, Solvable}
 
 -- ---- the calls
--- What six calls answer and what they leave in the buffers lent to them: the right-hand sides of their contracts, for one model. The demands are said
+-- What five calls answer and what they leave in the buffers lent to them: the right-hand sides of their contracts, for one model. The demands are said
 -- of this, so that they stand once for the calls on a record and for the calls for C on a text (specs/Texts.antt).
 pub record Calls : Type 0 where
   -- the model that the calls work on
@@ -36,8 +35,6 @@ pub record Calls : Type 0 where
   -- from a run to its assignment, into a buffer: the answer, and the buffer after it
   pub encodes : List ℕ → List ℕ → Refusal
   pub encoded : List ℕ → List ℕ → List ℕ
-  -- the list for a bound, written into words in front of lemmas, with hints: the answer (what is left there is what emission leaves)
-  pub refutes : ℕ → List ℤ → List ℕ → RefuteReport
 
 -- The calls on a record, where emission may write `room n` words of a buffer of n.
 abbrev pub calls_with : (ℕ → ℕ) → Model → Calls
@@ -52,11 +49,10 @@ calls_with room m = record {
   decoded = λ k a run. decode_left m k a run;
   encodes = λ r out. encode_report m r (length out);
   encoded = λ r out. encode_left m r out;
-  refutes = λ k old hints. refute_report m k old hints;
 }
 
 -- `emit` may write the whole buffer, `emit_within` at most `limit` words of it. The others: `write_file`, `walk`, `assignment_to_run`,
--- `run_to_assignment`, `refute`.
+-- `run_to_assignment`.
 abbrev pub record_calls : Model → Calls
 record_calls m = calls_with (λ n. n) m
 

@@ -1,7 +1,7 @@
 -- The cases that document 01 marks P, and rows that pin the definitions: a list of rows over the worked models, the small models and the model at every
 -- limit.
 -- proofs/Claims.antt has the one claim that covers all rows.
-use Rattle.std.specs.Prelude.{Bool, true, false, not, ◌&&◌, cond, List, [], ◌∷◌, ◌++◌, map, ℕ, zero, suc, eqb, length, replicate, ℤ, pos, negsuc}
+use Rattle.std.specs.Prelude.{Bool, true, false, not, ◌&&◌, cond, List, [], ◌∷◌, map, ℕ, zero, suc, eqb, length, replicate, ℤ, pos, negsuc}
 use Rattle.model.specs.declared.Model.{Model}
 use Rattle.model.specs.declared.State.{State}
 use Rattle.model.specs.Indexed.{each}
@@ -10,7 +10,7 @@ use Rattle.model.specs.Form.{well_formed}
 use Rattle.model.specs.Refusal.{Refusal, is_accepted}
 use Rattle.model.specs.Run.{is_run}
 use Rattle.list.specs.Lists.{all_of}
-use Rattle.list.specs.Clauses.{clauses, words}
+use Rattle.list.specs.Clauses.{clauses}
 use Rattle.list.specs.Assignments.{satisfied}
 use Rattle.parts.specs.Numbering.{state_number, choice_number, numbers_in_order}
 use Rattle.walk.specs.StepCall.{StepReport, step_report}
@@ -19,7 +19,6 @@ use Rattle.compose.specs.ComposeCall.{compose_report}
 use Rattle.encode.specs.EncodeCall.{encode_report, encode_left}
 use Rattle.decode.specs.DecodeCall.{decode_report, decode_left}
 use Rattle.emission.specs.EmitCall.{EmitReport, emit_report, emit_left}
-use Rattle.refute.specs.RefuteCall.{refute_report}
 use Rattle.samples.specs.Models.{model_a, waiting_a, model_b, full_model}
 use Rattle.claims.specs.RowModels.{clock_relations, counter_relations, counter_updates, two_of_each, raised_then_copied, copied_then_raised, two_orders}
 use Rattle.claims.specs.RowModels.{reset_and_copied, clocks_swapped, labelled_a}
@@ -58,12 +57,9 @@ pub data Fact : Type 0 where
   -- the walker refuses the run with this number and place
   run_refused : Model → List ℕ → ℕ → ℕ → Fact
   -- the steps are a run
-  is_aRun : Model → List ℕ → Fact
+  is_a_run : Model → List ℕ → Fact
   -- composing the two records answers with this number
   composing_is : Model → Model → ℕ → Fact
-  -- the list for k, with these lemmas behind it and these hints, is refuted; it is not
-  is_refuted : Model → ℕ → List ℤ → List ℕ → Fact
-  not_refuted : Model → ℕ → List ℤ → List ℕ → Fact
 
 -- ---- how it is checked: by evaluation
 -- All lists of k numbers below n, in order.
@@ -99,10 +95,6 @@ equal_step r t =
     eqb r.number 0 && eqb r.state.location t.location && equal_lists eqb r.state.counters t.counters &&
     equal_lists eqb r.state.clocks t.clocks
 
--- The outcome of the refuting call on words that have room for the list and hold these lemmas behind it.
-abbrev outcome_of : Model → ℕ → List ℤ → List ℕ → ℕ
-outcome_of m k lemmas hints = (refute_report m k (replicate (length (words m k)) (pos 0) ++ lemmas) hints).outcome
-
 -- Those that pass the test, in order.
 abbrev keep_if : (List ℕ → Bool) → List (List ℕ) → List (List ℕ)
 keep_if p [] = []
@@ -127,10 +119,8 @@ holds (assignment_refused m k a number place) = equal_refusal (decode_report m k
 holds (runs_are m k rs) = equal_lists (equal_lists eqb) (keep_if (is_run m) (strings (choices m) k)) rs
 holds (step_is m l xs byte l' ys) = equal_step (step_report m (standing l xs) byte) (standing l' ys)
 holds (run_refused m r number place) = equal_refusal (walk_report m r) number place
-holds (is_aRun m r) = is_run m r
+holds (is_a_run m r) = is_run m r
 holds (composing_is a b number) = eqb (compose_report a b).number number
-holds (is_refuted m k lemmas hints) = eqb (outcome_of m k lemmas hints) 1
-holds (not_refuted m k lemmas hints) = eqb (outcome_of m k lemmas hints) 2
 
 -- ---- the rows
 -- A row: the number of its case P1 to P10 and what it says; 0 for what the cases take for granted, for the small models and for numbers.
@@ -141,8 +131,8 @@ pub record Row : Type 0 where
 abbrev P : ℕ → Fact → Row
 P n f = record { number = n; says = f }
 
--- P1 to P10, the lists of the small models for one step, what pairs of models compose, both sides of each limit of it, refutations of model A's list and
--- lemmas and hints that are none, and the numbers of members, up to the greatest.
+-- P1 to P10, the lists of the small models for one step, what pairs of models compose, both sides of each limit of it, and the numbers of members, up to
+-- the greatest.
 unfoldable pub rows : List Row
 rows =
     P 0 (are_formed (model_a ∷ waiting_a ∷ model_b ∷ clock_relations ∷ counter_relations ∷ counter_updates ∷ two_of_each ∷ [])) ∷
@@ -199,7 +189,7 @@ rows =
     P 0 (totals_are logger_and_watchdog 5 21 11) ∷
     P 0 (counts_are logger_and_watchdog 1 53 382 1361) ∷
     P 0 (runs_are logger_and_watchdog 2 []) ∷
-    P 0 (is_aRun logger_and_watchdog (1 ∷ 6 ∷ 1 ∷ 10 ∷ [])) ∷
+    P 0 (is_a_run logger_and_watchdog (1 ∷ 6 ∷ 1 ∷ 10 ∷ [])) ∷
     P 0 (counts_are (apart_a 0 0) 1 14 48 158) ∷
     P 0 (runs_are (apart_a 0 0) 2 ((2 ∷ 5 ∷ []) ∷ (4 ∷ 3 ∷ []) ∷ [])) ∷
     P 0 (counts_are (paired_a 1) 1 11 30 101) ∷
@@ -221,16 +211,6 @@ rows =
     P 0 (composing_is (guarded 2 1) (guarded 2 1) 0) ∷
     P 0 (composing_is (guarded 3 1) (guarded 2 1) 38) ∷
     P 0 (composing_is (guarded 3 1) (guarded 2 2) 0) ∷
-    P 0 (is_refuted model_a 0 (end ∷ []) (6 ∷ 8 ∷ 3 ∷ [])) ∷
-    P 0 (is_refuted model_a 0 (neg 2 ∷ end ∷ end ∷ []) (6 ∷ 3 ∷ 10 ∷ 8 ∷ [])) ∷
-    P 0 (not_refuted model_a 0 [] (6 ∷ 8 ∷ 3 ∷ [])) ∷
-    P 0 (not_refuted model_a 0 (end ∷ []) (6 ∷ 8 ∷ 4 ∷ [])) ∷
-    P 0 (not_refuted model_a 0 (end ∷ []) (6 ∷ 8 ∷ [])) ∷
-    P 0 (not_refuted model_a 0 (neg 2 ∷ end ∷ []) (6 ∷ 3 ∷ [])) ∷
-    P 0 (not_refuted model_a 0 (end ∷ []) (10 ∷ [])) ∷
-    P 0 (not_refuted model_a 1 (end ∷ []) (6 ∷ 49 ∷ 3 ∷ [])) ∷
-    P 0 (not_refuted model_a 0 (pos 21777 ∷ end ∷ end ∷ []) (6 ∷ 8 ∷ 3 ∷ 6 ∷ 8 ∷ 3 ∷ [])) ∷
-    P 0 (is_refuted model_a 0 (pos 21776 ∷ end ∷ end ∷ []) (6 ∷ 8 ∷ 3 ∷ 6 ∷ 8 ∷ 3 ∷ [])) ∷
     P 0 (numbers_are model_a 1 (1 ∷ 2 ∷ 3 ∷ 4 ∷ 5 ∷ 6 ∷ 7 ∷ [])) ∷
     P 0 (state_number_is model_b 1 (counter 0) 1 25) ∷
     P 0 (choice_number_is model_b 2 7 57) ∷

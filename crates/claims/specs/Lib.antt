@@ -10,3 +10,4 @@ pub mod Outputs
 pub mod Refuted
 pub mod Answers
 pub mod Cases
+pub mod Refutations

@@ -1,6 +1,6 @@
 -- The calls for C on two model texts: what they answer and leave, as the calls of which the demands are said; that none of them answers 20; what the worked
 -- pairs compose.
-use Rattle.std.specs.Prelude.{◌≡◌, List, ℕ, ℤ, length}
+use Rattle.std.specs.Prelude.{◌≡◌, List, ℕ, length}
 use Rattle.model.specs.declared.Model.{Model}
 use Rattle.model.specs.declared.State.{State}
 use Rattle.model.specs.Automaton.{initial_state}
@@ -17,12 +17,10 @@ use Rattle.text.specs.bytes.Ascii.{text_of}
 use Rattle.text.specs.Text.{read_report, read_accepted}
 use Rattle.sizing.specs.SizeCall.{refused_sizes, emitted_sizes}
 use Rattle.dimacs.specs.DimacsCall.{file_report, file_left}
-use Rattle.refute.specs.RefuteCall.{refute_report}
 use Rattle.wirdoku.specs.TextCall.{counted_sizes, shape_of, refused_shape, file_reply, refused_file, state_answer, zero_state, step_answer}
-use Rattle.wirdoku.specs.TextCall.{refute_reply, refused_refute}
 use Rattle.wirdoku.specs.PairCall.{PairReport, pair_report, if_pair, if_both, parts_answer, refused_parts}
 use Rattle.claims.specs.Calls.{Calls}
-use Rattle.claims.specs.Texts.{counts_in, file_in, refutes_in, Not20}
+use Rattle.claims.specs.Texts.{counts_in, file_in, Not20}
 use Rattle.claims.specs.RowModels.{labelled_a}
 use Rattle.claims.specs.PairModels.{logger_text, watchdog_text, logger, watchdog, logger_and_watchdog, apart_a, paired_a}
 
@@ -39,7 +37,7 @@ IsPair t u = (pair_of t u).number ≡ 0
 abbrev pub pair_model : List ℕ → List ℕ → Model
 pair_model t u = (pair_of t u).model
 
--- The right-hand sides of the contracts of wirdoku_pair_emit, _dimacs, _walk, _assignment_to_run, _run_to_assignment and _refute.
+-- The right-hand sides of the contracts of wirdoku_pair_emit, _dimacs, _walk, _assignment_to_run and _run_to_assignment.
 abbrev pub pair_calls : List ℕ → List ℕ → Calls
 pair_calls t u = record {
   model = pair_model t u;
@@ -52,7 +50,6 @@ pair_calls t u = record {
   decoded = λ k a run. if_pair (pair_of t u) (λ m. decode_left m k a run) (λ n l. run);
   encodes = λ r out. if_pair (pair_of t u) (λ m. encode_report m r (length out)) refusal;
   encoded = λ r out. if_pair (pair_of t u) (λ m. encode_left m r out) (λ n l. out);
-  refutes = λ k old hints. refutes_in (if_pair (pair_of t u) (λ m. refute_reply (refute_report m k old hints)) refused_refute);
 }
 
 -- ---- the number 20
@@ -69,8 +66,6 @@ pub record PairNever20 : Type 0 where
   pub walk : (t u r : List ℕ) → Not20 (if_pair (pair_of t u) (λ m. walk_report m r) refusal).number
   pub assignment_to_run : (t u : List ℕ) (k : ℕ) (a : List ℕ) (room : ℕ) → Not20 (if_pair (pair_of t u) (λ m. decode_report m k a room) refusal).number
   pub run_to_assignment : (t u r : List ℕ) (room : ℕ) → Not20 (if_pair (pair_of t u) (λ m. encode_report m r room) refusal).number
-  pub refute : (t u : List ℕ) (k : ℕ) (old : List ℤ) (hints : List ℕ)
-      → Not20 (if_pair (pair_of t u) (λ m. refute_reply (refute_report m k old hints)) refused_refute).number
   pub parts : (t u : List ℕ) (byte : ℕ)
       → Not20 (if_both (read_report t) (read_report u) (λ a b. parts_answer (parts_report a b byte)) (λ text. refused_parts)).number
 

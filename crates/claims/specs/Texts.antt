@@ -1,6 +1,6 @@
 -- The calls for C on a model text: what they answer and leave, as the calls of which the demands are said; that none of them answers 20; what the texts
 -- of the small models are read as. What is used of the crates that read a text and of the crate of the calls for C is imported here.
-use Rattle.std.specs.Prelude.{◌≡◌, List, ℕ, ℤ, length}
+use Rattle.std.specs.Prelude.{◌≡◌, List, ℕ, length}
 use Rattle.model.specs.declared.Model.{Model}
 use Rattle.model.specs.declared.State.{State}
 use Rattle.model.specs.Automaton.{initial_state}
@@ -15,11 +15,8 @@ use Rattle.text.specs.bytes.Ascii.{text_of}
 use Rattle.text.specs.Text.{read_report, read_accepted, if_read}
 use Rattle.sizing.specs.SizeCall.{SizeReport, refused_sizes, text_sizes, text_left, size_report}
 use Rattle.dimacs.specs.DimacsCall.{FileReport, file_report, file_reported, file_left}
-use Rattle.refute.specs.RefuteCall.{RefuteReport, refute_reported, refute_report}
 use Rattle.wirdoku.specs.TextCall.{text_report, counted_sizes, shape_of, refused_shape, file_reply, refused_file, state_answer, zero_state, step_answer}
-use Rattle.wirdoku.specs.TextCall.{refute_reply, refused_refute}
 use Rattle.wirdoku.specs.declared.FileReply.{FileReply}
-use Rattle.wirdoku.specs.declared.RefuteReply.{RefuteReply}
 use Rattle.claims.specs.Calls.{Calls}
 use Rattle.claims.specs.RowModels.{clock_relations, clock_relations_text, counter_relations, counter_relations_text}
 use Rattle.claims.specs.RowModels.{counter_updates, counter_updates_text, two_of_each, two_of_each_text, raised_then_copied, raised_then_copied_text}
@@ -43,12 +40,7 @@ counts_in s = emit_reported s.number s.variables s.clauses s.words
 abbrev pub file_in : FileReply → FileReport
 file_in r = file_reported r.number r.bytes
 
--- The refuting call's numbers in the four of its answer to C.
-abbrev pub refutes_in : RefuteReply → RefuteReport
-refutes_in r = refute_reported r.number r.words r.outcome
-
--- The right-hand sides of the contracts of wirdoku_emit, wirdoku_dimacs, wirdoku_walk, wirdoku_assignment_to_run, wirdoku_run_to_assignment and
--- wirdoku_refute.
+-- The right-hand sides of the contracts of wirdoku_emit, wirdoku_dimacs, wirdoku_walk, wirdoku_assignment_to_run and wirdoku_run_to_assignment.
 abbrev pub text_calls : List ℕ → Calls
 text_calls t = record {
   model = text_model t;
@@ -61,7 +53,6 @@ text_calls t = record {
   decoded = λ k a run. if_read (read_report t) (λ m. decode_left m k a run) (λ n l. run);
   encodes = λ r out. if_read (read_report t) (λ m. encode_report m r (length out)) refusal;
   encoded = λ r out. if_read (read_report t) (λ m. encode_left m r out) (λ n l. out);
-  refutes = λ k old hints. refutes_in (if_read (read_report t) (λ m. refute_reply (refute_report m k old hints)) refused_refute);
 }
 
 -- ---- the number 20
@@ -83,8 +74,6 @@ pub record Never20 : Type 0 where
   pub assignment_to_run : (t : List ℕ) (k : ℕ) (a : List ℕ) (room : ℕ)
       → Not20 (if_read (read_report t) (λ m. decode_report m k a room) refusal).number
   pub run_to_assignment : (t r : List ℕ) (room : ℕ) → Not20 (if_read (read_report t) (λ m. encode_report m r room) refusal).number
-  pub refute : (t : List ℕ) (k : ℕ) (old : List ℤ) (hints : List ℕ)
-      → Not20 (if_read (read_report t) (λ m. refute_reply (refute_report m k old hints)) refused_refute).number
 
 -- ---- the small models
 -- Each text is read as its record.

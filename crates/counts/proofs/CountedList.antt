@@ -57,7 +57,7 @@ module _ {m : Model} {b : GroupTable} (k : Known m b) where
   pub delay_counted : (x o d : ℕ) → Counted (each b.groups (λ g. part_clauses x (delay_part b o d g))) b.state (b.state * 4)
   delay_counted x o d = record {
     clauses_are = sym (length_each (size_at b) b.groups (λ g. part_clauses x (delay_part b o d g)) (λ g. kept g (ltb g (1 + b.vars))) ∙ members_are k);
-    words_are = sym (words_each (λ g. size_at b g * 4) b.groups (λ g. part_clauses x (delay_part b o d g)) (λ g. kept-words g (ltb g (1 + b.vars)))
+    words_are = sym (words_each (λ g. size_at b g * 4) b.groups (λ g. part_clauses x (delay_part b o d g)) (λ g. kept_words g (ltb g (1 + b.vars)))
         ∙ four (size_at b) b.groups ∙ ap (λ (n : ℕ). n * 4) (members_are k));
   }
     where
@@ -65,9 +65,9 @@ module _ {m : Model} {b : GroupTable} (k : Known m b) where
       kept g true = part_count_lem x (leads_part b o o g g Keep) ∙ omega (arith, sum_const (size_at b g) 1)
       kept g false = part_count_lem x (leads_part b o o g g (Rise d b.top)) ∙ omega (arith, sum_const (size_at b g) 1)
 
-      kept-words : (g : ℕ) (t : Bool) → length (words_of (part_clauses x (leads_part b o o g g (cond t Keep (Rise d b.top))))) ≡ size_at b g * 4
-      kept-words g true = part_words_lem x (leads_part b o o g g Keep) ∙ sum_const (size_at b g) 4
-      kept-words g false = part_words_lem x (leads_part b o o g g (Rise d b.top)) ∙ sum_const (size_at b g) 4
+      kept_words : (g : ℕ) (t : Bool) → length (words_of (part_clauses x (leads_part b o o g g (cond t Keep (Rise d b.top))))) ≡ size_at b g * 4
+      kept_words g true = part_words_lem x (leads_part b o o g g Keep) ∙ sum_const (size_at b g) 4
+      kept_words g false = part_words_lem x (leads_part b o o g g (Rise d b.top)) ∙ sum_const (size_at b g) 4
 
   -- the choice's group and the delays
   front_counted : {p q : ℕ} (o : ℕ) → ((first : ℕ) → Counted (group_clauses first b.choices) p q)

@@ -48,7 +48,8 @@ unfolding first_wrong_byte
 wrong_iff [] i = (λ h. tt, λ h. refl)
 wrong_iff (x ∷ a) i = go (ltb 1 x) refl (wrong_iff a (i + 1))
   where
-    go : (b : Bool) → ltb 1 x ≡ b → (first_wrong_byte (i + 1) a ≡ none) ↔ Binary a → (cond b (some i) (first_wrong_byte (i + 1) a) ≡ none) ↔ ((x < 2) × Binary a)
+    go : (b : Bool) → ltb 1 x ≡ b → (first_wrong_byte (i + 1) a ≡ none) ↔ Binary a
+        → (cond b (some i) (first_wrong_byte (i + 1) a) ≡ none) ↔ ((x < 2) × Binary a)
     go true e ih = ((λ h. absurd (some_none (sym h))), λ h. absurd (omega (arith, ltb-true 1 x e, h.0)))
     go false e ih = ((λ h. (omega (arith, ltb-false 1 x e), ih.0 h)), λ h. ih.1 h.1)
 

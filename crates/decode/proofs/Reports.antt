@@ -34,24 +34,24 @@ module _ (m : Model) (k : ℕ) (a : List ℕ) (n : ℕ) where
     report_21 b = rw (w, b)
 
     module _ (b : ltb 64 k ≡ false) where
-      pub report-23 : eqb (length a) (variables m k) ≡ false → decode_report m k a n ≡ refusal 23 0
+      pub report_23 : eqb (length a) (variables m k) ≡ false → decode_report m k a n ≡ refusal 23 0
       unfolding decode_report
-      report-23 l = rw (w, b, l)
+      report_23 l = rw (w, b, l)
 
       module _ (l : eqb (length a) (variables m k) ≡ true) where
-        pub report-24 : {i : ℕ} → first_wrong_byte 0 a ≡ some i → decode_report m k a n ≡ refusal 24 i
+        pub report_24 : {i : ℕ} → first_wrong_byte 0 a ≡ some i → decode_report m k a n ≡ refusal 24 i
         unfolding decode_report
-        report-24 h = rw (w, b, l, h)
+        report_24 h = rw (w, b, l, h)
 
         module _ (h : first_wrong_byte 0 a ≡ none) where
-          pub report-25 : ltb n k ≡ true → decode_report m k a n ≡ refusal 25 0
+          pub report_25 : ltb n k ≡ true → decode_report m k a n ≡ refusal 25 0
           unfolding decode_report
-          report-25 s = rw (w, b, l, h, s)
+          report_25 s = rw (w, b, l, h, s)
 
           module _ (s : ltb n k ≡ false) where
-            pub report-26 : {i : ℕ} → first_false a (clauses m k) ≡ some i → decode_report m k a n ≡ refusal 26 i
+            pub report_26 : {i : ℕ} → first_false a (clauses m k) ≡ some i → decode_report m k a n ≡ refusal 26 i
             unfolding decode_report
-            report-26 f = rw (w, b, l, h, s, f)
+            report_26 f = rw (w, b, l, h, s, f)
 
             pub report_0 : first_false a (clauses m k) ≡ none → decode_report m k a n ≡ accepted
             unfolding decode_report
@@ -89,10 +89,11 @@ decode_accepts m k a n = (to, of)
 
     to : decode_report m k a n ≡ accepted → T (well_formed m) × (k ≤ 64) × (k ≤ n) × Satisfies m k a
     to h =
-        unfold decode_report in go (well_formed m) (ltb 64 k) (eqb (length a) (variables m k)) (first_wrong_byte 0 a) (ltb n k) (first_false a (clauses m k)) refl
-        refl refl refl refl h
+        unfold decode_report in go (well_formed m) (ltb 64 k) (eqb (length a) (variables m k)) (first_wrong_byte 0 a) (ltb n k) (first_false a (clauses m k))
+        refl refl refl refl refl h
       where
-        go : (w b l : Bool) (x : Option ℕ) (s : Bool) (f : Option ℕ) → ltb 64 k ≡ b → eqb (length a) (variables m k) ≡ l → first_wrong_byte 0 a ≡ x → ltb n k ≡ s
+        go : (w b l : Bool) (x : Option ℕ) (s : Bool) (f : Option ℕ) → ltb 64 k ≡ b → eqb (length a) (variables m k) ≡ l
+            → first_wrong_byte 0 a ≡ x → ltb n k ≡ s
             → first_false a (clauses m k) ≡ f
             → cond (not w) (refusal 20 0) (cond b (refusal 21 0)
             (cond (not l) (refusal 23 0) (maybe x (cond s (refusal 25 0) (maybe f accepted (λ i. refusal 26 i))) (λ i. refusal 24 i)))) ≡ accepted

@@ -185,7 +185,8 @@ module _ (m : Model) (k r : ℕ) where
   not_repeats e = rw e refl
 
   -- by what the code knows: where the two rows begin, how many variables they name, and how many digits the least and the greatest number have
-  pub if_repeats : {a b n x y : ℕ} → follows_step k r ≡ true → a ≡ block_at one_hot_width m (r - 1 - 1) → b ≡ block_at one_hot_width m (r - 1) → n ≡ variables m 1
+  pub if_repeats : {a b n x y : ℕ} → follows_step k r ≡ true → a ≡ block_at one_hot_width m (r - 1 - 1) → b ≡ block_at one_hot_width m (r - 1)
+      → n ≡ variables m 1
       → x ≡ digit_count (a + 1) → y ≡ digit_count (b + n) → eqb x y ≡ repeats_row m k r
   unfolding repeats_row
   if_repeats {a} {b} {n} {x} {y} e ea eb en ex ey =

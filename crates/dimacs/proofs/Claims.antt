@@ -29,7 +29,7 @@ use Rattle.dimacs.proofs.PrintLaws as print
 
 -- Reading the numbers after the first line back gives the word list exactly.
 pub read_back_lem : (m : Model) (k : ℕ) → read_back (file m k) ≡ words m k
-read_back_lem = back.read_back
+read_back_lem = back.read_back_lem
 
 -- The first line is `p cnf` and two numbers, the variables and the number of clauses.
 pub first_line_key : (m : Model) (k : ℕ) → take 6 (file m k) ≡ ascii "p cnf "
@@ -39,7 +39,8 @@ pub first_line_numbers : (m : Model) (k : ℕ) → take 2 (numbers_in (drop 6 (f
 first_line_numbers = back.first_line_numbers
 
 -- No page that the program prints is longer than its buffer.
-pub page_most : (m : Model) → T (well_formed m) → (k : ℕ) → k ≤ 64 → (r p : ℕ) → r < row_count k → p < pages_in m k r → length (page_of m k r p) ≤ most_page_bytes
+pub page_most : (m : Model) → T (well_formed m) → (k : ℕ) → k ≤ 64 → (r p : ℕ) → r < row_count k → p < pages_in m k r
+    → length (page_of m k r p) ≤ most_page_bytes
 page_most = pages.page_most
 
 -- The pages that the program prints, one after the other, are the file.

@@ -90,8 +90,10 @@ module _ (m : Model) (k : ℕ) where
   pub printed_is : has_file m k ≡ true → printed m k ≡ file m k
   unfolding printed
   printed_is e =
-      each_cong (rows_to_print m k) (λ r. each (pages_to_print m k r) (λ p. page_text m k r p most_page_bytes)) (λ r. each (pages_to_print m k r) (page_of m k r))
-      (λ r h. each_cong (pages_to_print m k r) (λ p. page_text m k r p most_page_bytes) (page_of m k r) (λ p l. some_page r p most_page_bytes h l (omega arith)))
+      each_cong (rows_to_print m k) (λ r. each (pages_to_print m k r) (λ p. page_text m k r p most_page_bytes))
+      (λ r. each (pages_to_print m k r) (page_of m k r))
+      (λ r h. each_cong (pages_to_print m k r) (λ p. page_text m k r p most_page_bytes) (page_of m k r)
+      (λ p l. some_page r p most_page_bytes h l (omega arith)))
       ∙ each_cong (rows_to_print m k) (λ r. each (pages_to_print m k r) (page_of m k r)) (λ r. each (pages_in m k r) (page_of m k r))
       (λ r h. ap (λ (n : ℕ). each n (page_of m k r)) (pages_are r e))
       ∙ ap (λ (n : ℕ). each n (λ r. each (pages_in m k r) (page_of m k r))) (rows_are e)

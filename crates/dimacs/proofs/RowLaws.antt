@@ -39,7 +39,8 @@ clause_raised d c = ap (λ (zs : List ℤ). zs ++ (pos 0 ∷ [])) (literals_rais
 pub words_raised : (d : ℕ) (cs : List Clause) → words_of (raised d cs) ≡ map (raised_word d) (words_of cs)
 unfolding words_of
 words_raised d [] = refl
-words_raised d (c ∷ cs) = ap₂ (λ (x y : List ℤ). x ++ y) (clause_raised d c) (words_raised d cs) ∙ sym (map-append (raised_word d) (clause_words c) (words_of cs))
+words_raised d (c ∷ cs) =
+    ap₂ (λ (x y : List ℤ). x ++ y) (clause_raised d c) (words_raised d cs) ∙ sym (map-append (raised_word d) (clause_words c) (words_of cs))
 
 -- ---- how long the text of a raised word is
 raised_long : (d : ℕ) (z : ℤ) → (nat_abs z ≡ 0 → ⊥) → length (word_text (raised_word d z)) ≡ length (sign_text z) + length (digits (d + nat_abs z)) + 1

@@ -2,7 +2,7 @@
 use Rattle.std.specs.Prelude.{ℕ, cond, List, ltb, drop}
 use Rattle.model.specs.declared.Model.{Model}
 use Rattle.model.specs.Record.{blank_model}
-use Rattle.text.specs.Bound.{BoundReport, bound_report, if_bound}
+use Rattle.text.specs.Bound.{bound_report, if_bound}
 use Rattle.text.specs.Text.{ReadReport, read_report, if_read}
 use Rattle.dimacs.specs.declared.Request.{Request}
 

@@ -107,7 +107,8 @@ module _ {m : Model} {b : GroupTable} (k : Known m b) where
   abbrev pub state_pieces : ℕ → List Clause
   state_pieces o = each b.groups (group_piece b o) ++ each (size_at b 0) (location_piece m b o)
 
-  pub start_is : (o : ℕ) → o ≡ block_at one_hot_width m 0 → clauses_of (start_items one_hot_width m) ≡ state_pieces o ++ clauses_of (initial_items one_hot_width m)
+  pub start_is : (o : ℕ) → o ≡ block_at one_hot_width m 0
+      → clauses_of (start_items one_hot_width m) ≡ state_pieces o ++ clauses_of (initial_items one_hot_width m)
   start_is o e =
       let z : 0 ≡ o = omega (arith, e) in
       start_piece m ∙ ap (λ (l : List Clause). l ++ clauses_of (initial_items one_hot_width m))

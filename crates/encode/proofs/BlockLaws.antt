@@ -73,19 +73,19 @@ module _ (m : Model) where
         advanced (step m s (get_or run t 0)) a e x.0 x.1
 
     module _ (u : State) (h : step m s (get_or run t 0) ≡ some u) where
-      pub reached-more : walk m first (take (t + 1) run) ≡ some u
-      reached-more =
+      pub reached_more : walk m first (take (t + 1) run) ≡ some u
+      reached_more =
           ap (walk m first) more ∙ walk_app m (take t run) (get_or run t 0 ∷ []) first s reached ∙ walk_step m s u (get_or run t 0) [] h ∙ (walk_nil m u u).1 refl
 
-      pub steps-more : steps_bytes one_hot m first (take (t + 1) run) ≡ steps_bytes one_hot m first (take t run) ++ step_bytes m (get_or run t 0) u
-      steps-more =
+      pub steps_more : steps_bytes one_hot m first (take (t + 1) run) ≡ steps_bytes one_hot m first (take t run) ++ step_bytes m (get_or run t 0) u
+      steps_more =
           ap (steps_bytes one_hot m first) more ∙ steps_append (take t run) (get_or run t 0 ∷ []) first s reached ∙
           ap (λ (x : List ℕ). steps_bytes one_hot m first (take t run) ++ x)
           (steps_cons s u (get_or run t 0) [] h ∙ rw (steps_none m u) (append-nil (step_bytes m (get_or run t 0) u)))
 
-      pub steps-whole :
+      pub steps_whole :
           steps_bytes one_hot m first run ≡ steps_bytes one_hot m first (take t run) ++ step_bytes m (get_or run t 0) u ++ steps_bytes one_hot m u (drop (t + 1) run)
-      steps-whole =
+      steps_whole =
           ap (steps_bytes one_hot m first) (sym (take-append-drop t run)) ∙ steps_append (take t run) (drop t run) first s reached ∙
           ap (λ (x : List ℕ). steps_bytes one_hot m first (take t run) ++ x)
           (ap (steps_bytes one_hot m s) rest ∙ steps_cons s u (get_or run t 0) (drop (t + 1) run) h) ∙

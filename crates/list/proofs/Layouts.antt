@@ -117,32 +117,32 @@ module _ (Y : Layout) (m : Model) where
       C : List ℕ
       C = each m.clocks (λ i. component_bytes s (clock i))
 
-      atW : At a (o + length L) W ↔ ((i : ℕ) → i < nv → At a (o + length L + sum_below (λ i. Y.width (group_size m (counter i))) i)
+      at_w : At a (o + length L) W ↔ ((i : ℕ) → i < nv → At a (o + length L + sum_below (λ i. Y.width (group_size m (counter i))) i)
           (component_bytes s (counter i)))
-      atW = at_each (λ i. Y.width (group_size m (counter i))) a (o + length L) nv (λ i. component_bytes s (counter i))
+      at_w = at_each (λ i. Y.width (group_size m (counter i))) a (o + length L) nv (λ i. component_bytes s (counter i))
           (λ i. Y.bytes_length (group_size m (counter i)) (value s (counter i)))
 
-      atC : At a (o + length (L ++ W)) C
+      at_c : At a (o + length (L ++ W)) C
           ↔ ((i : ℕ) → i < m.clocks → At a (o + length (L ++ W) + sum_below (λ i. Y.width (ceiling m + 1)) i) (component_bytes s (clock i)))
-      atC = at_each (λ i. Y.width (ceiling m + 1)) a (o + length (L ++ W)) m.clocks (λ i. component_bytes s (clock i))
+      at_c = at_each (λ i. Y.width (ceiling m + 1)) a (o + length (L ++ W)) m.clocks (λ i. component_bytes s (clock i))
           (λ i. Y.bytes_length (ceiling m + 1) (value s (clock i)))
 
       place_w : (i : ℕ) → o + length L + sum_below (λ i. Y.width (group_size m (counter i))) i ≡ o + offset Y.width m (counter i)
       place_w i = omega (arith, location_length s)
 
-      placeC : (i : ℕ) → o + length (L ++ W) + sum_below (λ i. Y.width (ceiling m + 1)) i ≡ o + offset Y.width m (clock i)
-      placeC i = omega (arith, location_length s, counters_length s, length-append L W, sum_const i (Y.width (ceiling m + 1)))
+      place_c : (i : ℕ) → o + length (L ++ W) + sum_below (λ i. Y.width (ceiling m + 1)) i ≡ o + offset Y.width m (clock i)
+      place_c i = omega (arith, location_length s, counters_length s, length-append L W, sum_const i (Y.width (ceiling m + 1)))
 
       to : At a o (state_bytes Y.bytes m s) → (x : Component) → Declared m x → At a (o + offset Y.width m x) (component_bytes s x)
       to h loc p = rw add-zero ((at_app a o L W).0 ((at_app a o (L ++ W) C).0 h).0).0
-      to h (counter i) p = rw (← place_w i) (atW.0 ((at_app a o L W).0 ((at_app a o (L ++ W) C).0 h).0).1 i p)
-      to h (clock i) p = rw (← placeC i) (atC.0 ((at_app a o (L ++ W) C).0 h).1 i p)
+      to h (counter i) p = rw (← place_w i) (at_w.0 ((at_app a o L W).0 ((at_app a o (L ++ W) C).0 h).0).1 i p)
+      to h (clock i) p = rw (← place_c i) (at_c.0 ((at_app a o (L ++ W) C).0 h).1 i p)
 
       of : ((x : Component) → Declared m x → At a (o + offset Y.width m x) (component_bytes s x)) → At a o (state_bytes Y.bytes m s)
       of h = (at_app a o (L ++ W) C).1 (
-        (at_app a o L W).1 (rw add-zero at (h loc tt), atW.1 (λ i p. rw (place_w i) (h (counter i) p))),
-        atC.1
-            (λ i p. rw (placeC i) (h (clock i) p)),
+        (at_app a o L W).1 (rw add-zero at (h loc tt), at_w.1 (λ i p. rw (place_w i) (h (counter i) p))),
+        at_c.1
+            (λ i p. rw (place_c i) (h (clock i) p)),
       )
 
 pub bytes_step : (Y : Layout) (m : Model) (s t : State) (b : ℕ) (r : List ℕ) → step m s b ≡ some t

@@ -106,9 +106,9 @@ module _ (m : Model) where
 
     -- ---- a state block at o
     module _ (o : ℕ) (h : o + S ≤ N) where
-      values-inside : (ms : List Member) → All (Inside N) ms → (x : Component) → Declared m x → (rel : Relation) (b : ℕ)
+      values_inside : (ms : List Member) → All (Inside N) ms → (x : Component) → Declared m x → (rel : Relation) (b : ℕ)
           → All (ItemInside N) (exclude_values one_hot_width m o ms x rel b)
-      values-inside ms g x p rel b = (all_each (ItemInside N) (group_size m x) _).1 (λ v l. go v l (meets rel v b))
+      values_inside ms g x p rel b = (all_each (ItemInside N) (group_size m x) _).1 (λ v l. go v l (meets rel v b))
         where
           go : (v : ℕ) → v < group_size m x → (t : Bool) → All (ItemInside N) (cond t [] (rule (ms ++ (state_member one_hot_width m o x v ∷ [])) none ∷ []))
           go v l true = tt
@@ -116,25 +116,25 @@ module _ (m : Model) where
               let failing = state_member one_hot_width m o x v ∷ [] in
               (((all_app (Inside N) ms failing).1 (g, (state_inside o h x p v l, tt)), tt), tt)
 
-      atom-inside : (ms : List Member) → All (Inside N) ms → (t : Atom) → DeclaredAtom m t → All (ItemInside N) (exclude_failing one_hot_width m o ms t)
-      atom-inside ms g Blank p = tt
-      atom-inside ms g (OnClock x rel b) p = values-inside ms g (clock x) p rel b
-      atom-inside ms g (OnCounter x rel b) p = values-inside ms g (counter x) p rel b
+      atom_inside : (ms : List Member) → All (Inside N) ms → (t : Atom) → DeclaredAtom m t → All (ItemInside N) (exclude_failing one_hot_width m o ms t)
+      atom_inside ms g Blank p = tt
+      atom_inside ms g (OnClock x rel b) p = values_inside ms g (clock x) p rel b
+      atom_inside ms g (OnCounter x rel b) p = values_inside ms g (counter x) p rel b
 
-      atoms-inside : (ms : List Member) → All (Inside N) ms → (atoms : List AtomSlot) → ((k : ℕ) → k < 4 → DeclaredAtom m (atom_at atoms k))
+      atoms_inside : (ms : List Member) → All (Inside N) ms → (atoms : List AtomSlot) → ((k : ℕ) → k < 4 → DeclaredAtom m (atom_at atoms k))
           → All (ItemInside N) (exclude_all_failing one_hot_width m o ms atoms)
-      atoms-inside ms g atoms p = (all_each (ItemInside N) 4 _).1 (λ k l. atom-inside ms g (atom_at atoms k) (p k l))
+      atoms_inside ms g atoms p = (all_each (ItemInside N) 4 _).1 (λ k l. atom_inside ms g (atom_at atoms k) (p k l))
 
-      state-items-inside : All (ItemInside N) (state_items one_hot_width m o)
+      state_items_inside : All (ItemInside N) (state_items one_hot_width m o)
       unfolding state_items group_items invariant_items
-      state-items-inside =
+      state_items_inside =
           let G : Component → List Item = λ x. group (o + offset one_hot_width m x) (group_size m x) ∷ [] in
           let I : ℕ → List Item = invariant_of one_hot_width m o in
           (all_app (ItemInside N) (over_components m G) (each m.locations I)).1 (
             (over_components_lem m (ItemInside N) G).1 (λ x p. (omega (arith, group_fits x p), tt)),
             (all_each (ItemInside N) m.locations I).1 (λ l p.
                 let stands = state_member one_hot_width m o loc l ∷ [] in
-                atoms-inside stands (state_inside o h loc tt l p, tt) (invariant_at m l) (ok.invariant_ok l p)),
+                atoms_inside stands (state_inside o h loc tt l p, tt) (invariant_at m l) (ok.invariant_ok l p)),
           )
 
     -- ---- a step from the block at o
@@ -142,87 +142,87 @@ module _ (m : Model) where
       here : o + S ≤ N
       here = omega arith
 
-      choice-inside : (c : ℕ) → c < choices m → Inside N (choice_member one_hot_width m o c)
-      choice-inside c p = omega arith
+      choice_inside : (c : ℕ) → c < choices m → Inside N (choice_member one_hot_width m o c)
+      choice_inside c p = omega arith
 
       abbrev next : ℕ
       next = next_block one_hot_width m o
 
-      after-inside : (y : Component) → Declared m y → (v : Option ℕ) → ((u : ℕ) → v ≡ some u → u < group_size m y)
+      after_inside : (y : Component) → Declared m y → (v : Option ℕ) → ((u : ℕ) → v ≡ some u → u < group_size m y)
           → All (Inside N) (to_list (Option.map (state_member one_hot_width m next y) v))
-      after-inside y p none f = tt
-      after-inside y p (some u) f = (state_inside next h y p u (f u refl), tt)
+      after_inside y p none f = tt
+      after_inside y p (some u) f = (state_inside next h y p u (f u refl), tt)
 
       module _ (c : ℕ) (hc : c < choices m) where
-        leads-inside : (before : ℕ) → before + S ≤ N → (x y : Component) → Declared m x → Declared m y → (f : ℕ → Option ℕ)
+        leads_inside : (before : ℕ) → before + S ≤ N → (x y : Component) → Declared m x → Declared m y → (f : ℕ → Option ℕ)
             → ((v u : ℕ) → v < group_size m x → f v ≡ some u → u < group_size m y)
             → All (ItemInside N) (leads one_hot_width m before o c x y f)
-        leads-inside before b x y p q f g = (all_each (ItemInside N) (group_size m x) _).1 (λ v l.
-            (((choice-inside c hc, (state_inside before b x p v l, tt)), after-inside y q (f v) (λ u e. g v u l e)), tt))
+        leads_inside before b x y p q f g = (all_each (ItemInside N) (group_size m x) _).1 (λ v l.
+            (((choice_inside c hc, (state_inside before b x p v l, tt)), after_inside y q (f v) (λ u e. g v u l e)), tt))
 
-        sets-inside : (y : Component) → Declared m y → (v : Option ℕ) → ((u : ℕ) → v ≡ some u → u < group_size m y)
+        sets_inside : (y : Component) → Declared m y → (v : Option ℕ) → ((u : ℕ) → v ≡ some u → u < group_size m y)
             → All (ItemInside N) (sets_to one_hot_width m o c y v)
-        sets-inside y q v g = (((choice-inside c hc, tt), after-inside y q v g), tt)
+        sets_inside y q v g = (((choice_inside c hc, tt), after_inside y q v g), tt)
 
         -- the state block in which an update reads its source
-        read-inside : (after : Bool) → cond after next o + S ≤ N
-        read-inside true = h
-        read-inside false = here
+        read_inside : (after : Bool) → cond after next o + S ≤ N
+        read_inside true = h
+        read_inside false = here
 
-        update-inside : (order : List ℕ) (i : ℕ) → i < m.vars → (u : Update) → DeclaredUpdate m u
+        update_inside : (order : List ℕ) (i : ℕ) → i < m.vars → (u : Update) → DeclaredUpdate m u
             → All (ItemInside N) (update_items one_hot_width m o c order i u)
-        update-inside order i p Keep q = leads-inside o here (counter i) (counter i) p p some (λ v u a b. rw (← some_inj b) a)
-        update-inside order i p (Constant n) q =
+        update_inside order i p Keep q = leads_inside o here (counter i) (counter i) p p some (λ v u a b. rw (← some_inj b) a)
+        update_inside order i p (Constant n) q =
             let greatest = (counter_at m i).greatest in
-            sets-inside (counter i) p (in_range greatest n) (in_range_lt greatest n)
-        update-inside order i p (Sum w z) q =
+            sets_inside (counter i) p (in_range greatest n) (in_range_lt greatest n)
+        update_inside order i p (Sum w z) q =
             let greatest = (counter_at m i).greatest in
             let b = read_block one_hot_width m o order w i in
-            leads-inside b (read-inside (set_earlier order w i)) (counter w) (counter i) q p (shifted z greatest) (λ v u a b. shifted_lt z greatest v u b)
+            leads_inside b (read_inside (set_earlier order w i)) (counter w) (counter i) q p (shifted z greatest) (λ v u a b. shifted_lt z greatest v u b)
 
-        reset-inside : (i : ℕ) → i < m.clocks → (u : ClockUpdate) → DeclaredReset m u → All (ItemInside N) (reset_items one_hot_width m o c i u)
-        reset-inside i p Unchanged d = leads-inside o here (clock i) (clock i) p p some (λ v u a b. rw (← some_inj b) a)
-        reset-inside i p Reset d = sets-inside (clock i) p (some 0) (λ u e. rw (← some_inj e) (omega arith))
-        reset-inside i p (Copy w) d = leads-inside o here (clock w) (clock i) d p some (λ v u a b. rw (← some_inj b) a)
+        reset_inside : (i : ℕ) → i < m.clocks → (u : ClockUpdate) → DeclaredReset m u → All (ItemInside N) (reset_items one_hot_width m o c i u)
+        reset_inside i p Unchanged d = leads_inside o here (clock i) (clock i) p p some (λ v u a b. rw (← some_inj b) a)
+        reset_inside i p Reset d = sets_inside (clock i) p (some 0) (λ u e. rw (← some_inj e) (omega arith))
+        reset_inside i p (Copy w) d = leads_inside o here (clock w) (clock i) d p some (λ v u a b. rw (← some_inj b) a)
 
-        edge-inside : (e : Edge) → WellFormedEdge m e → All (ItemInside N) (edge_items one_hot_width m o c e)
+        edge_inside : (e : Edge) → WellFormedEdge m e → All (ItemInside N) (edge_items one_hot_width m o c e)
         unfolding edge_items source_items target_items guard_items updates_items resets_items
-        edge-inside e w =
+        edge_inside e w =
             let source = source_items one_hot_width m o c e in
             let target = target_items one_hot_width m o c e in
             let guard = guard_items one_hot_width m o c e in
             let updates = updates_items one_hot_width m o c e in
             let resets = resets_items one_hot_width m o c e in
             (all_app₅ (ItemInside N) source target guard updates resets).1 (
-              (((choice-inside c hc, tt), (state_inside o here loc tt e.source w.source_ok, tt)), tt),
-              (((choice-inside c hc, tt), (state_inside next h loc tt e.target w.target_ok, tt)), tt),
-              atoms-inside o here (choice_member one_hot_width m o c ∷ []) (choice-inside c hc, tt) e.guard w.guard_ok,
+              (((choice_inside c hc, tt), (state_inside o here loc tt e.source w.source_ok, tt)), tt),
+              (((choice_inside c hc, tt), (state_inside next h loc tt e.target w.target_ok, tt)), tt),
+              atoms_inside o here (choice_member one_hot_width m o c ∷ []) (choice_inside c hc, tt) e.guard w.guard_ok,
               (all_each (ItemInside N) m.vars (λ i. update_items one_hot_width m o c e.order i (update_at e i))).1
-                  (λ i p. update-inside e.order i p (update_at e i) (w.sets_ok i p)),
+                  (λ i p. update_inside e.order i p (update_at e i) (w.sets_ok i p)),
               (all_each (ItemInside N) m.clocks (λ i. reset_items one_hot_width m o c i (reset_at e i))).1
-                  (λ i p. reset-inside i p (reset_at e i) (w.resets_ok i p)),
+                  (λ i p. reset_inside i p (reset_at e i) (w.resets_ok i p)),
             )
 
-      delay-inside : (d : ℕ) → d < ceiling m + 1 → All (ItemInside N) (delay_items one_hot_width m o d)
+      delay_inside : (d : ℕ) → d < ceiling m + 1 → All (ItemInside N) (delay_items one_hot_width m o d)
       unfolding delay_items
-      delay-inside d l =
+      delay_inside d l =
           let D : Component → List Item = λ x. leads one_hot_width m o o d x x (λ v. some (delayed_value m d x v)) in
           (over_components_lem m (ItemInside N) D).1 (λ x p.
           let to : ℕ → Option ℕ = λ v. some (delayed_value m d x v) in
-          leads-inside d (delay_lt m d l) o here x x p p to (λ v u a b. rw (← some_inj b) (delayed_lt m d x v a)))
+          leads_inside d (delay_lt m d l) o here x x p p to (λ v u a b. rw (← some_inj b) (delayed_lt m d x v a)))
 
-      step-inside : All (ItemInside N) (step_items one_hot_width m o)
+      step_inside : All (ItemInside N) (step_items one_hot_width m o)
       unfolding step_items choice_items delays_items edges_items
-      step-inside =
+      step_inside =
           let choice = choice_items one_hot_width m o in
           let delays = delays_items one_hot_width m o in
           let edges = edges_items one_hot_width m o in
           (all_app₄ (ItemInside N) choice delays edges (state_items one_hot_width m next)).1 (
             (omega arith, tt),
-            (all_each (ItemInside N) (ceiling m + 1) (delay_items one_hot_width m o)).1 delay-inside,
+            (all_each (ItemInside N) (ceiling m + 1) (delay_items one_hot_width m o)).1 delay_inside,
             (all_each (ItemInside N) m.used (edge_of one_hot_width m o)).1
-                (λ e l. edge-inside (ceiling m + 1 + e) (edge_lt m e l) (edge_at m e) (ok.edge_ok e l)),
-            state-items-inside next h,
+                (λ e l. edge_inside (ceiling m + 1 + e) (edge_lt m e l) (edge_at m e) (ok.edge_ok e l)),
+            state_items_inside next h,
           )
 
     start_inside : S ≤ N → All (ItemInside N) (start_items one_hot_width m)
@@ -231,7 +231,7 @@ module _ (m : Model) where
         let z : 0 + S ≤ N = omega arith in
         let I : Component → List Item = λ x. rule [] (some (state_member one_hot_width m 0 x (initial_value m x))) ∷ [] in
         (all_app (ItemInside N) (state_items one_hot_width m 0) (over_components m I)).1 (
-          state-items-inside 0 z,
+          state_items_inside 0 z,
           (over_components_lem m (ItemInside N) I).1
               (λ x p. ((tt, (state_inside 0 z x p (initial_value m x) (initial_lt m ok x p), tt)), tt)),
         )
@@ -245,7 +245,7 @@ module _ (m : Model) where
       (all_app (ItemInside N) (body_items one_hot_width m k) (end_items one_hot_width m k)).1 (
         (all_app (ItemInside N) (start_items one_hot_width m) (each k steps)).1 (
           start_inside ok N (omega arith),
-          (all_each (ItemInside N) k steps).1 (λ t p. step-inside ok N (block_at one_hot_width m t) (step_fits t p)),
+          (all_each (ItemInside N) k steps).1 (λ t p. step_inside ok N (block_at one_hot_width m t) (step_fits t p)),
         ),
         ((tt, (state_inside ok N (block_at one_hot_width m k) (omega arith) loc tt m.target ok.target_ok, tt)), tt),
       )

@@ -1,5 +1,5 @@
 -- "For each", "all", "the greatest", "the sum" and "the first" over an index from 0, and what may be missing.
-use Rattle.std.specs.Prelude.{Bool, true, false, ◌&&◌, cond, List, [], ◌∷◌, ◌++◌, ℕ, zero, suc, ◌+◌, max, ltb}
+use Rattle.std.specs.Prelude.{Bool, true, ◌&&◌, cond, List, [], ◌∷◌, ◌++◌, ℕ, zero, suc, ◌+◌, max, ltb}
 use Rattle.std.proofs.Math.Option.{Option, none, some}
 pub use Rattle.new_values.specs.NewValues.{only_if, is_some}
 

@@ -53,7 +53,7 @@ module _ (b : GroupTable) (e : Edge) (o : ℕ) where
       → ((k : ℕ) → k < 4 → C (atom_part b o (atom_at e.guard k))) → ((i : ℕ) → i < b.vars → C (update_part b o e.order i (update_at e i)))
       → ((i : ℕ) → i < clocks → C (reset_part b o i (reset_at e i))) → (j : ℕ) → j < 6 + b.vars + clocks → C (edge_part b e o j)
   edge_cases C clocks s t g u r j l = ⊎_elim
-      (λ p. below-six j p)
+      (λ p. below_six j p)
       (λ p. ⊎_elim
       (λ q. let z : j ≡ 6 + (j - 6) = omega arith in let d : j - 6 < b.vars = omega arith in
       subst (λ (n : ℕ). C (edge_part b e o n)) (sym z) (subst C (sym (counter_part (j - 6) d)) (u (j - 6) d)))
@@ -62,8 +62,8 @@ module _ (b : GroupTable) (e : Edge) (o : ℕ) where
       (lt_or_le j (6 + b.vars)))
       (lt_or_le j 6)
     where
-      below-six : (j : ℕ) → j < 6 → C (edge_part b e o j)
-      below-six j p = ⊎_elim
+      below_six : (j : ℕ) → j < 6 → C (edge_part b e o j)
+      below_six j p = ⊎_elim
           (λ q. let z : j ≡ 0 = omega arith in subst (λ (n : ℕ). C (edge_part b e o n)) (sym z) (subst C (sym source_part) s))
           (λ q. ⊎_elim
           (λ r. let z : j ≡ 1 = omega arith in subst (λ (n : ℕ). C (edge_part b e o n)) (sym z) (subst C (sym target_part) t))

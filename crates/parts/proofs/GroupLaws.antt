@@ -81,17 +81,17 @@ module _ (m : Model) where
   pub begins_next : (g : ℕ) → beginning (g + 1) ≡ beginning g + many g
   begins_next g = group_cases m.vars g
       (λ e. subst (λ (k : ℕ). beginning (k + 1) ≡ beginning k + many k) (sym e) (omega (arith, at_counter 0 (omega arith), sum_none counter_size)))
-      (λ i l e. subst (λ (k : ℕ). beginning (k + 1) ≡ beginning k + many k) (sym e) (in-counters i l))
-      (λ i e. subst (λ (k : ℕ). beginning (k + 1) ≡ beginning k + many k) (sym e) (in-clocks i))
+      (λ i l e. subst (λ (k : ℕ). beginning (k + 1) ≡ beginning k + many k) (sym e) (in_counters i l))
+      (λ i e. subst (λ (k : ℕ). beginning (k + 1) ≡ beginning k + many k) (sym e) (in_clocks i))
     where
-      in-counters : (i : ℕ) → i < m.vars → beginning (1 + i + 1) ≡ beginning (1 + i) + many (1 + i)
-      in-counters i l =
+      in_counters : (i : ℕ) → i < m.vars → beginning (1 + i + 1) ≡ beginning (1 + i) + many (1 + i)
+      in_counters i l =
           let z : 1 + i + 1 ≡ 1 + (i + 1) = omega arith in
           let s : many (1 + i) ≡ counter_size i = ap (group_size m) (comp_counter i l) in
           ap beginning z ∙ omega (arith, at_counter (i + 1) (omega arith), at_counter i (omega arith), sum_more counter_size i, s)
 
-      in-clocks : (i : ℕ) → beginning (1 + m.vars + i + 1) ≡ beginning (1 + m.vars + i) + many (1 + m.vars + i)
-      in-clocks i =
+      in_clocks : (i : ℕ) → beginning (1 + m.vars + i + 1) ≡ beginning (1 + m.vars + i) + many (1 + m.vars + i)
+      in_clocks i =
           let z : 1 + m.vars + i + 1 ≡ 1 + m.vars + (i + 1) = omega arith in
           let s : many (1 + m.vars + i) ≡ ceiling m + 1 = ap (group_size m) (comp_clock i) in
           ap beginning z ∙ omega (arith, at_clock (i + 1), at_clock i, s)

@@ -32,8 +32,8 @@ use Rattle.parts.specs.declared.GroupTable.{GroupTable}
 use Rattle.parts.specs.StateBlock.{component_at, group_table, first_at, size_at, Bounded}
 use Rattle.parts.specs.PartsOf.{atom_part, leads_part, delay_part, edge_part, AtomIn, UpdateIn, ResetIn}
 use Rattle.parts.proofs.GroupLaws.{size_is, comp_counter, comp_clock, bounded, group_cases, block_is}
-use Rattle.parts.proofs.PartPieces.{groups_are, vars_are, top_is, state_is, choices_are, groups_law, initial_law, atom_law, delay_law, edge-law}
-use Rattle.parts.proofs.PartFits.{group_fits, group_small, locations_in, atom_fits, delay_fits, edge-fits}
+use Rattle.parts.proofs.PartPieces.{groups_are, vars_are, top_is, state_is, choices_are, groups_law, initial_law, atom_law, delay_law, edge_law}
+use Rattle.parts.proofs.PartFits.{group_fits, group_small, locations_in, atom_fits, delay_fits, edge_fits}
 use Rattle.parts.specs.Pieces.{Known, BlockIn, StepIn, group_piece, initial_piece, atom_piece, location_piece, delay_piece, delay_pieces, front_piece}
 use Rattle.parts.specs.Pieces.{edge_piece, edge_clauses, step_clauses}
 
@@ -242,10 +242,10 @@ module _ {m : Model} {b : GroupTable} (k : Known m b) where
       let w : x ≡ o + state_width one_hot_width m + (ceiling m + 1 + e) = z ∙ ap (λ (s : ℕ). o + s + (ceiling m + 1 + e)) (sym (state_width_is m)) in
       subst (λ (y : ℕ). each (b.groups + 5) (edge_piece y b (edge_at m e) o) ≡ clauses_of (edge_of one_hot_width m o e)) (sym w)
       (subst (λ (y : GroupTable). each (y.groups + 5) (edge_piece (o + state_width one_hot_width m + (ceiling m + 1 + e)) y (edge_at m e) o)
-      ≡ clauses_of (edge_of one_hot_width m o e)) (sym k.is) (edge-law m wf o (ceiling m + 1 + e) (edge_at m e) (wf.edge_ok e l)))
+      ≡ clauses_of (edge_of one_hot_width m o e)) (sym k.is) (edge_law m wf o (ceiling m + 1 + e) (edge_at m e) (wf.edge_ok e l)))
 
   pub edge_fits_of :
       (o n : ℕ) → o + state_size m + choices m + state_size m ≤ n → (e : ℕ) → e < m.used → (j : ℕ) → j < b.groups + 5 → Fits (edge_part b (edge_at m e) o j) n
   edge_fits_of o n h e p j l =
       subst (λ (x : GroupTable). Fits (edge_part x (edge_at m e) o j) n) (sym k.is)
-      (edge-fits m wf o n h (edge_at m e) (wf.edge_ok e p) j (subst (λ (x : GroupTable). j < x.groups + 5) k.is l))
+      (edge_fits m wf o n h (edge_at m e) (wf.edge_ok e p) j (subst (λ (x : GroupTable). j < x.groups + 5) k.is l))

@@ -62,73 +62,73 @@ module _ (m : Model) (ok : WellFormed m) where
     atom_fits (OnCounter x relation constant) h d = exclude_fits (1 + x) relation constant h (omega arith)
 
     module _ (h : o + state_size m + choices m + state_size m ≤ n) where
-      next-at : next_at (group_table m) o ≡ o + state_size m + choices m
-      next-at = omega (arith, state_is m, choices_are m)
+      next_at_lem : next_at (group_table m) o ≡ o + state_size m + choices m
+      next_at_lem = omega (arith, state_is m, choices_are m)
 
-      leads-fits : (from g k : ℕ) (rule : Rule) → from + state_size m ≤ n → g < 1 + m.vars + m.clocks → k < 1 + m.vars + m.clocks
+      leads_fits : (from g k : ℕ) (rule : Rule) → from + state_size m ≤ n → g < 1 + m.vars + m.clocks → k < 1 + m.vars + m.clocks
           → reach (size_at (group_table m) g) rule ≤ size_at (group_table m) k → Fits (leads_part (group_table m) from o g k rule) n
-      leads-fits from g k rule f p q r = record {
+      leads_fits from g k rule f p q r = record {
         size_le = group_small g p;
         before_in = omega (arith, group_fits g p);
-        after_in = omega (arith, group_fits k q, next-at, r);
+        after_in = omega (arith, group_fits k q, next_at_lem, r);
       }
 
       -- the state block in which an update reads its source
       read_fits : (after : Bool) → cond after (next_at (group_table m) o) o + state_size m ≤ n
-      read_fits true = omega (arith, next-at)
+      read_fits true = omega (arith, next_at_lem)
       read_fits false = omega arith
 
-      set-fits : (z w : ℕ) (rule : Rule) → z + reach 1 rule ≤ n → Fits (set_part z w rule) n
-      set-fits z w rule r = record { size_le = omega arith; before_in = omega (arith, locations_in, ok.initial_ok); after_in = r }
+      set_fits : (z w : ℕ) (rule : Rule) → z + reach 1 rule ≤ n → Fits (set_part z w rule) n
+      set_fits z w rule r = record { size_le = omega arith; before_in = omega (arith, locations_in, ok.initial_ok); after_in = r }
 
-      pub update-fits : (order : List ℕ) (i : ℕ) (u : Update) → i < m.vars → DeclaredUpdate m u → Fits (update_part (group_table m) o order i u) n
-      update-fits order i KeepIt l d = leads-fits o (1 + i) (1 + i) Keep (omega arith) (omega arith) (omega arith) (omega arith)
-      update-fits order i (Constant c) l d = by (leb c (greatest_at (group_table m) i)) refl
+      pub update_fits : (order : List ℕ) (i : ℕ) (u : Update) → i < m.vars → DeclaredUpdate m u → Fits (update_part (group_table m) o order i u) n
+      update_fits order i KeepIt l d = leads_fits o (1 + i) (1 + i) Keep (omega arith) (omega arith) (omega arith) (omega arith)
+      update_fits order i (Constant c) l d = by (leb c (greatest_at (group_table m) i)) refl
         where
           by : (t : Bool) → leb c (greatest_at (group_table m) i) ≡ t
               → Fits (set_part (next_at (group_table m) o + first_at (group_table m) (1 + i)) (size_at (group_table m) (1 + i)) (cond t (Set c) Forbid)) n
           by true e =
-              set-fits _ _ (Set c) (omega (
+              set_fits _ _ (Set c) (omega (
                 arith,
                 leb→le c (greatest_at (group_table m) i) (subst T (sym e) tt),
                 greatest_is m i,
                 counter_size_lem i l,
                 group_fits (1 + i) (omega arith),
-                next-at,
+                next_at_lem,
               ))
-          by false e = set-fits _ _ Forbid (omega (arith, group_fits (1 + i) (omega arith), next-at))
-      update-fits order i (Sum w z) l d =
-          leads-fits (read_at (group_table m) o order w i) (1 + w) (1 + i) (Shift z (greatest_at (group_table m) i)) (read_fits (set_earlier order w i))
+          by false e = set_fits _ _ Forbid (omega (arith, group_fits (1 + i) (omega arith), next_at_lem))
+      update_fits order i (Sum w z) l d =
+          leads_fits (read_at (group_table m) o order w i) (1 + w) (1 + i) (Shift z (greatest_at (group_table m) i)) (read_fits (set_earlier order w i))
           (omega arith) (omega arith) (omega (arith, greatest_is m i, counter_size_lem i l))
 
-      pub reset-fits : (i : ℕ) (u : ClockUpdate) → i < m.clocks → DeclaredReset m u → Fits (reset_part (group_table m) o i u) n
-      reset-fits i Unchanged l d =
+      pub reset_fits : (i : ℕ) (u : ClockUpdate) → i < m.clocks → DeclaredReset m u → Fits (reset_part (group_table m) o i u) n
+      reset_fits i Unchanged l d =
           subst (λ (v : ℕ). Fits (leads_part (group_table m) o o (1 + v + i) (1 + v + i) Keep) n) (sym (vars_are m))
-          (leads-fits o (1 + m.vars + i) (1 + m.vars + i) Keep (omega arith) (omega arith) (omega arith) (omega arith))
-      reset-fits i Reset l d =
+          (leads_fits o (1 + m.vars + i) (1 + m.vars + i) Keep (omega arith) (omega arith) (omega arith) (omega arith))
+      reset_fits i Reset l d =
           subst (λ (v : ℕ). Fits (set_part (next_at (group_table m) o + first_at (group_table m) (1 + v + i)) (size_at (group_table m) (1 + v + i)) (Set 0)) n)
           (sym (vars_are m))
-          (set-fits _ _ (Set 0) (omega (arith, clock_size i l, group_fits (1 + m.vars + i) (omega arith), next-at)))
-      reset-fits i (Copy w) l d =
+          (set_fits _ _ (Set 0) (omega (arith, clock_size i l, group_fits (1 + m.vars + i) (omega arith), next_at_lem)))
+      reset_fits i (Copy w) l d =
           subst (λ (v : ℕ). Fits (leads_part (group_table m) o o (1 + v + w) (1 + v + i) Keep) n) (sym (vars_are m))
-          (leads-fits o (1 + m.vars + w) (1 + m.vars + i) Keep (omega arith) (omega arith) (omega arith) (omega (arith, clock_size w d, clock_size i l)))
+          (leads_fits o (1 + m.vars + w) (1 + m.vars + i) Keep (omega arith) (omega arith) (omega arith) (omega (arith, clock_size w d, clock_size i l)))
 
       pub delay_fits : (d g : ℕ) → g < 1 + m.vars + m.clocks → Fits (delay_part (group_table m) o d g) n
       delay_fits d g l = by (ltb g (1 + (group_table m).vars)) refl
         where
           by : (t : Bool) → ltb g (1 + (group_table m).vars) ≡ t → Fits (leads_part (group_table m) o o g g (cond t Keep (Rise d (group_table m).top))) n
-          by true e = leads-fits o g g Keep (omega arith) l l (omega arith)
+          by true e = leads_fits o g g Keep (omega arith) l l (omega arith)
           by false e =
               let k : m.vars + 1 ≤ g = omega (arith, ltb-false g (1 + (group_table m).vars) e, vars_are m) in
               let z : g ≡ 1 + m.vars + (g - (1 + m.vars)) = omega arith in
               let s : size_at (group_table m) g ≡ ceiling m + 1 = ap (size_at (group_table m)) z ∙ clock_size (g - (1 + m.vars)) (omega arith) in
-              leads-fits o g g (Rise d (group_table m).top) (omega arith) l l (omega (arith, s, top_is m))
+              leads_fits o g g (Rise d (group_table m).top) (omega arith) l l (omega (arith, s, top_is m))
 
-      pub edge-fits : (e : Edge) → WellFormedEdge m e → (j : ℕ) → j < (group_table m).groups + 5 → Fits (edge_part (group_table m) e o j) n
-      edge-fits e w j l =
+      pub edge_fits : (e : Edge) → WellFormedEdge m e → (j : ℕ) → j < (group_table m).groups + 5 → Fits (edge_part (group_table m) e o j) n
+      edge_fits e w j l =
           edge_cases (group_table m) e o (λ p. Fits p n) m.clocks
-          (set-fits o _ (Set e.source) (omega (arith, w.source_ok, locations_in)))
-          (set-fits (next_at (group_table m) o) _ (Set e.target) (omega (arith, w.target_ok, locations_in, next-at)))
+          (set_fits o _ (Set e.source) (omega (arith, w.source_ok, locations_in)))
+          (set_fits (next_at (group_table m) o) _ (Set e.target) (omega (arith, w.target_ok, locations_in, next_at_lem)))
           (λ k p. atom_fits (atom_at e.guard k) (omega arith) (w.guard_ok k p))
-          (λ i p. let q : i < m.vars = omega (arith, vars_are m) in update-fits e.order i (update_at e i) q (w.sets_ok i q))
-          (λ i p. reset-fits i (reset_at e i) p (w.resets_ok i p)) j (omega (arith, groups_are m, vars_are m))
+          (λ i p. let q : i < m.vars = omega (arith, vars_are m) in update_fits e.order i (update_at e i) q (w.sets_ok i q))
+          (λ i p. reset_fits i (reset_at e i) p (w.resets_ok i p)) j (omega (arith, groups_are m, vars_are m))

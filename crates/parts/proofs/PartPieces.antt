@@ -166,12 +166,12 @@ module _ (m : Model) where
     delay_at : (o d g : ℕ) → g < 1 + m.vars + m.clocks → part_clauses (o + S + d) (delay_part (group_table m) o d g) ≡ delay_row o d (component_at m g)
     unfolding delay_row
     delay_at o d g l = group_cases m.vars g
-        (λ e. rule-is Keep (lt-ltb g (1 + m.vars) (omega arith)) refl ∙ leads_from (o + S + d) o o Keep k k (ap (component_at m) e) (ap (component_at m) e)
+        (λ e. rule_is Keep (lt-ltb g (1 + m.vars) (omega arith)) refl ∙ leads_from (o + S + d) o o Keep k k (ap (component_at m) e) (ap (component_at m) e)
         ∙ sym (ap (delay_row o d) (ap (component_at m) e)))
         (λ i p e. let z : component_at m g ≡ counter i = ap (component_at m) e ∙ comp_counter m i p in
-        rule-is Keep (lt-ltb g (1 + m.vars) (omega arith)) refl ∙ leads_from (o + S + d) o o Keep k k z z ∙ sym (ap (delay_row o d) z))
+        rule_is Keep (lt-ltb g (1 + m.vars) (omega arith)) refl ∙ leads_from (o + S + d) o o Keep k k z z ∙ sym (ap (delay_row o d) z))
         (λ i e. let z : component_at m g ≡ clock i = ap (component_at m) e ∙ comp_clock m i in
-        rule-is (Rise d (ceiling m)) (le-ltb g (1 + m.vars) (omega arith)) refl ∙ leads_from (o + S + d) o o (Rise d (ceiling m)) k k z z
+        rule_is (Rise d (ceiling m)) (le-ltb g (1 + m.vars) (omega arith)) refl ∙ leads_from (o + S + d) o o (Rise d (ceiling m)) k k z z
         ∙ sym (ap (delay_row o d) z))
       where
         k : g < 9
@@ -180,9 +180,9 @@ module _ (m : Model) where
         pick : Bool → Rule
         pick b = cond b Keep (Rise d (ceiling m))
 
-        rule-is : {b : Bool} (rule : Rule) → ltb g (1 + m.vars) ≡ b → pick b ≡ rule
+        rule_is : {b : Bool} (rule : Rule) → ltb g (1 + m.vars) ≡ b → pick b ≡ rule
             → part_clauses (o + S + d) (delay_part (group_table m) o d g) ≡ part_clauses (o + S + d) (leads_part (group_table m) o o g g rule)
-        rule-is {b} rule e f =
+        rule_is {b} rule e f =
             ap₂ (λ (v t : ℕ). part_clauses (o + S + d) (leads_part (group_table m) o o g g (cond (ltb g (1 + v)) Keep (Rise d t)))) vars_are top_is ∙
             ap (λ (c : Bool). part_clauses (o + S + d) (leads_part (group_table m) o o g g (pick c))) e
             ∙ ap (λ (r : Rule). part_clauses (o + S + d) (leads_part (group_table m) o o g g r)) f
@@ -243,44 +243,44 @@ module _ (m : Model) where
       abbrev F : ℕ → List Clause
       F j = part_clauses x (edge_part (group_table m) e o j)
 
-      source-law : F 0 ≡ clauses_of (source_items one_hot_width m o c e)
-      source-law =
+      source_law : F 0 ≡ clauses_of (source_items one_hot_width m o c e)
+      source_law =
           let z : o + e.source ≡ o + at loc + e.source = omega arith in
           ap (part_clauses x) (source_part (group_table m) e o) ∙ set_is x o _ (Set e.source) ∙ ap (λ (n : ℕ). one (negated x ∷ bare n ∷ [])) z
           ∙ sym (source_piece m o c e)
 
-      target-law : F 1 ≡ clauses_of (target_items one_hot_width m o c e)
-      target-law =
+      target_law : F 1 ≡ clauses_of (target_items one_hot_width m o c e)
+      target_law =
           let z : next_at (group_table m) o + e.target ≡ after o + at loc + e.target = omega (arith, next_is o) in
           ap (part_clauses x) (target_part (group_table m) e o) ∙ set_is x (next_at (group_table m) o) _ (Set e.target)
           ∙ ap (λ (n : ℕ). one (negated x ∷ bare n ∷ [])) z ∙ sym
           (target_piece m o c e)
 
-      guard-law : each 4 (λ k. F (2 + k)) ≡ clauses_of (guard_items one_hot_width m o c e)
-      guard-law =
+      guard_law : each 4 (λ k. F (2 + k)) ≡ clauses_of (guard_items one_hot_width m o c e)
+      guard_law =
           each_cong 4 (λ k. F (2 + k)) (λ k. clauses_of (exclude_failing one_hot_width m o (choice_member one_hot_width m o c ∷ []) (atom_at e.guard k)))
           (λ k l. ap (part_clauses x) (guard_part (group_table m) e o k l) ∙ atom_law o (choice_member one_hot_width m o c) (atom_at e.guard k)
           (w.guard_ok k l)) ∙ sym (guard_piece m o c e)
 
-      updates-law : each m.vars (λ i. F (6 + i)) ≡ clauses_of (updates_items one_hot_width m o c e)
-      updates-law =
+      updates_law : each m.vars (λ i. F (6 + i)) ≡ clauses_of (updates_items one_hot_width m o c e)
+      updates_law =
           each_cong m.vars (λ i. F (6 + i)) (λ i. clauses_of (update_items one_hot_width m o c e.order i (update_at e i)))
           (λ i l. ap (part_clauses x) (counter_part (group_table m) e o i (subst (λ (n : ℕ). i < n) (sym vars_are) l)) ∙ update_law o c e.order i
           (update_at e i) l (w.sets_ok i l)) ∙ sym
           (updates_piece m o c e)
 
-      resets-law : each m.clocks (λ i. F (6 + m.vars + i)) ≡ clauses_of (resets_items one_hot_width m o c e)
-      resets-law =
+      resets_law : each m.clocks (λ i. F (6 + m.vars + i)) ≡ clauses_of (resets_items one_hot_width m o c e)
+      resets_law =
           each_cong m.clocks (λ i. F (6 + m.vars + i)) (λ i. clauses_of (reset_items one_hot_width m o c i (reset_at e i)))
           (λ i l. ap (λ (v : ℕ). F (6 + v + i)) (sym vars_are) ∙ ap (part_clauses x) (clock_part (group_table m) e o i)
           ∙ reset_law o c i (reset_at e i) l (w.resets_ok i l))
           ∙ sym (resets_piece m o c e)
 
-      pub edge-law : each ((group_table m).groups + 5) F ≡ clauses_of (edge_items one_hot_width m o c e)
-      edge-law =
+      pub edge_law : each ((group_table m).groups + 5) F ≡ clauses_of (edge_items one_hot_width m o c e)
+      edge_law =
           let n : (group_table m).groups + 5 ≡ 6 + m.vars + m.clocks = omega (arith, groups_are) in
           ap (λ (k : ℕ). each k F) n ∙ each_add (6 + m.vars) m.clocks F ∙
           ap₂ (λ (l r : List Clause). l ++ r)
           (each_add 6 m.vars F ∙ ap₂ (λ (l r : List Clause). l ++ r) (each_add 2 4 F ∙ ap₂ (λ (l r : List Clause). l ++ r)
-          (each_suc 1 F ∙ ap₂ (λ (l r : List Clause). l ++ r) (each_one F ∙ source-law) target-law)
-          guard-law) updates-law) resets-law ∙ sym (edge_piece_lem m o c e)
+          (each_suc 1 F ∙ ap₂ (λ (l r : List Clause). l ++ r) (each_one F ∙ source_law) target_law)
+          guard_law) updates_law) resets_law ∙ sym (edge_piece_lem m o c e)

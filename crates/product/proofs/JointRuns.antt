@@ -88,8 +88,8 @@ module _ (a b : Model) (ok : Composable a b) (es : JoinedEdges a b) where
           ap (first_step a b) e ∙ first_is a b (ceiling c + 1 + k) ∙ edge_part_lem first_edge a a b k
           ∙ ap (λ (u : Move). edge_byte (ceiling a) (first_edge u)) m
 
-      second-byte : (k : ℕ) → n ≡ ceiling c + 1 + k → (v : Move) → move_at a b k ≡ v → second_step a b n ≡ edge_byte (ceiling b) (second_edge v)
-      second-byte k e v m =
+      second_byte : (k : ℕ) → n ≡ ceiling c + 1 + k → (v : Move) → move_at a b k ≡ v → second_step a b n ≡ edge_byte (ceiling b) (second_edge v)
+      second_byte k e v m =
           ap (second_step a b) e ∙ second_is a b (ceiling c + 1 + k) ∙ edge_part_lem second_edge b a b k
           ∙ ap (λ (u : Move). edge_byte (ceiling b) (second_edge u)) m
 
@@ -102,7 +102,7 @@ module _ (a b : Model) (ok : Composable a b) (es : JoinedEdges a b) where
             first_new = z;
             second_new = w;
             first_on = walks_on (first_step a b) a n (ceiling a + 1 + d) r x z (first_byte k e (FirstAlone d j) m) g.2;
-            second_on = walks_still (second_step a b) b n r y w (second-byte k e (FirstAlone d j) m) (still j y w g.3);
+            second_on = walks_still (second_step a b) b n r y w (second_byte k e (FirstAlone d j) m) (still j y w g.3);
             parts = g.4;
           }
       by_move k l e (SecondAlone f j) m =
@@ -113,7 +113,7 @@ module _ (a b : Model) (ok : Composable a b) (es : JoinedEdges a b) where
             first_new = z;
             second_new = w;
             first_on = walks_still (first_step a b) a n r x z (first_byte k e (SecondAlone f j) m) (still j x z g.2);
-            second_on = walks_on (second_step a b) b n (ceiling b + 1 + f) r y w (second-byte k e (SecondAlone f j) m) g.3;
+            second_on = walks_on (second_step a b) b n (ceiling b + 1 + f) r y w (second_byte k e (SecondAlone f j) m) g.3;
             parts = g.4;
           }
       by_move k l e (Together d f) m =
@@ -124,7 +124,7 @@ module _ (a b : Model) (ok : Composable a b) (es : JoinedEdges a b) where
             first_new = z;
             second_new = w;
             first_on = walks_on (first_step a b) a n (ceiling a + 1 + d) r x z (first_byte k e (Together d f) m) g.2;
-            second_on = walks_on (second_step a b) b n (ceiling b + 1 + f) r y w (second-byte k e (Together d f) m) g.3;
+            second_on = walks_on (second_step a b) b n (ceiling b + 1 + f) r y w (second_byte k e (Together d f) m) g.3;
             parts = g.4;
           }
 

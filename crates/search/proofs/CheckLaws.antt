@@ -33,7 +33,8 @@ unfolding true_before
 before_on a [] ds h = omega arith
 before_on a (c ∷ cs) ds h = by (clause_true a c) (before_on a cs ds) h
   where
-    by : (b : Bool) → (true_before a cs ≡ length cs → true_before a (cs ++ ds) ≡ length cs + true_before a ds) → cond b (true_before a cs + 1) 0 ≡ suc (length cs)
+    by : (b : Bool) → (true_before a cs ≡ length cs → true_before a (cs ++ ds) ≡ length cs + true_before a ds)
+        → cond b (true_before a cs + 1) 0 ≡ suc (length cs)
         → cond b (true_before a (cs ++ ds) + 1) 0 ≡ suc (length cs) + true_before a ds
     by true ih e = omega (arith, ih (omega (arith, e)))
     by false ih e = omega (arith, e)

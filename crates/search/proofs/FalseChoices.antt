@@ -39,6 +39,7 @@ module _ {m : Model} {b : GroupTable} (k : Known m b) where
       (all_each a (edge_piece x b (edge_at m e) o) (b.groups + 5) (λ j. part_true a x h (edge_part b (edge_at m e) o j)))
 
   pub edge_clauses_lem :
-      {table : List ℕ} (o e : ℕ) → e < m.used → Table (edge_of one_hot_width m) m.used 32 most_edge_clauses table → get_or table e 0 ≡ length (edge_clauses m o e)
+      {table : List ℕ} (o e : ℕ) → e < m.used → Table (edge_of one_hot_width m) m.used 32 most_edge_clauses table
+      → get_or table e 0 ≡ length (edge_clauses m o e)
   unfolding edge_clauses
   edge_clauses_lem o e l t = clauses_are t (wf k).used_le e l o

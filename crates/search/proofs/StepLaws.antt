@@ -60,16 +60,16 @@ module _ {m : Model} {b : GroupTable} (k : Known m b) (o t : ℕ) (at-o : o ≡ 
 
     module _ (p : Passed a (front_piece b o) i front.at) where
       -- a false clause of an edge
-      pub edges-failed : {r : PieceCheck} → Checked a (each m.used (edge_clauses m o)) front.at (32 * most_edge_clauses) r → r.ok ≡ false
+      pub edges_failed : {r : PieceCheck} → Checked a (each m.used (edge_clauses m o)) front.at (32 * most_edge_clauses) r → r.ok ≡ false
           → Checked a (step_clauses m t) i most_step_clauses r
-      edges-failed d h =
+      edges_failed d h =
           checked_as step_is (checked_stop _ most_step_clauses (checked_then (most_front_clauses + 32 * most_edge_clauses) p d (omega (arith, c.most))) h
           (omega arith))
 
       -- a false clause of the state, or none
-      pub state-checked : {j : ℕ} {r : PieceCheck} → Passed a (each m.used (edge_clauses m o)) front.at j → j ≤ front.at + 32 * most_edge_clauses
+      pub state_checked : {j : ℕ} {r : PieceCheck} → Passed a (each m.used (edge_clauses m o)) front.at j → j ≤ front.at + 32 * most_edge_clauses
           → Checked a next_state j most_state_clauses r → Checked a (step_clauses m t) i most_step_clauses r
-      state-checked q s d = checked_as step_is (checked_then most_step_clauses (passed_then p q) d (omega (arith, c.most)))
+      state_checked q s d = checked_as step_is (checked_then most_step_clauses (passed_then p q) d (omega (arith, c.most)))
 
 -- ---- an edge
 module _ {m : Model} {b : GroupTable} (k : Known m b) (o x e : ℕ) (l : e < m.used) (at_x : x ≡ o + state_size m + (ceiling m + 1 + e)) where

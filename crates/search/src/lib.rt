@@ -44,7 +44,9 @@ fn check_steps(
     a: &[u8],
     at: usize,
 ) -> PieceCheck
-    requires { Known m b × KnownTotals m z × Table (invariant_of one_hot_width m) m.locations 16 most_invariant_clauses invariants × Table (edge_of one_hot_width m) m.used 32 most_edge_clauses table × (bound ≤ 64) × (length a.now ≡ variables m bound) × (at + 64 * most_step_clauses ≤ most_counted) }
+    requires { Known m b × KnownTotals m z × Table (invariant_of one_hot_width m) m.locations 16 most_invariant_clauses invariants
+        × Table (edge_of one_hot_width m) m.used 32 most_edge_clauses table × (bound ≤ 64) × (length a.now ≡ variables m bound)
+        × (at + 64 * most_step_clauses ≤ most_counted) }
     ensures { Checked a.now (each bound (step_clauses m)) at (64 * most_step_clauses) result }
 {
     let edges_at = b.state + b.top as usize + 1;

@@ -49,7 +49,8 @@ fn check_atoms(
     atoms: [AtomSlot; Model::ATOMS],
     at: usize,
 ) -> PieceCheck
-    requires { Bounded b × (o ≤ most_variables) × (x < length a.now) × ((k : ℕ) → k < 4 → Fits (atom_part b o (atom_at atoms k)) (length a.now)) × (at + most_invariant_clauses ≤ most_counted) }
+    requires { Bounded b × (o ≤ most_variables) × (x < length a.now)
+        × ((k : ℕ) → k < 4 → Fits (atom_part b o (atom_at atoms k)) (length a.now)) × (at + most_invariant_clauses ≤ most_counted) }
     ensures { Checked a.now (each 4 (atom_piece b o x atoms)) at most_invariant_clauses result }
 {
     let mut count = at;
@@ -78,7 +79,8 @@ pub fn check_state(
     o: usize,
     at: usize,
 ) -> PieceCheck
-    requires { Known m b × Table (invariant_of one_hot_width m) m.locations 16 most_invariant_clauses table × (o ≤ most_variables) × (o + state_size m ≤ length a.now) × (at + most_state_clauses ≤ most_counted) }
+    requires { Known m b × Table (invariant_of one_hot_width m) m.locations 16 most_invariant_clauses table × (o ≤ most_variables)
+        × (o + state_size m ≤ length a.now) × (at + most_state_clauses ≤ most_counted) }
     ensures { Checked a.now (clauses_of (state_items one_hot_width m o)) at most_state_clauses result }
 {
     let s = check_groups(b, a, o, at);

@@ -37,17 +37,17 @@ module _ (m : Model) (s : State) (b : ℕ) where
     step_10 f = rw (w, f)
 
     module _ (f : state_formed m s ≡ true) where
-      pub step-27 : leb (choices m) b ≡ true → step_report m s b ≡ step_reported 27 s
+      pub step_27 : leb (choices m) b ≡ true → step_report m s b ≡ step_reported 27 s
       unfolding step_report
-      step-27 h = rw (w, f, h)
+      step_27 h = rw (w, f, h)
 
-      pub step-28 : leb (choices m) b ≡ false → step m s b ≡ none → step_report m s b ≡ step_reported 28 s
+      pub step_28 : leb (choices m) b ≡ false → step m s b ≡ none → step_report m s b ≡ step_reported 28 s
       unfolding step_report
-      step-28 h n = rw (w, f, h, n)
+      step_28 h n = rw (w, f, h, n)
 
-      pub step-0 : leb (choices m) b ≡ false → {t : State} → step m s b ≡ some t → step_report m s b ≡ step_reported 0 t
+      pub step_0 : leb (choices m) b ≡ false → {t : State} → step m s b ≡ some t → step_report m s b ≡ step_reported 0 t
       unfolding step_report
-      step-0 h n = rw (w, f, h, n)
+      step_0 h n = rw (w, f, h, n)
 
 -- ---- the walker's steps
 module _ (m : Model) (t : ℕ) (s : State) where
@@ -84,9 +84,9 @@ module _ (m : Model) (r : List ℕ) where
     walk_21 l = rw (w, l)
 
     module _ (l : ltb 64 (length r) ≡ false) where
-      pub walk-29 : invariant_holds m (initial_state m) ≡ false → walk_report m r ≡ refusal 29 0
+      pub walk_29 : invariant_holds m (initial_state m) ≡ false → walk_report m r ≡ refusal 29 0
       unfolding walk_report start
-      walk-29 i = rw (w, l, i)
+      walk_29 i = rw (w, l, i)
 
       pub walk_steps_lem : invariant_holds m (initial_state m) ≡ true → walk_report m r ≡ walk_steps m 1 (initial_state m) r
       unfolding walk_report start

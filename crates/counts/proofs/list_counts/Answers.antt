@@ -12,9 +12,9 @@ use Rattle.counts.proofs.PieceBounds.{state_most, moves_most, list_most}
 use Rattle.counts.proofs.list_counts.Goals as goal
 use Rattle.counts.proofs.list_counts.Goals.{After-moves_count-t}
 
-variables-le-most : (c : After-moves_count-t)
+variables_le_most : (c : After-moves_count-t)
     → let a = c.args in a.z.state + a.bound * (a.z.state + a.z.choices) ≤ most_variables
-variables-le-most c =
+variables_le_most c =
     let a = c.args in
     omega (arith, known_variables a.m a.z c.requires.0 a.bound, variables_le a.m (formed a.m c.requires.1.formed) a.bound c.requires.2)
 
@@ -30,8 +30,8 @@ most : (c : After-moves_count-t) → let a = c.args in Most (clauses a.m a.bound
 most c = list_most c.args.m c.requires.1.formed c.args.bound c.requires.2
 
 -- a step
-step-clauses : (c : After-moves_count-t) → c.moves_count-t.result.clauses + c.state_count-s.result.clauses ≤ 29218
-step-clauses c =
+step_clauses_lem : (c : After-moves_count-t) → c.moves_count-t.result.clauses + c.state_count-s.result.clauses ≤ 29218
+step_clauses_lem c =
     let s = clauses_le (c.state_count-s.ensures 0) (state_most c.args.m c.requires.1.formed 0) in
     let t = clauses_le (c.moves_count-t.ensures 0) (moves_most c.args.m c.requires.1.formed 0) in
     omega (arith, s, t)
@@ -45,12 +45,12 @@ step_words c =
 pub overflow_mul-result : goal.overflow_mul-result
 overflow_mul-result c =
     let k = (goal.at.overflow_mul-result c).After-moves_count-t in
-    omega (arith, variables-le-most k)
+    omega (arith, variables_le_most k)
 
 pub overflow_add-result-2 : goal.overflow_add-result-2
 overflow_add-result-2 c =
     let k = (goal.at.overflow_add-result-2 c).After-moves_count-t in
-    omega (arith, variables-le-most k)
+    omega (arith, variables_le_most k)
 
 pub overflow_add-result-3 : goal.overflow_add-result-3
 overflow_add-result-3 c =
@@ -60,7 +60,7 @@ overflow_add-result-3 c =
 pub overflow_add-result-4 : goal.overflow_add-result-4
 overflow_add-result-4 c =
     let k = (goal.at.overflow_add-result-4 c).After-moves_count-t in
-    omega (arith, step-clauses k)
+    omega (arith, step_clauses_lem k)
 
 pub overflow_mul-result-2 : goal.overflow_mul-result-2
 overflow_mul-result-2 c =
@@ -116,7 +116,7 @@ returns c =
       variables = known_variables a.m a.z c.requires.0 a.bound;
       clauses = n.clauses_are;
       words = list_words a.m a.bound n;
-      variables_most = variables-le-most k;
+      variables_most = variables_le_most k;
       clauses_most = clauses_le n (most k);
       words_most = words_le n (most k);
     }

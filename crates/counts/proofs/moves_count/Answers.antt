@@ -13,8 +13,8 @@ use Rattle.counts.proofs.PieceBounds.{moves_most}
 use Rattle.counts.proofs.moves_count.Goals as goal
 use Rattle.counts.proofs.moves_count.Goals.{After-edges_count-e, Start}
 
-delays-le : (c : Start) → (c.args.b.top + 1) * c.args.b.state ≤ 8704
-delays-le c =
+delays_le : (c : Start) → (c.args.b.top + 1) * c.args.b.state ≤ 8704
+delays_le c =
     let h = known_bounded c.requires in
     let t : c.args.b.top + 1 ≤ 32 = omega (arith, h.top_le) in
     mul-le-mul t h.state_le
@@ -41,7 +41,7 @@ group_count-c-requires c = (known_bounded c.requires).choices_le
 pub overflow_mul-delays : goal.overflow_mul-delays
 overflow_mul-delays c =
     let k = (goal.at.overflow_mul-delays c).Start in
-    omega (arith, delays-le k)
+    omega (arith, delays_le k)
 
 pub overflow_add-result : goal.overflow_add-result
 overflow_add-result c =
@@ -56,7 +56,7 @@ overflow_add-result-2 c =
 pub overflow_mul-result : goal.overflow_mul-result
 overflow_mul-result c =
     let k = (goal.at.overflow_mul-result c).Start in
-    omega (arith, delays-le k)
+    omega (arith, delays_le k)
 
 pub overflow_add-result-3 : goal.overflow_add-result-3
 overflow_add-result-3 c =

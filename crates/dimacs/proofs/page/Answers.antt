@@ -6,15 +6,6 @@ use Rattle.dimacs.specs.Pages.{rows_to_print, pages_to_print}
 use Rattle.dimacs.proofs.PrintLaws.{row_of_file, file_formed, file_small, rows_are, pages_are, no_row, no_page, no_room, some_page}
 use Rattle.dimacs.proofs.PrintLaws.{printed_none, printed_as}
 use Rattle.dimacs.proofs.page.Goals as goal
-use Rattle.dimacs.proofs.page.Goals.{Else-pages_to_print-p, Else-rows_to_print-row}
-
--- past the first test there is such a row
-in-file : (c : Else-rows_to_print-row) → c.args.row < rows_to_print c.args.m c.args.bound
-in-file c = omega (arith, c.rows_to_print.ensures.0, c.if-rows_to_print-row.false)
-
--- past the second test there is such a page
-in_row : (c : Else-pages_to_print-p) → let a = c.args in a.p < pages_to_print a.m a.bound a.row
-in_row c = omega (arith, c.pages_to_print.ensures.0, c.if-pages_to_print-p.false)
 
 pub returns-then-rows_to_print-row : goal.returns-then-rows_to_print-row
 returns-then-rows_to_print-row c =
@@ -25,33 +16,41 @@ returns-then-rows_to_print-row c =
 pub returns-then-pages_to_print-p : goal.returns-then-pages_to_print-p
 returns-then-pages_to_print-p c =
     let a = c.args in
+    let f : a.row < rows_to_print a.m a.bound = omega (arith, c.rows_to_print.ensures.0, c.if-rows_to_print-row.false) in
     let l : pages_to_print a.m a.bound a.row ≤ a.p = omega (arith, c.pages_to_print.ensures.0, c.if-pages_to_print-p.true) in
-    printed_none a.out.now (no_page a.m a.bound a.row a.p (length a.out.now) (in-file c.before.before) l)
+    printed_none a.out.now (no_page a.m a.bound a.row a.p (length a.out.now) f l)
 
 pub returns-then-out-lt-PAGE : goal.returns-then-out-lt-PAGE
 returns-then-out-lt-PAGE c =
     let a = c.args in
-    printed_none a.out.now (no_room a.m a.bound a.row a.p (length a.out.now) (in-file c.before.before.before) (in_row c.before) c.if-out-lt-PAGE.true)
+    let f : a.row < rows_to_print a.m a.bound = omega (arith, c.rows_to_print.ensures.0, c.if-rows_to_print-row.false) in
+    let g : a.p < pages_to_print a.m a.bound a.row = omega (arith, c.pages_to_print.ensures.0, c.if-pages_to_print-p.false) in
+    printed_none a.out.now (no_room a.m a.bound a.row a.p (length a.out.now) f g c.if-out-lt-PAGE.true)
 
 pub group_table-b-requires : goal.group_table-b-requires
 group_table-b-requires c =
     let a = c.args in
-    (file_formed a.m a.bound (row_of_file a.m a.bound a.row (in-file c.before.before.before.before)), c.totals-z.ensures)
+    let f : a.row < rows_to_print a.m a.bound = omega (arith, c.rows_to_print.ensures.0, c.if-rows_to_print-row.false) in
+    (file_formed a.m a.bound (row_of_file a.m a.bound a.row f), c.totals-z.ensures)
 
 pub written_page-requires : goal.written_page-requires
 written_page-requires c =
     let a = c.args in
-    let has = row_of_file a.m a.bound a.row (in-file c.before.before.before.before.before.before) in (
+    let f : a.row < rows_to_print a.m a.bound = omega (arith, c.rows_to_print.ensures.0, c.if-rows_to_print-row.false) in
+    let g : a.p < pages_to_print a.m a.bound a.row = omega (arith, c.pages_to_print.ensures.0, c.if-pages_to_print-p.false) in
+    let has = row_of_file a.m a.bound a.row f in (
       record { formed = file_formed a.m a.bound has; is = c.group_table-b.ensures },
       c.totals-z.ensures,
       file_small a.m a.bound has,
-      omega (arith, in-file c.before.before.before.before.before.before, rows_are a.m a.bound has),
-      omega (arith, in_row c.before.before.before.before, pages_are a.m a.bound a.row has),
+      omega (arith, f, rows_are a.m a.bound has),
+      omega (arith, g, pages_are a.m a.bound a.row has),
       omega (arith, c.if-out-lt-PAGE.false),
     )
 
 pub returns : goal.returns
 returns c =
     let a = c.args in
-    printed_as (some_page a.m a.bound a.row a.p (length a.out.now) (in-file c.before.before.before.before.before.before.before.before.before) (in_row c.before.before.before.before.before.before.before) c.if-out-lt-PAGE.false)
+    let f : a.row < rows_to_print a.m a.bound = omega (arith, c.rows_to_print.ensures.0, c.if-rows_to_print-row.false) in
+    let g : a.p < pages_to_print a.m a.bound a.row = omega (arith, c.pages_to_print.ensures.0, c.if-pages_to_print-p.false) in
+    printed_as (some_page a.m a.bound a.row a.p (length a.out.now) f g c.if-out-lt-PAGE.false)
     c.written_page.ensures

@@ -2,7 +2,6 @@
 use Rattle.dimacs.proofs.FileLaws.{refused_20, refused_21}
 use Rattle.model.proofs.IndexedLaws.{T_true}
 use Rattle.model.specs.Form.{well_formed}
-use borrow.Author.Tests.{not-true, not-false}
 use mathlib.Core.Path.{◌≡◌, sym, ◌∙◌}
 use mathlib.Core.Bool.{true}
 use Rattle.dimacs.proofs.write_file.Goals as goal
@@ -10,17 +9,17 @@ use Rattle.dimacs.proofs.write_file.Goals as goal
 pub returns-then-not-well_formed : goal.returns-then-not-well_formed
 returns-then-not-well_formed c =
     let a = c.args in
-    let x = refused_20 a.m a.bound a.out.now (sym c.well_formed-2.ensures ∙ not-true _ c.if-not-well_formed.true-raw) in
-    (x.report, x.left)
+    let x = refused_20 a.m a.bound a.out.now (sym c.well_formed-2.ensures ∙ c.if-not-well_formed.true) in
+    record { result_value = x.report; out_after = x.left }
 
 pub returns-then-bound-gt-STEPS : goal.returns-then-bound-gt-STEPS
 returns-then-bound-gt-STEPS c =
     let a = c.args in
-    let h = sym c.well_formed-2.ensures ∙ not-false _ c.if-not-well_formed.false-raw in
+    let h = sym c.well_formed-2.ensures ∙ c.if-not-well_formed.false in
     let x = refused_21 a.m a.bound a.out.now h c.if-bound-gt-STEPS.true in
-    (x.report, x.left)
+    record { result_value = x.report; out_after = x.left }
 
 pub write_if_it_fits-requires : goal.write_if_it_fits-requires
 write_if_it_fits-requires c =
-    let e : well_formed c.args.m ≡ true = sym c.well_formed-2.ensures ∙ not-false _ c.if-not-well_formed.false-raw in
+    let e : well_formed c.args.m ≡ true = sym c.well_formed-2.ensures ∙ c.if-not-well_formed.false in
     ((T_true _).1 e, c.totals.ensures, c.if-bound-gt-STEPS.false)

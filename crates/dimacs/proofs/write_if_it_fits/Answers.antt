@@ -34,7 +34,7 @@ returns-then-room-needed c =
     let a = c.args in
     let needed = c.bytes_needed-needed in
     let x = refused_32 a.m a.bound a.out.now ((T_true _).0 pre.0) pre.2 needed.result needed.ensures.0 c.if-room-needed.true in
-    (x.report, x.left)
+    record { result_value = x.report; out_after = x.left }
 
 pub put_file-bytes-requires : goal.put_file-bytes-requires
 put_file-bytes-requires c =
@@ -64,4 +64,4 @@ returns c =
     let ok = (T_true _).0 pre.0 in
     let wrote = c.put_file-bytes.ensures in
     let x = accepted a.m a.bound a.out.now ok pre.2 needed.result needed.ensures.0 c.if-room-needed.false wrote in
-    (x.report, x.left)
+    record { result_value = x.report; out_after = x.left }

@@ -2,7 +2,7 @@
 use borrow.Author.Rules.{rules}
 use native.Mathlib.Omega.{arith}
 use mathlib.Core.Path.{◌≡◌, refl}
-use Prim.Native.Nat.{◌<◌, ◌-◌}
+use Prim.Native.Nat.{◌<◌}
 use Rattle.buffer.proofs.BufferLaws.{wrote_each_none, wrote_each, room_each}
 use Rattle.encode.specs.BlockBytes.{clock_bytes}
 use Rattle.encode.proofs.put_clocks.Goals as goal

@@ -2,7 +2,6 @@
 use borrow.Author.Rules.{rules}
 use native.Mathlib.Omega.{arith}
 use mathlib.Core.Path.{◌≡◌}
-use Prim.Native.Nat.{◌-◌}
 use Rattle.list.proofs.OneHot.{one_hot_length}
 use Rattle.buffer.proofs.BufferLaws.{wrote_list_none, wrote_list}
 use Rattle.encode.proofs.put_group.Goals as goal

@@ -2,13 +2,13 @@
 use borrow.Author.Rules.{rules}
 use native.Mathlib.Omega.{arith}
 use mathlib.Core.Path.{◌≡◌, refl, sym, ap, ◌∙◌}
-use Prim.Native.Nat.{ℕ, ◌<◌, ◌-◌}
+use Prim.Native.Nat.{ℕ, ◌<◌}
 use lib.Seq.{take-length}
 use lib.ListN.{length, take}
 use Rattle.model.proofs.RunLaws.{walk_nil}
 use Rattle.model.proofs.FormLaws.{formed, ceiling_of_totals}
 use Rattle.list.specs.Assignments.{one_hot, steps_bytes}
-use Rattle.encode.proofs.BlockLaws.{steps_none, taken, reached-more, steps-more, steps-whole}
+use Rattle.encode.proofs.BlockLaws.{steps_none, taken, reached_more, steps_more, steps_whole}
 use Rattle.buffer.proofs.BufferLaws.{wrote_none, wrote_then, room_first, room_then, wrote_as, room_as}
 use Rattle.encode.proofs.put_steps.Goals as goal
 
@@ -45,7 +45,7 @@ put_step-end-requires c =
     let run-now = args.run.now in
     let l : loop.t < length run-now = omega (arith, v.1, loop-test.true) in
     let h = taken args.m args.first run-now loop.t loop.s l v.4 pre.1 advance.result advance.ensures in
-    (pre.0, v.2, room_then v.5 (room_first _ (room_as (steps-whole args.m args.first run-now loop.t loop.s l v.4 _ h) pre.2)))
+    (pre.0, v.2, room_then v.5 (room_first _ (room_as (steps_whole args.m args.first run-now loop.t loop.s l v.4 _ h) pre.2)))
 
 pub loop-t-preserved : goal.loop-t-preserved
 loop-t-preserved c =
@@ -64,8 +64,8 @@ loop-t-preserved c =
       v.1,
       v.2,
       v.3,
-      reached-more m first run-now loop-t loop-s l v.4 _ h,
-      wrote_as (steps-more m first run-now loop-t loop-s l v.4 _ h) (wrote_then v.5 c.put_step-end.ensures),
+      reached_more m first run-now loop-t loop-s l v.4 _ h,
+      wrote_as (steps_more m first run-now loop-t loop-s l v.4 _ h) (wrote_then v.5 c.put_step-end.ensures),
     )
 
 pub returns : goal.returns

@@ -11,7 +11,7 @@ use Rattle.encode.proofs.run_to_assignment.Goals as goal
 pub returns-then-number-ne0 : goal.returns-then-number-ne0
 returns-then-number-ne0 c =
     let h = tested c.number.ensures c.walk-verdict.ensures (ne_eqb _ _ c.if-number-ne0.true) in
-    (c.walk-verdict.ensures ∙ sym (report_refused _ _ _ h), left_not_walked _ _ _ h)
+    record { result_value = c.walk-verdict.ensures ∙ sym (report_refused _ _ _ h); out_after = left_not_walked _ _ _ h }
 
 pub overflow_cast-run : goal.overflow_cast-run
 overflow_cast-run c =
@@ -24,7 +24,7 @@ returns-then-out-variables c =
     let args = c.args in
     let h = tested c.number.ensures walk-ensures (eq-eqb _ _ c.if-number-ne0.false) in
     let l : length args.out.now < variables args.m (length args.run.now) = omega (arith, c.if-out-variables.true, c.variables.ensures) in
-    (sym (report_31 _ _ _ h (lt-ltb _ _ l)), left_31 _ _ _ h (lt-ltb _ _ l))
+    record { result_value = sym (report_31 _ _ _ h (lt-ltb _ _ l)); out_after = left_31 _ _ _ h (lt-ltb _ _ l) }
 
 pub put_assignment-requires : goal.put_assignment-requires
 put_assignment-requires c =
@@ -43,4 +43,4 @@ returns c =
     let args = c.args in
     let h = tested c.number.ensures c.walk-verdict.ensures (eq-eqb _ _ c.if-number-ne0.false) in
     let l : variables args.m (length args.run.now) ≤ length args.out.now = omega (arith, if2-left, at-variables.ensures) in
-    (sym (report_0 _ _ _ h (le-ltb _ _ l)), left_written _ _ h (le-ltb _ _ l) c.put_assignment.ensures)
+    record { result_value = sym (report_0 _ _ _ h (le-ltb _ _ l)); out_after = left_written _ _ h (le-ltb _ _ l) c.put_assignment.ensures }

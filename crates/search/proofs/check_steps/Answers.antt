@@ -1,11 +1,11 @@
 -- check_steps: loops of checks over the steps, the edges of a step, the parts of an edge and the values of a part, one within the other.
 use mathlib.Core.Path.{◌∙◌, ap, refl, sym}
-use Prim.Native.Nat.{◌*◌, ◌-◌, ℕ}
+use Prim.Native.Nat.{◌*◌, ℕ}
 use native.Mathlib.Omega.{arith}
 use borrow.Author.Tests.{not-false, not-true}
 use lib.ListN.{length}
 use Rattle.model.proofs.FormLaws.{choices_is}
-use Rattle.list.specs.Clauses.{clauses, clauses_of, one_hot_width}
+use Rattle.list.specs.Clauses.{clauses_of, one_hot_width}
 use Rattle.list.specs.Items.{state_items}
 use Rattle.counts.proofs.TableLaws.{slots_are}
 use Rattle.counts.specs.Tables.{most_edge_clauses}
@@ -13,8 +13,8 @@ use Rattle.parts.proofs.KnownLaws.{known_bounded, known_state, known_top, step_i
 use Rattle.search.proofs.CheckLaws.{checked_as, passed_check, upto_all, upto_done, upto_failed, upto_next, upto_none, upto_over}
 use Rattle.search.proofs.FalseChoices.{edge_clauses_lem, edge_true}
 use Rattle.search.proofs.Skips.{passed_over}
-use Rattle.search.proofs.StepLaws.{after_step, edge_checked, edge_passed, edges-failed, front_failed, part_checked, part_fits, part_passed}
-use Rattle.search.proofs.StepLaws.{state-checked, step_lies, step_small}
+use Rattle.search.proofs.StepLaws.{after_step, edge_checked, edge_passed, edges_failed, front_failed, part_checked, part_fits, part_passed}
+use Rattle.search.proofs.StepLaws.{state_checked, step_lies, step_small}
 use Rattle.search.specs.Limits.{most_part_clauses, most_step_clauses}
 use Rattle.search.proofs.check_steps.Goals as goal
 
@@ -127,7 +127,7 @@ edges-preserved-then-not-is_true c =
     let k = c.requires.0 in
     let o = c.block_start-o.result in
     let e = c.edges.e in
-    let is_false = sym c.is_true.ensures ∙ not-true _ c.if-not-is_true.true-raw in
+    let is_false = sym c.is_true.ensures ∙ c.if-not-is_true.true in
     let all = edge_true k c.args.a.now o _ e edges-test.true (omega (arith, known_state k, known_top k)) is_false in
     upto_over c.edges.invariant edges-test.true (passed_over all (edge_clauses_lem k o e edges-test.true c.requires.3) refl)
     (omega (arith, c.requires.3.few e edges-test.true))
@@ -260,7 +260,7 @@ steps-preserved c =
     let front = passed_check c.check_front-front.ensures (not-false _ c.if-not-front.false) in
     let here = checked_as (ap (λ (p : ℕ). clauses_of (state_items one_hot_width c.args.m p)) c.block_start.ensures)
     c.check_state-state.ensures in
-    let state = state-checked k o t c.block_start-o.ensures c.check_front-front.ensures front
+    let state = state_checked k o t c.block_start-o.ensures c.check_front-front.ensures front
     (upto_all c.edges.invariant (omega arith))
     (omega (arith, c.edges.invariant.few, c.edges.invariant.le, (wf k).used_le)) here in
     upto_next c.steps.invariant c.if-t-bound.false state (not-false _ c.if-not-state.false)
@@ -298,7 +298,7 @@ returns-then-not-s c =
     let edge = edge_checked k o _ c.edges.e c.edges-test.true (omega (arith, known_state k, known_top k)) parts in
     let edges = upto_failed c.edges.invariant (32 * most_edge_clauses) c.edges-test.true edge is_false
     (omega (arith, c.edges-test.true, (wf k).used_le)) in
-    let step = edges-failed k o t at-o c.check_front-front.ensures front edges is_false in
+    let step = edges_failed k o t at-o c.check_front-front.ensures front edges is_false in
     upto_failed c.steps.invariant (64 * most_step_clauses) c.if-t-bound.false step is_false (omega (arith, c.if-t-bound.false, c.requires.4))
 
 pub returns-then-not-state : goal.returns-then-not-state
@@ -309,7 +309,7 @@ returns-then-not-state c =
     let front = passed_check c.check_front-front.ensures (not-false _ c.if-not-front.false) in
     let here = checked_as (ap (λ (p : ℕ). clauses_of (state_items one_hot_width c.args.m p)) c.block_start.ensures)
     c.check_state-state.ensures in
-    let state = state-checked k o t c.block_start-o.ensures c.check_front-front.ensures front
+    let state = state_checked k o t c.block_start-o.ensures c.check_front-front.ensures front
     (upto_all c.edges.invariant (omega arith))
     (omega (arith, c.edges.invariant.few, c.edges.invariant.le, (wf k).used_le)) here in
     upto_failed c.steps.invariant (64 * most_step_clauses) c.if-t-bound.false state (not-true _ c.if-not-state.true)

@@ -4,4 +4,4 @@ use mathlib.Core.Path.{refl}
 use Rattle.sizing.proofs.program_sizes.Goals as goal
 
 pub returns : goal.returns
-returns c = program_is _ _ refl _ c.sizes_of.ensures.0
+returns c = program_is _ _ refl _ c.sizes_of.ensures.result_value

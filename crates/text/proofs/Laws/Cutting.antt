@@ -100,8 +100,8 @@ module _ {A : Type 0} (call : ℕ → ReadReport → A) (refused : ℕ → A) (n
           lt-ltb (first_at 10 t) (length cut) (omega (arith, short, enough, cut_length))
           ∙ sym (lt-ltb (first_at 10 t) (length t) (omega (arith, short, enough, long)))
 
-      same-bound : bound_report cut ≡ bound_report t
-      same-bound =
+      same_bound : bound_report cut ≡ bound_report t
+      same_bound =
           report_is cut
           ∙ ap (λ (p : ℕ). bound_of (ltb p (length cut)) (take p cut) (p + 1)) same_place
           ∙ (λ i. bound_of (same_ended i) (same_line i) (first_at 10 t + 1))
@@ -118,9 +118,9 @@ module _ {A : Type 0} (call : ℕ → ReadReport → A) (refused : ℕ → A) (n
           long_text (drop (bound_report t).next cut) (omega (arith, length-drop (bound_report t).next cut, cut_length, next_le, enough))
           ∙ sym (long_text (drop (bound_report t).next t) (omega (arith, length-drop (bound_report t).next t, next_le, enough, long)))
 
-      short-line : if_item call refused cut ≡ if_item call refused t
-      short-line =
-          ap (λ (b : BoundReport). if_bound b (λ bound next. call bound (read_report (drop next cut))) refused) same-bound
+      short_line : if_item call refused cut ≡ if_item call refused t
+      short_line =
+          ap (λ (b : BoundReport). if_bound b (λ bound next. call bound (read_report (drop next cut))) refused) same_bound
           ∙ ap (λ (r : ReadReport). if_bound (bound_report t) (λ bound next. call bound r) refused) same_text
 
     late_refused : (l : List ℕ) → 9 < first_at 10 l → bound_report l ≡ bound_refused
@@ -141,7 +141,7 @@ module _ {A : Type 0} (call : ℕ → ReadReport → A) (refused : ℕ → A) (n
       where
         go : (b : Bool) → ltb 9 (first_at 10 t) ≡ b → if_item call refused cut ≡ if_item call refused t
         go true e = long_line (ltb-true 9 (first_at 10 t) e)
-        go false e = short-line (ltb-false 9 (first_at 10 t) e)
+        go false e = short_line (ltb-false 9 (first_at 10 t) e)
 
   -- an input of any length has the answer of its first n bytes, for n at least 8,203
   pub cutting : if_item call refused (take n t) ≡ if_item call refused t

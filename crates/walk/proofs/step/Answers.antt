@@ -1,5 +1,5 @@
 -- `step`: the refusals 20, 10, 27, 28 in the report's order; after all tests the step is the one that `advance` takes.
-use Rattle.walk.proofs.Reports.{taken_some, refused_none, step_20, step_10, step-27, step-28, step-0}
+use Rattle.walk.proofs.Reports.{taken_some, refused_none, step_20, step_10, step_27, step_28, step_0}
 use Rattle.model.proofs.IndexedLaws.{T_true, told_false, told_true}
 use Rattle.model.proofs.FormLaws.{formed, ceiling_of_totals, choices_of_totals}
 use Prim.Native.Nat.{ℕ, ◌≤◌, ◌<◌}
@@ -19,7 +19,7 @@ returns-then-not-state_formed c =
 pub returns-then-z-byte : goal.returns-then-z-byte
 returns-then-z-byte c =
     let byte = c.args.byte in
-    sym (step-27 _ _ _ (told_true c.well_formed-2.ensures c.if-not-well_formed.false-raw)
+    sym (step_27 _ _ _ (told_true c.well_formed-2.ensures c.if-not-well_formed.false-raw)
     (told_true c.state_formed.ensures c.if-not-state_formed.false-raw)
     (le-leb _ _ (subst (λ (x : ℕ). x ≤ byte) (choices_of_totals _ _ c.totals-z.ensures) c.if-z-byte.true)))
 
@@ -44,7 +44,7 @@ returns-then-not-next c =
     let if3-left = c.if-z-byte.false in
     let well_formed = c.well_formed-2 in
     let byte = c.args.byte in
-    sym (step-28 _ _ _ (told_true well_formed.ensures c.if-not-well_formed.false-raw)
+    sym (step_28 _ _ _ (told_true well_formed.ensures c.if-not-well_formed.false-raw)
     (told_true c.state_formed.ensures c.if-not-state_formed.false-raw)
     (lt-leb _ _ (subst (λ (x : ℕ). byte < x) (choices_of_totals _ _ c.totals-z.ensures) if3-left))
     (refused_none _ _ _ c.advance-next.ensures (not-true _ c.if-not-next.true)))
@@ -54,7 +54,7 @@ returns c =
     let if3-left = c.if-z-byte.false in
     let well_formed = c.well_formed-2 in
     let byte = c.args.byte in
-    sym (step-0 _ _ _ (told_true well_formed.ensures c.if-not-well_formed.false-raw)
+    sym (step_0 _ _ _ (told_true well_formed.ensures c.if-not-well_formed.false-raw)
     (told_true c.state_formed.ensures c.if-not-state_formed.false-raw)
     (lt-leb _ _ (subst (λ (x : ℕ). byte < x) (choices_of_totals _ _ c.totals-z.ensures) if3-left))
     (taken_some _ _ _ c.advance-next.ensures (not-false _ c.if-not-next.false)))

@@ -1,5 +1,5 @@
 -- `walk`: the refusals 20, 21, 29 in the report's order; then `walk_from` reports the steps from the initial state.
-use Rattle.walk.proofs.Reports.{walk_20, walk_21, walk-29, walk_steps_lem}
+use Rattle.walk.proofs.Reports.{walk_20, walk_21, walk_29, walk_steps_lem}
 use Rattle.walk.specs.Walker.{walk_steps}
 use Rattle.model.proofs.IndexedLaws.{T_true, told_false, told_true}
 use Rattle.model.specs.Automaton.{invariant_holds}
@@ -18,7 +18,7 @@ pub returns-then-not-invariant_holds : goal.returns-then-not-invariant_holds
 returns-then-not-invariant_holds c =
     let well_formed = c.well_formed-2 in
     let if1-left = c.if-not-well_formed.false-raw in
-    sym (walk-29 _ _ (told_true well_formed.ensures if1-left) (le-ltb _ _ c.if-run-gt-STEPS.false)
+    sym (walk_29 _ _ (told_true well_formed.ensures if1-left) (le-ltb _ _ c.if-run-gt-STEPS.false)
     (ap (invariant_holds _) (sym c.initial_state-s.ensures) ∙ told_false c.invariant_holds.ensures c.if-not-invariant_holds.true-raw))
 
 pub walk_from-requires : goal.walk_from-requires

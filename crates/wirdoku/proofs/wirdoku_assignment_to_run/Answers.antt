@@ -21,13 +21,13 @@ returns-then-number-ne0 c =
     let run = args.run in
     let bound = args.bound in
     let assignment = args.assignment in
-    let text = args.text in (
-      ap answer_told c.told.ensures
+    let text = args.text in record {
+      result_value = ap answer_told c.told.ensures
           ∙ refused_text (λ (m : Model). decode_report m bound assignment.now (length run.now)) refusal text.now read-model.result
-          read-model.ensures number-result number-ensures if1-taken _ line-ensures,
-      refused_text (λ (m : Model). decode_left m bound assignment.now run.now) (λ (n l : ℕ). run.now) text.now read-model.result
-          read-model.ensures number-result number-ensures if1-taken _ line-ensures,
-    )
+          read-model.ensures number-result number-ensures if1-taken _ line-ensures;
+      run_after = refused_text (λ (m : Model). decode_left m bound assignment.now run.now) (λ (n l : ℕ). run.now) text.now read-model.result
+          read-model.ensures number-result number-ensures if1-taken _ line-ensures;
+    }
 
 pub returns : goal.returns
 returns c =
@@ -41,12 +41,12 @@ returns c =
     let run = args.run in
     let bound = args.bound in
     let assignment = args.assignment in
-    let text = args.text in (
-      ap answer_told c.told-2.ensures ∙ (λ i. refusal (c.number.ensures i) (c.place.ensures i))
-          ∙ assignment-to-run-ensures.0
+    let text = args.text in record {
+      result_value = ap answer_told c.told-2.ensures ∙ (λ i. refusal (c.number.ensures i) (c.place.ensures i))
+          ∙ assignment-to-run-ensures.result_value
           ∙ read_text (λ (m : Model). decode_report m bound assignment.now (length run.now)) refusal text.now read-model.result read-model.ensures
-          number-result number-ensures if1-left,
-      assignment-to-run-ensures.1
+          number-result number-ensures if1-left;
+      run_after = assignment-to-run-ensures.run_after
           ∙ read_text (λ (m : Model). decode_left m bound assignment.now run.now) (λ (n l : ℕ). run.now) text.now read-model.result
-          read-model.ensures number-result number-ensures if1-left,
-    )
+          read-model.ensures number-result number-ensures if1-left;
+    }

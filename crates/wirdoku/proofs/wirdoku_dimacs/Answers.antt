@@ -17,13 +17,13 @@ returns-then-number-ne0 c =
     let args = c.args in
     let bound = args.bound in
     let out = args.out in
-    let text = args.text in (
-      c.file_reply.ensures
+    let text = args.text in record {
+      value = c.file_reply.ensures
           ∙ refused_text (λ (m : Model). file_reply (file_report m bound (length out.now))) refused_file text.now read-model.result
-          read-model.ensures number.result number.ensures if1-taken _ line-ensures,
-      refused_text (λ (m : Model). file_left m bound out.now) (λ (n l : ℕ). out.now) text.now read-model.result read-model.ensures
-          number.result number.ensures if1-taken _ line-ensures,
-    )
+          read-model.ensures number.result number.ensures if1-taken _ line-ensures;
+      out_after = refused_text (λ (m : Model). file_left m bound out.now) (λ (n l : ℕ). out.now) text.now read-model.result read-model.ensures
+          number.result number.ensures if1-taken _ line-ensures;
+    }
 
 pub returns : goal.returns
 returns c =
@@ -34,12 +34,12 @@ returns c =
     let args = c.args in
     let bound = args.bound in
     let out = args.out in
-    let text = args.text in (
-      c.file_reply-2.ensures ∙ (λ i. file_reply (file_reported (c.number.ensures i) (c.bytes.ensures i)))
-          ∙ ap file_reply write-file-ensures.0
+    let text = args.text in record {
+      value = c.file_reply-2.ensures ∙ (λ i. file_reply (file_reported (c.number.ensures i) (c.bytes.ensures i)))
+          ∙ ap file_reply write-file-ensures.result_value
           ∙ read_text (λ (m : Model). file_reply (file_report m bound (length out.now))) refused_file text.now read-model.result
-          read-model.ensures number.result number.ensures if1-left,
-      write-file-ensures.1
+          read-model.ensures number.result number.ensures if1-left;
+      out_after = write-file-ensures.out_after
           ∙ read_text (λ (m : Model). file_left m bound out.now) (λ (n l : ℕ). out.now) text.now read-model.result read-model.ensures
-          number.result number.ensures if1-left,
-    )
+          number.result number.ensures if1-left;
+    }

@@ -14,4 +14,4 @@ returns c =
       line = c.line.ensures i;
       outcome = c.outcome.ensures i;
     }) in
-    (parts ∙ call.0, call.1)
+    record { result_value = parts ∙ call.result_value; assignment_after = call.assignment_after }

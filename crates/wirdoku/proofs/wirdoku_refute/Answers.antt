@@ -19,13 +19,13 @@ returns-then-number-ne0 c =
     let bound = args.bound in
     let words = args.words.now in
     let hints = args.hints.now in
-    let text = args.text.now in (
-      c.refute_reply.ensures
+    let text = args.text.now in record {
+      value = c.refute_reply.ensures
           ∙ refused_text (λ (m : Model). refute_reply (refute_report m bound words hints)) refused_refute text read-model.result
-          read-model.ensures number.result number.ensures if1-taken _ line-ensures,
-      refused_text (λ (m : Model). emit_left m bound (length words) words) (λ (n l : ℕ). words) text read-model.result read-model.ensures
-          number.result number.ensures if1-taken _ line-ensures,
-    )
+          read-model.ensures number.result number.ensures if1-taken _ line-ensures;
+      words_after = refused_text (λ (m : Model). emit_left m bound (length words) words) (λ (n l : ℕ). words) text read-model.result read-model.ensures
+          number.result number.ensures if1-taken _ line-ensures;
+    }
 
 pub returns : goal.returns
 returns c =
@@ -37,13 +37,13 @@ returns c =
     let bound = args.bound in
     let words = args.words.now in
     let hints = args.hints.now in
-    let text = args.text.now in (
-      c.refute_reply-2.ensures
+    let text = args.text.now in record {
+      value = c.refute_reply-2.ensures
           ∙ (λ i. refute_reply (refute_reported (c.number.ensures i) (c.words.ensures i) (c.outcome.ensures i)))
-          ∙ ap refute_reply refute-ensures.0
+          ∙ ap refute_reply refute-ensures.result_value
           ∙ read_text (λ (m : Model). refute_reply (refute_report m bound words hints)) refused_refute text read-model.result
-          read-model.ensures number.result number.ensures if1-left,
-      refute-ensures.1
+          read-model.ensures number.result number.ensures if1-left;
+      words_after = refute-ensures.words_after
           ∙ read_text (λ (m : Model). emit_left m bound (length words) words) (λ (n l : ℕ). words) text read-model.result read-model.ensures
-          number.result number.ensures if1-left,
-    )
+          number.result number.ensures if1-left;
+    }

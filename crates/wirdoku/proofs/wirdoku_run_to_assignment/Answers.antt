@@ -20,13 +20,13 @@ returns-then-number-ne0 c =
     let args = c.args in
     let assignment = args.assignment in
     let run = args.run in
-    let text = args.text in (
-      ap answer_told c.told.ensures
+    let text = args.text in record {
+      result_value = ap answer_told c.told.ensures
           ∙ refused_text (λ (m : Model). encode_report m run.now (length assignment.now)) refusal text.now read-model.result read-model.ensures
-          number-result number-ensures if1-taken _ line-ensures,
-      refused_text (λ (m : Model). encode_left m run.now assignment.now) (λ (n l : ℕ). assignment.now) text.now read-model.result
-          read-model.ensures number-result number-ensures if1-taken _ line-ensures,
-    )
+          number-result number-ensures if1-taken _ line-ensures;
+      assignment_after = refused_text (λ (m : Model). encode_left m run.now assignment.now) (λ (n l : ℕ). assignment.now) text.now read-model.result
+          read-model.ensures number-result number-ensures if1-taken _ line-ensures;
+    }
 
 pub returns : goal.returns
 returns c =
@@ -39,12 +39,12 @@ returns c =
     let args = c.args in
     let assignment = args.assignment in
     let run = args.run in
-    let text = args.text in (
-      ap answer_told c.told-2.ensures ∙ (λ i. refusal (c.number.ensures i) (c.place.ensures i))
-          ∙ run-to-assignment-ensures.0
+    let text = args.text in record {
+      result_value = ap answer_told c.told-2.ensures ∙ (λ i. refusal (c.number.ensures i) (c.place.ensures i))
+          ∙ run-to-assignment-ensures.result_value
           ∙ read_text (λ (m : Model). encode_report m run.now (length assignment.now)) refusal text.now read-model.result read-model.ensures
-          number-result number-ensures if1-left,
-      run-to-assignment-ensures.1
+          number-result number-ensures if1-left;
+      assignment_after = run-to-assignment-ensures.out_after
           ∙ read_text (λ (m : Model). encode_left m run.now assignment.now) (λ (n l : ℕ). assignment.now) text.now read-model.result
-          read-model.ensures number-result number-ensures if1-left,
-    )
+          read-model.ensures number-result number-ensures if1-left;
+    }

@@ -29,9 +29,8 @@ put_base_piece-count-requires c =
 
 pub put_words-requires : goal.put_words-requires
 put_words-requires c =
-    let entry = c.before.before.before.before.before.before.before.before.before.before.before.before.before.before.before in
-    let pre = entry.requires in
-    let a = entry.args in
+    let pre = c.requires in
+    let a = c.args in
     let in_row : a.p < row_pieces a.m a.bound (a.row - 1) =
     omega (arith, pre.6, pages_later a.m a.bound a.row c.if-row-eq0.false) in
     let in_list : a.row - 1 ≤ a.bound + 1 = omega (arith, pre.5) in
@@ -48,9 +47,8 @@ put_words-requires c =
 
 pub returns : goal.returns
 returns c =
-    let entry = c.before.before.before.before.before.before.before.before.before.before.before.before.before.before.before.before.before.before in
-    let pre = entry.requires in
-    let a = entry.args in
+    let pre = c.requires in
+    let a = c.args in
     let in_row : a.p < row_pieces a.m a.bound (a.row - 1) =
     omega (arith, pre.6, pages_later a.m a.bound a.row c.if-row-eq0.false) in
     let in_list : a.row - 1 ≤ a.bound + 1 = omega (arith, pre.5) in

@@ -9,7 +9,7 @@ use Rattle.list.proofs.ListLaws.{each_more}
 use Rattle.model.proofs.IndexedLaws.{each_zero}
 use Rattle.model.specs.Indexed.{each}
 use lib.ListN.{length, length-append}
-use Prim.Native.Nat.{ℕ, ◌-◌, ◌<◌}
+use Prim.Native.Nat.{ℕ, ◌<◌}
 use mathlib.Core.Path.{◌≡◌, refl, sym, ap, ◌∙◌}
 use native.Mathlib.Omega.{arith}
 use Rattle.dimacs.proofs.rows.cut_row_bytes.Goals as goal
@@ -31,9 +31,8 @@ put_base_piece-count-requires c =
 
 pub words_bytes-bytes-requires : goal.words_bytes-bytes-requires
 words_bytes-bytes-requires c =
-    let entry = c.before.before.before.before.before.before.before.before.before.before in
-    let a = entry.args in
-    let pre = entry.requires in
+    let a = c.args in
+    let pre = c.requires in
     let m = a.m in
     let k = a.bound in
     let r = a.row in
@@ -45,9 +44,8 @@ words_bytes-bytes-requires c =
 
 pub overflow_add-bytes : goal.overflow_add-bytes
 overflow_add-bytes c =
-    let entry = c.before.before.before.before.before.before.before.before.before.before.before in
-    let a = entry.args in
-    let pre = entry.requires in
+    let a = c.args in
+    let pre = c.requires in
     let m = a.m in
     let k = a.bound in
     let r = a.row in
@@ -66,9 +64,8 @@ loop-piece-smaller c = omega arith
 
 pub loop-piece-preserved : goal.loop-piece-preserved
 loop-piece-preserved c =
-    let entry = c.before.before.before.before.before.before.before.before.before.before.before in
-    let a = entry.args in
-    let pre = entry.requires in
+    let a = c.args in
+    let pre = c.requires in
     let m = a.m in
     let k = a.bound in
     let r = a.row in

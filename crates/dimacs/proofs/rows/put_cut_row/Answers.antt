@@ -3,7 +3,7 @@ use Rattle.dimacs.proofs.BaseLaws.{piece-texts, piece-lines, row_pieces_joined}
 use Rattle.dimacs.specs.File.{lines_of}
 use Rattle.emission.specs.Cut.{row_pieces, piece_of}
 use Rattle.buffer.proofs.BufferLaws.{wrote_as, wrote_each, wrote_each_none, room_as, room_each}
-use Prim.Native.Nat.{◌-◌, ◌<◌}
+use Prim.Native.Nat.{◌<◌}
 use mathlib.Core.Path.{◌≡◌, refl, sym, ◌∙◌}
 use native.Mathlib.Omega.{arith}
 use Rattle.dimacs.proofs.rows.put_cut_row.Goals as goal
@@ -26,9 +26,8 @@ put_base_piece-count-requires c =
 
 pub put_words-end-requires : goal.put_words-end-requires
 put_words-end-requires c =
-    let entry = c.before.before.before.before.before.before.before.before.before.before.before.before in
-    let a = entry.args in
-    let pre = entry.requires in
+    let a = c.args in
+    let pre = c.requires in
     let m = a.m in
     let k = a.bound in
     let r = a.row in
@@ -48,9 +47,8 @@ loop-p-smaller c = omega arith
 
 pub loop-p-preserved : goal.loop-p-preserved
 loop-p-preserved c =
-    let entry = c.before.before.before.before.before.before.before.before.before.before.before.before.before.before.before in
-    let a = entry.args in
-    let pre = entry.requires in
+    let a = c.args in
+    let pre = c.requires in
     let m = a.m in
     let k = a.bound in
     let r = a.row in

@@ -3,7 +3,7 @@ use Rattle.dimacs.proofs.BaseLaws.{rows_joined}
 use Rattle.dimacs.specs.File.{lines_of}
 use Rattle.emission.specs.Cut.{row_of}
 use Rattle.buffer.proofs.BufferLaws.{wrote_as, wrote_each, wrote_each_none, room_as, room_each}
-use Prim.Native.Nat.{◌-◌, ◌+◌}
+use Prim.Native.Nat.{◌+◌}
 use mathlib.Core.Path.{◌≡◌, refl, ◌∙◌}
 use native.Mathlib.Omega.{arith}
 use Rattle.dimacs.proofs.rows.put_cut_rows.Goals as goal
@@ -24,10 +24,9 @@ fill_row-requires c =
 
 pub put_cut_row-end-requires : goal.put_cut_row-end-requires
 put_cut_row-end-requires c =
-    let entry = c.before.before.before.before.before.before.before.before.before.before.before.before.before in
-    let pre = entry.requires in
-    let m = entry.args.m in
-    let k = entry.args.bound in
+    let pre = c.requires in
+    let m = c.args.m in
+    let k = c.args.bound in
     let r = c.loop-row.row in
     let whole = room_as (rows_joined m k) pre.6 in
     let room = room_each (λ i. lines_of (row_of m k i)) r (k + 2) c.loop-row.invariant.1 c.loop-row-test.true whole in (
@@ -49,10 +48,9 @@ loop-row-smaller c = omega arith
 
 pub loop-row-preserved : goal.loop-row-preserved
 loop-row-preserved c =
-    let entry = c.before.before.before.before.before.before.before.before.before.before.before.before.before.before.before.before.before in
     let row = c.put_cut_row-end.ensures in (
       omega arith,
-      wrote_each (λ i. lines_of (row_of entry.args.m entry.args.bound i)) c.loop-row.row c.loop-row.invariant.1 row.0,
+      wrote_each (λ i. lines_of (row_of c.args.m c.args.bound i)) c.loop-row.row c.loop-row.invariant.1 row.0,
       row.1 ∙ c.loop-row.invariant.2,
       c.fill_row.ensures.long,
     )

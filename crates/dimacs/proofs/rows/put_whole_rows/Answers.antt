@@ -40,10 +40,9 @@ put_row_words-held-requires c =
 
 pub put_words-end-requires : goal.put_words-end-requires
 put_words-end-requires c =
-    let entry = c.before.before.before.before.before.before.before.before.before.before.before.before.before.before in
-    let pre = entry.requires in
-    let m = entry.args.m in
-    let k = entry.args.bound in
+    let pre = c.requires in
+    let m = c.args.m in
+    let k = c.args.bound in
     let r = c.loop-row.row in
     let ok = pre.0.formed in
     let in_list : r ≤ k + 1 = omega (arith, c.loop-row-test.true) in
@@ -65,10 +64,9 @@ loop-row-smaller c = omega arith
 
 pub loop-row-preserved : goal.loop-row-preserved
 loop-row-preserved c =
-    let entry = c.before.before.before.before.before.before.before.before.before.before.before.before.before.before.before.before.before in
-    let pre = entry.requires in
-    let m = entry.args.m in
-    let k = entry.args.bound in
+    let pre = c.requires in
+    let m = c.args.m in
+    let k = c.args.bound in
     let r = c.loop-row.row in
     let in_list : r ≤ k + 1 = omega (arith, c.loop-row-test.true) in
     let texts = c.fill_row.ensures in

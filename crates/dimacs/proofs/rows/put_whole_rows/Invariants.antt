@@ -12,7 +12,8 @@ use Rattle.dimacs.proofs.rows.put_whole_rows.Given as goal
 
 abbrev pub invariant-loop-row : goal.invariant-loop-row
 invariant-loop-row l =
-    (l.row ≤ l.row-end) × Wrote (each l.row (λ r. lines_of (row_of l.m l.bound r))) l.initial.out l.out l.at l.end × (length l.words ≡ length l.initial.words) × (length l.texts ≡ entry_count)
+    (l.row ≤ l.row-end) × Wrote (each l.row (λ r. lines_of (row_of l.m l.bound r))) l.initial.out l.out l.at l.end
+    × (length l.words ≡ length l.initial.words) × (length l.texts ≡ entry_count)
     × (1 ≤ l.row → Holds (row_of l.m (base_bound l.bound (l.row - 1)) (base_row (l.row - 1))) l.words l.held)
 
 abbrev pub decreases-loop-row : goal.decreases-loop-row

@@ -8,9 +8,8 @@ use Rattle.dimacs.proofs.rows.row_bytes.Goals as goal
 
 pub words_bytes-requires : goal.words_bytes-requires
 words_bytes-requires c =
-    let entry = c.before.before.before.before.before.before.before.before.before.before.before.before.before.before in
-    let a = entry.args in
-    let pre = entry.requires in
+    let a = c.args in
+    let pre = c.requires in
     let m = a.m in
     let k = a.bound in
     let r = a.row in
@@ -22,9 +21,8 @@ words_bytes-requires c =
 
 pub returns-then-one-le-WORDS : goal.returns-then-one-le-WORDS
 returns-then-one-le-WORDS c =
-    let entry = c.before.before.before.before.before.before.before.before.before.before.before.before.before.before.before in
-    let a = entry.args in
-    let pre = entry.requires in
+    let a = c.args in
+    let pre = c.requires in
     let m = a.m in
     let k = a.bound in
     let r = a.row in

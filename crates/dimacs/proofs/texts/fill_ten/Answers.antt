@@ -1,26 +1,27 @@
 -- `fill_ten`: the loop has filled the entries up to variable `k`; where there is one more, `x` is the entry of its number.
 use mathlib.Core.Path.{◌≡◌}
-use Prim.Native.Nat.{◌≤◌, ◌+◌, ◌-◌, ◌/◌, ◌^◌}
+use Rattle.dimacs.specs.Texts.{number_text, Entry}
+use Prim.Native.Nat.{ℕ, ◌<◌, ◌≤◌, ◌+◌, ◌/◌, ◌^◌}
 use native.Mathlib.Omega.{arith}
 use lib.ListN.{length-set}
 use Rattle.dimacs.proofs.TextLaws.{rising_first, rising_small, rising_next, number_room, texts_more}
 use Rattle.dimacs.proofs.texts.fill_ten.Goals as goal
-use Rattle.dimacs.proofs.texts.fill_ten.Goals.{After-number_text-x}
 
 -- the entry from which the shift is known has two to six bytes
-first : (c : After-number_text-x invariant-loop decreases-loop) →
-    let x = c.number-text.result in
-    (2 ≤ x / 2 ^ 56) × (x / 2 ^ 56 ≤ 6)
-first c =
-    let start = c.before.before in
-    let room = number_room {n = start.args.o + (start.args.i + 1)} (omega arith) c.number-text.ensures in
+first : (n : ℕ) {x : ℕ} → n < 100000 → Entry (number_text n) x → (2 ≤ x / 2 ^ 56) × (x / 2 ^ 56 ≤ 6)
+first n h e =
+    let room = number_room h e in
     (room.0, room.1)
 
 pub overflow_sub-rise : goal.overflow_sub-rise
-overflow_sub-rise c = let few = first c in omega arith
+overflow_sub-rise c =
+    let few = first (c.args.o + (c.args.i + 1)) (omega arith) c.number_text-x.ensures in
+    omega arith
 
 pub overflow_shl-rise : goal.overflow_shl-rise
-overflow_shl-rise c = let few = first c in omega arith
+overflow_shl-rise c =
+    let few = first (c.args.o + (c.args.i + 1)) (omega arith) c.number_text-x.ensures in
+    omega arith
 
 pub loop-k-init : goal.loop-k-init
 loop-k-init c = (omega arith, omega arith, c.requires.0, λ _. rising_first (omega arith) c.number_text-x.ensures)

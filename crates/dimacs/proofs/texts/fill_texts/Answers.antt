@@ -1,6 +1,5 @@
 -- `fill_texts`: the loop has filled the entries of the first variables.
 use mathlib.Core.Path.{◌≡◌}
-use Prim.Native.Nat.{◌-◌}
 use native.Mathlib.Omega.{arith}
 use Rattle.dimacs.proofs.TextLaws.{texts_none}
 use Rattle.dimacs.proofs.texts.fill_texts.Goals as goal

@@ -1,26 +1,24 @@
 -- `put_exact`: the loop has written the first words.
 use mathlib.Core.Path.{◌≡◌, refl, sym, ap, ◌∙◌}
 use mathlib.Core.List.{List, ◌++◌}
-use Prim.Native.Nat.{ℕ, ◌-◌}
+use Prim.Native.Nat.{ℕ, ◌<◌}
+use mir.Syntax.{w32}
+use mir.Val.{SFits, to_z, of_z}
+use Rattle.list.specs.Lists.{All}
 use native.Mathlib.Omega.{arith}
-use lib.IntN.{pos}
+use lib.IntN.{ℤ, pos}
 use lib.ListN.{length, take, get_or}
 use lib.Seq.{take-length}
 use Rattle.buffer.proofs.BufferLaws.{wrote_none, wrote_then, wrote_as}
-use Rattle.dimacs.specs.Texts.{text_of, entry_text, entries_text}
+use Rattle.dimacs.specs.Texts.{slot, HasText, text_of, entry_text, entries_text}
 use Rattle.dimacs.proofs.TextLaws.{entries_none, entries_more, all_at, word_near, entry_known, entries_room}
 use Rattle.dimacs.proofs.texts.put_exact.Goals as goal
-use Rattle.dimacs.proofs.texts.put_exact.Goals.{After-entry}
 
 -- the entry that was read is that of the word
-known : (c : After-entry invariant-loop decreases-loop) →
-    let args = c.before.before.before.before.before.before.args in
-    text_of c.entry.result ≡ entry_text args.texts.now (get_or args.words.now c.before.before.before.loop.i (pos 0))
-known c =
-    let start = c.before.before.before.before.before.before in
-    let texts = start.args.texts.now in
-    let has = all_at texts start.args.words.now c.before.before.before.loop.i (omega arith) start.requires.1 in
-    (entry_known texts has (record { sfits = c.before.entry-arg.given }) c.entry.ensures).0
+known : {x : ℕ} (texts : List ℕ) (words : List ℤ) (i : ℕ) → i < length words → All (HasText texts) words → SFits w32 (get_or words i (pos 0))
+    → x ≡ get_or texts (slot (to_z w32 (of_z w32 (get_or words i (pos 0))))) 0
+    → text_of x ≡ entry_text texts (get_or words i (pos 0))
+known texts words i h all f e = (entry_known texts (all_at texts words i h all) f e).0
 
 pub loop-i-init : goal.loop-i-init
 loop-i-init c = (omega arith, refl, wrote_as (entries_none _) (wrote_none _ _ (omega (arith, c.requires.2.room))))
@@ -28,20 +26,23 @@ loop-i-init c = (omega arith, refl, wrote_as (entries_none _) (wrote_none _ _ (o
 pub entry-requires : goal.entry-requires
 entry-requires c =
     let has = all_at c.args.texts.now c.args.words.now c.loop-i.i (omega arith) c.requires.1 in
-    (word_near has (record { sfits = c.entry-arg-1.given }), c.requires.0)
+    (word_near has (record { sfits = omega arith }), c.requires.0)
 
 pub put_text-end-requires : goal.put_text-end-requires
 put_text-end-requires c =
     let loop = c.loop-i in
-    let room = entries_room c.args.texts.now c.args.words.now loop.i (omega arith) in
-    record { room = omega (arith, room, c.requires.2.room, loop.invariant.2.ends, loop.invariant.2.long, ap length (known c.before)) }
+    let texts = c.args.texts.now in
+    let words = c.args.words.now in
+    let is = known texts words loop.i (omega arith) c.requires.1 (record { sfits = omega arith }) c.entry.ensures in
+    let room = entries_room texts words loop.i (omega arith) in
+    record { room = omega (arith, room, c.requires.2.room, loop.invariant.2.ends, loop.invariant.2.long, ap length is) }
 
 pub loop-i-preserved : goal.loop-i-preserved
 loop-i-preserved c =
     let loop = c.loop-i in
     let texts = c.args.texts.now in
     let words = c.args.words.now in
-    let is = known c.before.before.before.before in
+    let is = known texts words loop.i (omega arith) c.requires.1 (record { sfits = omega arith }) c.entry.ensures in
     let more = entries_more texts words loop.i (omega arith) ∙ ap (λ (l : List ℕ). entries_text texts (take loop.i words) ++ l) (sym is) in
     (omega arith, refl, wrote_as more (wrote_then loop.invariant.2 c.put_text-end.ensures))
 

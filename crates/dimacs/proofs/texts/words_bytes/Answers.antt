@@ -1,26 +1,22 @@
 -- `words_bytes`: the loop has counted the first words, at most 7 bytes each.
+use mathlib.Core.List.{List}
 use mathlib.Core.Path.{◌≡◌, sym, ap}
-use Prim.Native.Nat.{◌≤◌, ◌-◌, ◌/◌, ◌^◌}
+use Prim.Native.Nat.{ℕ, ◌<◌, ◌≤◌, ◌/◌, ◌^◌}
+use mir.Syntax.{w32}
+use mir.Val.{SFits, to_z, of_z}
+use Rattle.list.specs.Lists.{All}
 use native.Mathlib.Omega.{arith}
-use lib.IntN.{pos}
+use lib.IntN.{ℤ, pos}
 use lib.ListN.{length, take, get_or, length-append}
-use Rattle.dimacs.specs.Texts.{text_of, entry_text, entries_text}
+use Rattle.dimacs.specs.Texts.{slot, HasText, text_of, entry_text, entries_text}
 use Rattle.dimacs.proofs.TextLaws.{text_long, entries_none, entries_more, first_at_lem, word_near, entry_known}
 use Rattle.dimacs.proofs.texts.words_bytes.Goals as goal
-use Rattle.dimacs.proofs.texts.words_bytes.Goals.{After-entry}
 
 -- the entry that was read is that of the word
-known : (c : After-entry invariant-loop decreases-loop) →
-    let args = c.before.before.before.before.before.args in
-    let z = get_or args.words.now c.before.before.before.loop.i (pos 0) in
-    let x = c.entry.result in
-    (text_of x ≡ entry_text args.texts.now z) × (2 ≤ x / 2 ^ 56) × (x / 2 ^ 56 ≤ 7)
-known c =
-    let start = c.before.before.before.before.before in
-    let args = start.args in
-    let i = c.before.before.before.loop.i in
-    let has = first_at_lem args.texts.now args.words.now args.n i start.requires.0 (omega arith) start.requires.3 in
-    entry_known args.texts.now has (record { sfits = c.before.entry-arg.given }) c.entry.ensures
+known : {x : ℕ} (texts : List ℕ) (words : List ℤ) (n i : ℕ) → n ≤ length words → i < n → All (HasText texts) (take n words)
+    → SFits w32 (get_or words i (pos 0)) → x ≡ get_or texts (slot (to_z w32 (of_z w32 (get_or words i (pos 0))))) 0
+    → (text_of x ≡ entry_text texts (get_or words i (pos 0))) × (2 ≤ x / 2 ^ 56) × (x / 2 ^ 56 ≤ 7)
+known texts words n i l h all f e = entry_known texts (first_at_lem texts words n i l h all) f e
 
 pub loop-i-init : goal.loop-i-init
 loop-i-init c = (omega arith, omega arith, sym (ap length (entries_none c.args.texts.now)))
@@ -29,17 +25,22 @@ pub entry-requires : goal.entry-requires
 entry-requires c =
     let args = c.args in
     let has = first_at_lem args.texts.now args.words.now args.n c.loop-i.i c.requires.0 (omega arith) c.requires.3 in
-    (word_near has (record { sfits = c.entry-arg-1.given }), c.requires.2)
+    (word_near has (record { sfits = omega arith }), c.requires.2)
 
 pub overflow_add-bytes : goal.overflow_add-bytes
-overflow_add-bytes c = let most = (known c).2 in omega (arith, most, c.requires.1)
+overflow_add-bytes c =
+    let texts = c.args.texts.now in
+    let words = c.args.words.now in
+    let is = known texts words c.args.n c.loop-i.i c.requires.0 (omega arith) c.requires.3 (record { sfits = omega arith }) c.entry.ensures in
+    let most = is.2 in
+    omega (arith, most, c.requires.1)
 
 pub loop-i-preserved : goal.loop-i-preserved
 loop-i-preserved c =
     let texts = c.args.texts.now in
     let words = c.args.words.now in
     let i = c.loop-i.i in
-    let is = known c in
+    let is = known texts words c.args.n i c.requires.0 (omega arith) c.requires.3 (record { sfits = omega arith }) c.entry.ensures in
     let most = is.2 in
     let more = ap length (entries_more texts words i (omega (arith, c.requires.0))) in
     let sum = length-append (entries_text texts (take i words)) (entry_text texts (get_or words i (pos 0))) in

@@ -1,6 +1,5 @@
 -- put_delay: a delay on each group, a group a turn.
 use mathlib.Core.Path.{◌≡◌}
-use Prim.Native.Nat.{◌-◌}
 use Rattle.emission.proofs.ClauseLaws.{wrote_each, wrote_each_none, room_each}
 use native.Mathlib.Omega.{arith}
 use Rattle.emission.proofs.delay.put_delay.Goals as goal

@@ -1,7 +1,7 @@
 -- put_delays: each delay, a delay a turn.
 use native.Mathlib.Omega.{arith}
 use mathlib.Core.Path.{◌≡◌}
-use Prim.Native.Nat.{◌-◌, ◌+◌}
+use Prim.Native.Nat.{◌+◌}
 use Rattle.emission.proofs.ClauseLaws.{wrote_each, wrote_each_none, room_each}
 use Rattle.emission.proofs.delay.put_delays.Goals as goal
 

@@ -1,7 +1,7 @@
 -- put_edges: `count` edges from edge `from` on, an edge a turn; edge e is choice M + 1 + e.
 use native.Mathlib.Omega.{arith}
 use mathlib.Core.Path.{◌≡◌}
-use Prim.Native.Nat.{◌-◌, ◌<◌, ◌+◌}
+use Prim.Native.Nat.{◌<◌, ◌+◌}
 use Rattle.emission.proofs.ClauseLaws.{wrote_each, wrote_each_none, room_each}
 use Rattle.emission.proofs.edge.put_edges.Goals as goal
 

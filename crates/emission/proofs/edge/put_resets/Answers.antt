@@ -18,15 +18,14 @@ pub bounds-resets-i : goal.bounds-resets-i
 bounds-resets-i c = omega (arith, c.requires.2.groups_le)
 
 pub put_reset-end-requires : goal.put_reset-end-requires
-put_reset-end-requires c =
-    (
-      c.requires.0,
-      omega arith,
-      omega (arith, c.requires.2.groups_le, c.requires.2.vars_le),
-      c.requires.3 c.loop-i.i
-          c.loop-i-test.true,
-      room_each _ _ _ c.loop-i.invariant.1 c.loop-i-test.true c.requires.4,
-    )
+put_reset-end-requires c = (
+  c.requires.0,
+  omega arith,
+  omega (arith, c.requires.2.groups_le, c.requires.2.vars_le),
+  c.requires.3 c.loop-i.i
+      c.loop-i-test.true,
+  room_each _ _ _ c.loop-i.invariant.1 c.loop-i-test.true c.requires.4,
+)
 
 pub overflow_step-i : goal.overflow_step-i
 overflow_step-i c =

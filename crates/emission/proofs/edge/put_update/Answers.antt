@@ -6,7 +6,10 @@ use mir.Syntax.{w8}
 use mir.Val.{to_z, of_z}
 use lib.ListN.{get_or}
 use lib.IntN.{ℤ}
-use Prim.Native.Nat.{◌+◌, ◌≤◌}
+use Prim.Native.Nat.{ℕ, ◌+◌, ◌≤◌}
+use Rattle.parts.specs.declared.GroupTable.{GroupTable}
+use Rattle.model.specs.declared.Update.{Update}
+use Rattle.emission.specs.Writable.{Lent, UpdateFits}
 use Rattle.parts.specs.Numbering.{most_variables}
 use mathlib.Core.Path.{◌≡◌, sym, ap, ◌∙◌}
 use Rattle.parts.proofs.PartPieces.{part_is, set_is}
@@ -18,40 +21,38 @@ use Rattle.emission.proofs.TableLaws.{first_at_lem}
 use Rattle.emission.proofs.ClauseLaws.{wrote_as, room_as}
 use borrow.Author.Rules.{rules}
 use Rattle.emission.proofs.edge.put_update.Goals as goal
-use Rattle.emission.proofs.edge.put_update.Goals.{Start}
 
 -- the group after begins below the most variables
-after_in : (start : Start) → let a = start.args in next_at a.b a.o + get_or a.first.now (1 + a.i) 0 ≤ most_variables
-after_in start =
-    let a = start.args in
-    omega (arith, first_at_lem start.requires.0 (1 + a.i), update_after a.b a.o a.i _ a.update start.requires.4.fits)
+after_in : {b : GroupTable} {first size : List ℕ} {o : ℕ} {order : List ℕ} {i : ℕ} {u : Update} → Lent b first size → UpdateFits b o order i u
+    → next_at b o + get_or first (1 + i) 0 ≤ most_variables
+after_in {b} {first} {size} {o} {order} {i} {u} l f = omega (arith, first_at_lem l (1 + i), update_after b o i order u f.fits)
 
 pub overflow_cast-block : goal.overflow_cast-block
-overflow_cast-block c = omega (arith, after_in c.before.before.before)
+overflow_cast-block c = omega (arith, after_in c.requires.0 c.requires.4)
 
 pub overflow_cast-next : goal.overflow_cast-next
-overflow_cast-next c = omega (arith, after_in c.before.before.before.before)
+overflow_cast-next c = omega (arith, after_in c.requires.0 c.requires.4)
 
 pub overflow_add-next : goal.overflow_add-next
-overflow_add-next c = omega (arith, after_in c.before.before.before.before)
+overflow_add-next c = omega (arith, after_in c.requires.0 c.requires.4)
 
 pub overflow_cast-next-2 : goal.overflow_cast-next-2
-overflow_cast-next-2 c = omega (arith, after_in c.before.before.before.before.before)
+overflow_cast-next-2 c = omega (arith, after_in c.requires.0 c.requires.4)
 
 pub overflow_add-next-2 : goal.overflow_add-next-2
-overflow_add-next-2 c = omega (arith, after_in c.before.before.before.before.before)
+overflow_add-next-2 c = omega (arith, after_in c.requires.0 c.requires.4)
 
 pub overflow_add-after : goal.overflow_add-after
-overflow_add-after c = omega (arith, after_in c.before.before.before.before.before)
+overflow_add-after c = omega (arith, after_in c.requires.0 c.requires.4)
 
 pub overflow_cast-after : goal.overflow_cast-after
-overflow_cast-after c = omega (arith, after_in c.before.before.before.before.before)
+overflow_cast-after c = omega (arith, after_in c.requires.0 c.requires.4)
 
 pub overflow_add-kept : goal.overflow_add-kept
-overflow_add-kept c = omega (arith, after_in c.before.before.before.before.before.before.before)
+overflow_add-kept c = omega (arith, after_in c.requires.0 c.requires.4)
 
 pub overflow_cast-kept : goal.overflow_cast-kept
-overflow_cast-kept c = omega (arith, after_in c.before.before.before.before.before.before.before)
+overflow_cast-kept c = omega (arith, after_in c.requires.0 c.requires.4)
 
 pub overflow_cast-size : goal.overflow_cast-size
 overflow_cast-size c = omega (arith, c.type_inv.size (1 + c.args.i))
@@ -69,7 +70,7 @@ put_constant-requires c =
     (omega arith, f.after_in, room_as (ap (part_clauses c.args.x) q ∙ set_is _ _ _ _) c.requires.5)
 
 pub overflow_cast-following : goal.overflow_cast-following
-overflow_cast-following c = omega (arith, after_in c.before.before.before.before.before.before.before.before)
+overflow_cast-following c = omega (arith, after_in c.requires.0 c.requires.4)
 
 pub overflow_cast-before : goal.overflow_cast-before
 overflow_cast-before c =

@@ -1,5 +1,4 @@
 -- put_updates: each counter's update, a counter a turn.
-use Prim.Native.Nat.{◌-◌}
 use Rattle.emission.proofs.ClauseLaws.{wrote_each, wrote_each_none, room_each}
 use native.Mathlib.Omega.{arith}
 use mathlib.Core.Path.{refl, ◌≡◌}
@@ -15,15 +14,14 @@ pub bounds-counters-i : goal.bounds-counters-i
 bounds-counters-i c = omega (arith, c.requires.2)
 
 pub put_update-end-requires : goal.put_update-end-requires
-put_update-end-requires c =
-    (
-      c.requires.0,
-      omega arith,
-      omega (arith, c.requires.2),
-      refl,
-      c.requires.3 c.loop-i.i c.loop-i-test.true,
-      room_each _ _ _ c.loop-i.invariant.1 c.loop-i-test.true c.requires.4,
-    )
+put_update-end-requires c = (
+  c.requires.0,
+  omega arith,
+  omega (arith, c.requires.2),
+  refl,
+  c.requires.3 c.loop-i.i c.loop-i-test.true,
+  room_each _ _ _ c.loop-i.invariant.1 c.loop-i-test.true c.requires.4,
+)
 
 pub loop-i-preserved : goal.loop-i-preserved
 loop-i-preserved c = (omega arith, wrote_each _ _ c.loop-i.invariant.1 c.put_update-end.ensures)

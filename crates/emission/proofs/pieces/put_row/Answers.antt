@@ -13,8 +13,8 @@ use Rattle.emission.proofs.pieces.put_row.Goals as goal
 
 module _ (m : Model) (k r : ℕ) where
   -- a row numbered 0 is the start
-  start-row : r ≡ 0 → row_of m k r ≡ clauses_of (start_items one_hot_width m)
-  start-row e = ap (row_of m k) e ∙ start_joined m k
+  start_row : r ≡ 0 → row_of m k r ≡ clauses_of (start_items one_hot_width m)
+  start_row e = ap (row_of m k) e ∙ start_joined m k
 
   -- a row numbered 1 to k is the step from the state before
   step_row : (r ≡ 0 → ⊥) → r ≤ k → row_of m k r ≡ step_clauses m (r - 1)
@@ -27,12 +27,12 @@ pub put_start-requires : goal.put_start-requires
 put_start-requires c =
     let p = c.requires in
     let a = c.args in
-    (p.0, p.1, p.2, room_as (start-row a.m a.bound a.row c.if-row-eq0.true) p.5)
+    (p.0, p.1, p.2, room_as (start_row a.m a.bound a.row c.if-row-eq0.true) p.5)
 
 pub returns-then-row-eq0 : goal.returns-then-row-eq0
 returns-then-row-eq0 c =
     let a = c.args in
-    wrote_as (start-row a.m a.bound a.row c.if-row-eq0.true) c.put_start.ensures
+    wrote_as (start_row a.m a.bound a.row c.if-row-eq0.true) c.put_start.ensures
 
 pub put_end-requires : goal.put_end-requires
 put_end-requires c =

@@ -1,7 +1,6 @@
 -- put_rows: a row a turn, each in the tail that begins where the one before ended.
 use Rattle.emission.proofs.ClauseLaws.{wrote_each_tail, wrote_each_none, room_each, room_tail}
 use Rattle.emission.proofs.ListPieces.{lent}
-use Prim.Native.Nat.{◌-◌}
 use mathlib.Core.Path.{◌≡◌}
 use native.Mathlib.Omega.{arith}
 use Rattle.emission.proofs.pieces.put_rows.Goals as goal

@@ -1,7 +1,6 @@
 -- put_excluded: a row of the rule Exclude, a value a turn.
 use native.Mathlib.Omega.{arith}
 use mathlib.Core.Path.{◌≡◌}
-use Prim.Native.Nat.{◌-◌}
 use Rattle.emission.proofs.ClauseLaws.{wrote_each, wrote_each_none, room_each}
 use Rattle.emission.proofs.rules.put_excluded.Goals as goal
 

@@ -2,7 +2,6 @@
 use native.Mathlib.Omega.{arith}
 use Rattle.emission.proofs.RuleLaws.{joint_is}
 use mathlib.Core.Path.{◌≡◌, sym}
-use Prim.Native.Nat.{◌-◌}
 use Rattle.emission.proofs.ClauseLaws.{wrote_each, wrote_each_none, room_each, wrote_as, room_as}
 use Rattle.emission.proofs.rules.put_raised.Goals as goal
 
@@ -11,8 +10,7 @@ loop-v-init c = (omega arith, wrote_each_none _ _ _ (omega (arith, c.requires.4.
 
 pub put_joint_implication-end-requires : goal.put_joint_implication-end-requires
 put_joint_implication-end-requires c =
-    let smaller-ensures = c.smaller-u.ensures in
-    (
+    let smaller-ensures = c.smaller-u.ensures in (
       omega arith,
       omega arith,
       omega (arith, smaller-ensures),
@@ -20,12 +18,11 @@ put_joint_implication-end-requires c =
     )
 
 pub loop-v-preserved : goal.loop-v-preserved
-loop-v-preserved c =
-    (
-      omega arith,
-      wrote_each _ _ c.loop-v.invariant.1 (wrote_as (joint_is _ _ _ _ _ (sym c.smaller-u.ensures))
-          c.put_joint_implication-end.ensures),
-    )
+loop-v-preserved c = (
+  omega arith,
+  wrote_each _ _ c.loop-v.invariant.1 (wrote_as (joint_is _ _ _ _ _ (sym c.smaller-u.ensures))
+      c.put_joint_implication-end.ensures),
+)
 
 pub returns : goal.returns
 returns c =

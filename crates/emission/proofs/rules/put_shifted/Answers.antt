@@ -9,7 +9,6 @@ use mir.Syntax.{w8}
 use mir.Val.{to_z, of_z}
 use lib.IntN.{ℤ}
 use mathlib.Core.Path.{◌≡◌, sym, ap}
-use Prim.Native.Nat.{◌-◌}
 use Rattle.emission.proofs.ClauseLaws.{wrote_each, wrote_each_none, room_each, wrote_as, room_as}
 use Rattle.emission.proofs.rules.put_shifted.Goals as goal
 

@@ -1,35 +1,26 @@
 -- put_initial: the initial value of each group, a group a turn.
 use lib.ListN.{get_or}
-use mathlib.Core.List.{[], ◌∷◌}
+use mathlib.Core.List.{List, [], ◌∷◌}
+use Rattle.model.specs.declared.Model.{Model}
+use Rattle.parts.specs.declared.GroupTable.{GroupTable}
+use Rattle.parts.specs.Pieces.{Known}
+use Rattle.emission.specs.Writable.{Lent}
+use Rattle.emission.specs.Initial.{initial_in}
 use Rattle.list.specs.Clauses.{bare, one}
 use native.Mathlib.Omega.{arith}
 use Rattle.model.proofs.FormLaws.{state_size_le}
 use Rattle.parts.proofs.KnownLaws.{wf, known_bounded, at_most_nine, known_initial, initial_piece_of}
 use Rattle.emission.proofs.TableLaws.{initial_lent, initial_is, first_at_lem}
 use mathlib.Core.Path.{◌≡◌, sym, ap, ◌∙◌}
-use Prim.Native.Nat.{◌-◌, ◌<◌, ℕ, ◌+◌}
+use Prim.Native.Nat.{◌<◌, ℕ, ◌+◌}
 use Rattle.parts.specs.Numbering.{most_variables}
 use Rattle.emission.proofs.ClauseLaws.{wrote_each, wrote_each_none, room_each, wrote_as, room_as}
 use Rattle.emission.proofs.start.put_initial.Goals as goal
-use Rattle.emission.proofs.start.put_initial.Goals.{After-shared_slice_known-in-loop-g-1}
 
 -- the member lies below the most variables
-member_in : (c : After-shared_slice_known-in-loop-g-1 invariant-loop decreases-loop) → let turn = c.before.before.before in
-    get_or turn.before.before.before.args.first.now turn.loop.g 0 + c.before.initial-value.result < most_variables
-member_in c =
-    let at-loop-test = c.before.before in
-    let turn = at-loop-test.before in
-    let start = turn.before.before.before in
-    let k = start.requires.0 in
-    let g = turn.loop.g in
-    omega (
-      arith,
-      c.before.initial-value.ensures,
-      initial_is k g,
-      first_at_lem start.requires.1 g,
-      known_initial k g at-loop-test.loop-test.true,
-      state_size_le _ (wf k),
-    )
+member_in : {m : Model} {b : GroupTable} {first size : List ℕ} → Known m b → Lent b first size → (g : ℕ) {v : ℕ} → v ≡ initial_in b m.initial g
+    → g < b.groups → get_or first g 0 + v < most_variables
+member_in {m} k l g e h = omega (arith, e, initial_is k g, first_at_lem l g, known_initial k g h, state_size_le m (wf k))
 
 pub loop-g-init : goal.loop-g-init
 loop-g-init c = (omega arith, wrote_each_none _ _ _ (omega (arith, c.requires.2.words.room)))
@@ -45,13 +36,13 @@ bounds-first-g c =
     omega (arith, c.requires.1.first_long, at_most_nine c.requires.0)
 
 pub overflow_cast-v : goal.overflow_cast-v
-overflow_cast-v c = omega (arith, member_in c)
+overflow_cast-v c = omega (arith, member_in c.requires.0 c.requires.1 c.loop-g.g c.initial_value-v.ensures c.loop-g-test.true)
 
 pub overflow_add-first : goal.overflow_add-first
-overflow_add-first c = omega (arith, member_in c)
+overflow_add-first c = omega (arith, member_in c.requires.0 c.requires.1 c.loop-g.g c.initial_value-v.ensures c.loop-g-test.true)
 
 pub overflow_cast-first : goal.overflow_cast-first
-overflow_cast-first c = omega (arith, member_in c)
+overflow_cast-first c = omega (arith, member_in c.requires.0 c.requires.1 c.loop-g.g c.initial_value-v.ensures c.loop-g-test.true)
 
 pub put_unit-end-requires : goal.put_unit-end-requires
 put_unit-end-requires c =

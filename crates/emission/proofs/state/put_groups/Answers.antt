@@ -2,7 +2,6 @@
 use native.Mathlib.Omega.{arith}
 use Rattle.emission.proofs.TableLaws.{groups_lent, first_at_lem, size_at_lem}
 use mathlib.Core.Path.{◌≡◌}
-use Prim.Native.Nat.{◌-◌}
 use Rattle.emission.proofs.ClauseLaws.{wrote_each, wrote_each_none, room_each, wrote_as, room_as}
 use Rattle.emission.proofs.state.put_groups.Goals as goal
 

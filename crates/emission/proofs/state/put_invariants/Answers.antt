@@ -5,7 +5,7 @@ use Rattle.parts.specs.StateBlock.{size_at}
 use Rattle.emission.specs.Writable.{atoms_of}
 use Rattle.emission.proofs.TableLaws.{size_at_lem, lent_atoms}
 use mathlib.Core.Path.{◌≡◌}
-use Prim.Native.Nat.{◌+◌, ◌-◌, ◌<◌}
+use Prim.Native.Nat.{◌+◌, ◌<◌}
 use Rattle.emission.proofs.ClauseLaws.{wrote_each, wrote_each_none, room_each, wrote_as, room_as}
 use Rattle.emission.proofs.LeafLaws.{atom_fits_by, atoms_by}
 use Rattle.emission.proofs.state.put_invariants.Goals as goal

@@ -3,7 +3,6 @@ use native.Mathlib.Omega.{arith}
 use borrow.Author.Rules.{rules}
 use Rattle.emission.proofs.ClauseLaws.{wrote_then, wrote_each, wrote_each_none, room_first, room_then, room_each}
 use Rattle.list.specs.Clauses.{pairs, group_clauses}
-use Prim.Native.Nat.{◌-◌}
 use mathlib.Core.Path.{◌≡◌}
 use Rattle.emission.proofs.words.put_group.Goals as goal
 
@@ -16,13 +15,12 @@ loop-i-init c = (omega arith, wrote_each_none _ _ _ (omega arith))
 
 pub put_pairs_of-end-requires : goal.put_pairs_of-end-requires
 unfolding group_clauses pairs
-put_pairs_of-end-requires c =
-    (
-      omega arith,
-      omega arith,
-      room_each _ _ _ c.loop-i.invariant.1 c.loop-i-test.true (room_then c.put_members-end.ensures
-          c.requires.1),
-    )
+put_pairs_of-end-requires c = (
+  omega arith,
+  omega arith,
+  room_each _ _ _ c.loop-i.invariant.1 c.loop-i-test.true (room_then c.put_members-end.ensures
+      c.requires.1),
+)
 
 pub loop-i-preserved : goal.loop-i-preserved
 loop-i-preserved c = (omega arith, wrote_each _ _ c.loop-i.invariant.1 c.put_pairs_of-end.ensures)

@@ -3,14 +3,14 @@ use native.Mathlib.Omega.{arith}
 use borrow.Author.Rules.{rules}
 use Rattle.buffer.proofs.BufferLaws.{wrote_none, wrote_then, wrote_one}
 use Rattle.emission.proofs.Members.{members_none, members_more, size_members, one_wrote, wrote_word}
-use Prim.Native.Nat.{◌+◌, ◌-◌, ◌≤◌}
+use Prim.Native.Nat.{◌+◌, ◌≤◌}
 use mathlib.Core.Path.{◌≡◌}
 use lib.ListN.{length}
 use Rattle.emission.proofs.words.put_members.Goals as goal
 use Rattle.emission.proofs.words.put_members.Goals.{Start}
 
 -- the clause takes n + 1 words
-room : (c : Start invariant-loop decreases-loop) → c.args.at + (c.args.n + 1) ≤ length c.args.out.now
+room : (c : Start) → c.args.at + (c.args.n + 1) ≤ length c.args.out.now
 room c = omega (arith, c.requires.1.words.room, size_members c.args.b c.args.n)
 
 pub loop-v-init : goal.loop-v-init

@@ -1,7 +1,6 @@
 -- `updated`: the counters after the listed updates so far; the first that leaves its range makes the answer.
 use borrow.Author.Tests.{not-true, not-false}
 use native.Mathlib.Omega.{arith}
-use Prim.Native.Nat.{◌-◌}
 use mathlib.Core.Path.{◌≡◌, sym, ap}
 use Rattle.model.specs.Record.{counter_in}
 use Rattle.model.specs.Automaton.{listed, applied, updated_from}

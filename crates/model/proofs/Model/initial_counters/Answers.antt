@@ -5,7 +5,6 @@ use Rattle.model.proofs.IndexedLaws.{list_none}
 use lib.ListN.{length-set}
 use native.Mathlib.Omega.{arith}
 use mathlib.Core.Path.{◌≡◌, refl, sym}
-use Prim.Native.Nat.{◌-◌}
 use Rattle.model.proofs.Model.initial_counters.Goals as goal
 
 pub loop-i-init : goal.loop-i-init

@@ -1,9 +1,8 @@
 -- `invariant_constant`: the loop holds the greatest constant of the invariants so far.
 use borrow.Author.Rules.{rules}
-use Prim.Native.Nat.{◌-◌, max}
+use Prim.Native.Nat.{max}
 use mathlib.Core.Path.{◌≡◌, sym, ◌∙◌, ap₂}
 use native.Mathlib.Omega.{arith}
-use Rattle.model.specs.Automaton.{greatest_constant}
 use Rattle.model.proofs.IndexedLaws.{max_none, max_more}
 use Rattle.model.proofs.Model.invariant_constant.Goals as goal
 

@@ -1,5 +1,5 @@
 -- `totals`, number by number; no sum or product wraps, because every factor is a byte or bounded by a callee.
-use Rattle.model.specs.Automaton.{ceiling, state_size, choices, totals}
+use Rattle.model.specs.Automaton.{state_size, choices, totals}
 use Rattle.model.specs.declared.Model.{Model}
 use Prim.Native.Nat.{◌+◌, ◌*◌, ◌≤◌}
 use native.Mathlib.Omega.{arith}

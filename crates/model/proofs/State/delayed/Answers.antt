@@ -1,11 +1,11 @@
 -- `delayed`: the loop has filled the array with the first clocks' delayed values.
 use borrow.Author.Rules.{rules}
-use Prim.Native.Nat.{ℕ, ◌-◌}
+use Prim.Native.Nat.{ℕ}
 use mathlib.Core.Path.{◌≡◌, refl, sym, ap}
 use mathlib.Core.List.{List}
 use native.Mathlib.Omega.{arith}
 use lib.ListN.{length-set}
-use Rattle.model.specs.Automaton.{delayed, delayed_clock}
+use Rattle.model.specs.Automaton.{delayed}
 use Rattle.model.proofs.IndexedLaws.{list_none}
 use Rattle.model.proofs.Filled.{filled, whole}
 use Rattle.model.proofs.State.delayed.Goals as goal

@@ -1,10 +1,8 @@
 -- `next_clocks`: the loop has filled the array with the first clocks' new values.
 use borrow.Author.Rules.{rules}
-use Prim.Native.Nat.{◌-◌}
 use mathlib.Core.Path.{◌≡◌, refl, sym}
 use native.Mathlib.Omega.{arith}
 use lib.ListN.{length-set}
-use Rattle.model.specs.Automaton.{next_clock}
 use Rattle.model.proofs.IndexedLaws.{list_none}
 use Rattle.model.proofs.Filled.{filled, whole}
 use Rattle.model.proofs.State.next_clocks.Goals as goal

@@ -1,9 +1,7 @@
 -- `all_hold`: so far every atom held; the first that does not makes the answer false.
 use native.Mathlib.Omega.{arith}
 use borrow.Author.Rules.{rules}
-use Prim.Native.Nat.{◌-◌}
 use mathlib.Core.Path.{◌≡◌, sym}
-use mathlib.Core.Bool.{true}
 use Rattle.model.specs.Automaton.{all_hold}
 use Rattle.model.proofs.IndexedLaws.{all_none, all_stops, all_goes}
 use Rattle.model.proofs.atoms.all_hold.Goals as goal

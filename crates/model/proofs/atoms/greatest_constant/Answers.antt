@@ -1,9 +1,9 @@
 -- `greatest_constant`: the loop holds the greatest clock constant of the atoms so far.
 use borrow.Author.Rules.{rules}
-use Prim.Native.Nat.{◌-◌, max}
+use Prim.Native.Nat.{max}
 use mathlib.Core.Path.{◌≡◌, sym, ◌∙◌, ap₂}
 use native.Mathlib.Omega.{arith}
-use Rattle.model.specs.Automaton.{clock_constant, greatest_constant}
+use Rattle.model.specs.Automaton.{greatest_constant}
 use Rattle.model.proofs.IndexedLaws.{max_none, max_more}
 use Rattle.model.proofs.atoms.greatest_constant.Goals as goal
 

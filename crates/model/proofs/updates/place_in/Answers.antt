@@ -4,8 +4,6 @@ use Rattle.model.specs.Automaton.{place_in}
 use borrow.Author.Tests.{ne_eqb}
 use borrow.Author.Rules.{rules}
 use native.Mathlib.Omega.{arith}
-use Prim.Native.Nat.{◌-◌}
-use mathlib.Core.Bool.{false}
 use mathlib.Core.Path.{◌≡◌, sym}
 use Rattle.model.proofs.updates.place_in.Goals as goal
 

@@ -17,15 +17,15 @@ use borrow.Author.Rules.{rules}
 use Rattle.parts.proofs.GroupTable.update_part.Goals as goal
 
 -- the state block in which a source is read begins at most where the one after the last begins
-read-le : (b : GroupTable) (o : ℕ) → o ≤ most_variables → (after : Bool) → cond after (next_at b o) o ≤ next_at b most_variables
-read-le b o l true = omega arith
-read-le b o l false = omega arith
+read_le : (b : GroupTable) (o : ℕ) → o ≤ most_variables → (after : Bool) → cond after (next_at b o) o ≤ next_at b most_variables
+read_le b o l true = omega arith
+read_le b o l false = omega arith
 
 pub leads_part-requires-in-Sum : goal.leads_part-requires-in-Sum
 leads_part-requires-in-Sum c =
     let args = c.args in
     let w = c.in-Sum.source in
-    let from_le = read-le args.self args.o c.requires.1 (set_earlier args.order w args.i) in
+    let from_le = read_le args.self args.o c.requires.1 (set_earlier args.order w args.i) in
     (c.requires.0, subst (λ (from : ℕ). from ≤ next_at args.self most_variables) (sym c.read_at-from.ensures) from_le, c.requires.1)
 
 pub returns-in-Keep : goal.returns-in-Keep

@@ -1,6 +1,5 @@
 -- check_atoms: a loop of checks over the parts of the atoms.
 use mathlib.Core.Path.{ap, subst, sym}
-use Prim.Native.Nat.{◌-◌}
 use native.Mathlib.Omega.{arith}
 use borrow.Author.Tests.{not-false, not-true}
 use lib.ListN.{length}

@@ -1,6 +1,6 @@
 -- check_delay: a loop of checks over the parts of a delay.
 use mathlib.Core.Path.{ap, subst, sym}
-use Prim.Native.Nat.{◌+◌, ◌-◌}
+use Prim.Native.Nat.{◌+◌}
 use native.Mathlib.Omega.{arith}
 use borrow.Author.Tests.{not-false, not-true}
 use lib.ListN.{length}

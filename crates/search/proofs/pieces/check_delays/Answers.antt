@@ -1,6 +1,6 @@
 -- check_delays: a loop of checks over the delays; the clauses of a delay that is false are passed over.
 use mathlib.Core.Path.{◌∙◌, refl, sym}
-use Prim.Native.Nat.{◌*◌, ◌-◌}
+use Prim.Native.Nat.{◌*◌}
 use native.Mathlib.Omega.{arith}
 use borrow.Author.Tests.{not-false, not-true}
 use Rattle.search.proofs.CheckLaws.{upto_done, upto_failed, upto_next, upto_none, upto_over}
@@ -30,7 +30,7 @@ overflow_add-count c =
 
 pub loop-d-preserved-then-not-is_true : goal.loop-d-preserved-then-not-is_true
 loop-d-preserved-then-not-is_true c =
-    let is_false = sym c.is_true.ensures ∙ not-true _ c.if-not-is_true.true-raw in
+    let is_false = sym c.is_true.ensures ∙ c.if-not-is_true.true in
     let all = delay_true c.args.a.now c.args.b c.args.o c.loop-d.d is_false in
     upto_over c.loop-d.invariant c.loop-d-test.true (passed_over all (c.requires.2.delay_clauses c.loop-d.d) refl)
     (omega (arith, c.requires.0.state_le))
@@ -40,14 +40,13 @@ overflow_cast-d c =
     record { fits = omega (arith, c.loop-d-test.true, c.requires.0.top_le) }
 
 pub check_delay-s-requires : goal.check_delay-s-requires
-check_delay-s-requires c =
-    (
-      c.requires.0,
-      c.requires.1,
-      c.requires.2,
-      omega (arith, c.loop-d-test.true),
-      omega (arith, c.loop-d.invariant.few, c.loop-d-test.true, c.requires.0.top_le),
-    )
+check_delay-s-requires c = (
+  c.requires.0,
+  c.requires.1,
+  c.requires.2,
+  omega (arith, c.loop-d-test.true),
+  omega (arith, c.loop-d.invariant.few, c.loop-d-test.true, c.requires.0.top_le),
+)
 
 pub returns-then-not-s : goal.returns-then-not-s
 returns-then-not-s c =

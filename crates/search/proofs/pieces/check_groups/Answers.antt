@@ -1,5 +1,4 @@
 -- check_groups: a loop of checks over the groups of a state block.
-use Prim.Native.Nat.{◌-◌}
 use native.Mathlib.Omega.{arith}
 use borrow.Author.Tests.{not-false, not-true}
 use Rattle.search.proofs.CheckLaws.{upto_done, upto_failed, upto_next, upto_none}

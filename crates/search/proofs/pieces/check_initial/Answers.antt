@@ -2,9 +2,8 @@
 use mathlib.Core.Bool.{Bool}
 use mathlib.Core.List.{List, [], ◌∷◌}
 use mathlib.Core.Path.{◌∙◌, ◌≡◌, ap, refl, sym}
-use Prim.Native.Nat.{◌+◌, ◌-◌, ℕ}
+use Prim.Native.Nat.{◌+◌, ℕ}
 use native.Mathlib.Omega.{arith}
-use borrow.Author.Tests.{not-false, not-true}
 use Rattle.list.specs.Assignments.{bit, clause_true}
 use Rattle.list.specs.Clauses.{bare}
 use Rattle.parts.proofs.KnownLaws.{at_most_nine, initial_piece_of, known_initial}
@@ -46,7 +45,7 @@ pub returns-then-not-is_true : goal.returns-then-not-is_true
 returns-then-not-is_true c =
     let first = first_at c.args.b c.loop-g.g in
     let is_false = looked c.args.a.now first _ _ c.is_true.ensures c.initial_value-value.ensures
-    (not-true _ c.if-not-is_true.true-raw) in
+    c.if-not-is_true.true in
     checked_as (initial_piece_of c.requires.0)
     (upto_failed c.loop-g.invariant 9 c.loop-g-test.true (checked_false _ _ _ is_false) refl
     (omega (arith, c.loop-g-test.true, at_most_nine c.requires.0)))
@@ -59,7 +58,7 @@ pub loop-g-preserved : goal.loop-g-preserved
 loop-g-preserved c =
     let first = first_at c.args.b c.loop-g.g in
     let is-so = looked c.args.a.now first _ _ c.is_true.ensures c.initial_value-value.ensures
-    (not-false _ c.if-not-is_true.false-raw) in
+    c.if-not-is_true.false in
     upto_over c.loop-g.invariant c.loop-g-test.true (clause_passed _ _ _ is-so) (omega arith)
 
 pub returns : goal.returns

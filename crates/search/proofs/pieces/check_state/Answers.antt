@@ -1,11 +1,10 @@
 -- check_state: the groups, then a loop of checks over the locations; the clauses of a location that is false are passed over.
 use mathlib.Core.Path.{◌∙◌, refl, sym}
-use Prim.Native.Nat.{◌*◌, ◌-◌}
+use Prim.Native.Nat.{◌*◌}
 use native.Mathlib.Omega.{arith}
 use borrow.Author.Tests.{not-false, not-true}
 use lib.ListN.{length}
 use Rattle.list.proofs.PieceClauses.{state_piece_lem}
-use Rattle.list.specs.Clauses.{clauses}
 use Rattle.counts.proofs.TableLaws.{slots_are}
 use Rattle.counts.specs.Tables.{most_invariant_clauses}
 use Rattle.parts.proofs.KnownLaws.{block_in, groups_piece_of, invariant_fits, invariants_piece_of, known_bounded, known_locations, wf}
@@ -59,7 +58,7 @@ pub loop-l-preserved-then-not-is_true : goal.loop-l-preserved-then-not-is_true
 loop-l-preserved-then-not-is_true c =
     let loop-test = c.loop-l-test in
     let l = c.loop-l.l in
-    let is_false = sym c.is_true.ensures ∙ not-true _ c.if-not-is_true.true-raw in
+    let is_false = sym c.is_true.ensures ∙ c.if-not-is_true.true in
     let all = location_true c.requires.0 c.args.a.now c.args.o l is_false in
     let clauses = location_clauses c.requires.0 c.args.o l loop-test.true c.requires.1 in
     upto_over c.loop-l.invariant loop-test.true (passed_over all clauses refl)

@@ -1,22 +1,13 @@
 -- check_group: the clause of the members, then a loop of checks over the rows of pairs; the row of a member that is false is passed over.
-use mathlib.Core.List.{List, [], ◌∷◌}
 use mathlib.Core.Path.{◌∙◌, refl, sym}
-use Prim.Native.Nat.{◌*◌, ◌+◌, ◌-◌, ℕ}
+use Prim.Native.Nat.{◌*◌, ◌+◌, ◌-◌}
 use native.Mathlib.Omega.{arith}
-use borrow.Author.Tests.{not-false, not-true}
-use Rattle.model.specs.Indexed.{each}
-use Rattle.list.specs.Clauses.{Clause, group_clauses, negated, one, pairs}
+use Rattle.list.specs.Clauses.{group_clauses, pairs}
 use Rattle.search.proofs.CheckLaws.{checked_failed, checked_false, checked_then, clause_failed, clause_passed, failed_more, upto_all, upto_done}
 use Rattle.search.proofs.CheckLaws.{upto_failed, upto_none, upto_over}
 use Rattle.search.proofs.Skips.{passed_over, row_length, row_true}
 use Rattle.search.specs.Limits.{most_group_clauses}
 use Rattle.search.proofs.truth.check_group.Goals as goal
-
-abbrev pair : ℕ → ℕ → ℕ → List Clause
-pair b i d = one (negated (b + i) ∷ negated (b + i + 1 + d) ∷ [])
-
-abbrev row : ℕ → ℕ → ℕ → List Clause
-row b n i = each (n - (i + 1)) (pair b i)
 
 pub members_true-requires : goal.members_true-requires
 members_true-requires c = omega arith
@@ -24,7 +15,7 @@ members_true-requires c = omega arith
 pub returns-then-not-members_true : goal.returns-then-not-members_true
 unfolding group_clauses
 returns-then-not-members_true c =
-    checked_failed (failed_more _ (clause_failed _ _ _ (sym c.members_true.ensures ∙ not-true _ c.if-not-members_true.true-raw))) (omega arith)
+    checked_failed (failed_more _ (clause_failed _ _ _ (sym c.members_true.ensures ∙ c.if-not-members_true.true))) (omega arith)
 
 pub overflow_add-count : goal.overflow_add-count
 overflow_add-count c = omega arith
@@ -57,7 +48,7 @@ pub lower-preserved-then-not-is_true : goal.lower-preserved-then-not-is_true
 lower-preserved-then-not-is_true c =
     let i = c.lower.i in
     let x = c.args.b + i in
-    let is_false = sym c.is_true.ensures ∙ not-true _ c.if-not-is_true.true-raw in
+    let is_false = sym c.is_true.ensures ∙ c.if-not-is_true.true in
     upto_over c.lower.invariant c.lower-test.true
     (passed_over (row_true c.args.a.now x (x + 1) (c.args.n - (i + 1)) is_false) (row_length _ _ _) refl) (omega arith)
 
@@ -83,9 +74,9 @@ pub returns-then-not-not_both : goal.returns-then-not-not_both
 unfolding group_clauses pairs
 returns-then-not-not_both c =
     let upper-test-taken = c.upper-test.true in
-    let both = sym c.not_both.ensures ∙ not-true _ c.if-not-not_both.true-raw in
+    let both = sym c.not_both.ensures ∙ c.if-not-not_both.true in
     let in_row = upto_failed c.upper.invariant 64 upper-test-taken (checked_false _ _ _ both) refl (omega (arith, upper-test-taken)) in
-    checked_then most_group_clauses (clause_passed _ _ _ (sym c.members_true.ensures ∙ not-false _ c.if-not-members_true.false-raw))
+    checked_then most_group_clauses (clause_passed _ _ _ (sym c.members_true.ensures ∙ c.if-not-members_true.false))
     (upto_failed c.lower.invariant (64 * 64) c.lower-test.true in_row refl (omega (arith, c.lower-test.true)))
     (omega arith)
 
@@ -101,7 +92,7 @@ upper-smaller c = omega arith
 pub upper-preserved : goal.upper-preserved
 upper-preserved c =
     upto_over c.upper.invariant c.upper-test.true
-    (clause_passed _ _ _ (sym c.not_both.ensures ∙ not-false _ c.if-not-not_both.false-raw)) (omega arith)
+    (clause_passed _ _ _ (sym c.not_both.ensures ∙ c.if-not-not_both.false)) (omega arith)
 
 pub overflow_step-i-in-lower : goal.overflow_step-i-in-lower
 overflow_step-i-in-lower c = omega arith
@@ -117,6 +108,6 @@ lower-preserved c =
 pub returns : goal.returns
 unfolding group_clauses pairs
 returns c =
-    checked_then most_group_clauses (clause_passed _ _ _ (sym c.members_true.ensures ∙ not-false _ c.if-not-members_true.false-raw))
+    checked_then most_group_clauses (clause_passed _ _ _ (sym c.members_true.ensures ∙ c.if-not-members_true.false))
     (upto_done c.lower.invariant (64 * 64) (omega arith) (omega (arith, c.lower.invariant.le)))
     (omega arith)

@@ -1,5 +1,4 @@
 -- check_part: the check of a part is that of each of its values, in a loop of checks (Upto).
-use Prim.Native.Nat.{◌-◌}
 use native.Mathlib.Omega.{arith}
 use borrow.Author.Tests.{not-false, not-true}
 use Rattle.parts.specs.Rules.{part_clauses}

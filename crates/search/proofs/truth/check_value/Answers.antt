@@ -23,21 +23,21 @@ reaches p n h e = subst (λ (r : Rule). p.after + reach p.size r ≤ n) e h
 
 pub both_lead-requires : goal.both_lead-requires
 both_lead-requires c =
-    omega (arith, reaches c.args.p (length c.args.a.now) c.pre.1.after_in c.in-Keep.is, c.pre.1.before_in)
+    omega (arith, reaches c.args.p (length c.args.a.now) c.requires.1.after_in c.in-Keep.is, c.requires.1.before_in)
 
 pub both_lead-requires-in-Rise : goal.both_lead-requires-in-Rise
 both_lead-requires-in-Rise c =
-    let pre₁ = c.pre.1 in
-    omega (arith, reaches c.args.p (length c.args.a.now) pre₁.after_in c.in-Rise.is, pre₁.before_in)
+    let fits = c.requires.1 in
+    omega (arith, reaches c.args.p (length c.args.a.now) fits.after_in c.in-Rise.is, fits.before_in)
 
 pub check_shifted-requires : goal.check_shifted-requires
 check_shifted-requires c =
-    let pre₁ = c.pre.1 in
-    omega (arith, reaches c.args.p (length c.args.a.now) pre₁.after_in c.in-Shift.is, pre₁.before_in)
+    let fits = c.requires.1 in
+    omega (arith, reaches c.args.p (length c.args.a.now) fits.after_in c.in-Shift.is, fits.before_in)
 
 pub one_leads-requires : goal.one_leads-requires
 one_leads-requires c =
-    omega (arith, reaches c.args.p (length c.args.a.now) c.pre.1.after_in c.in-Set.is)
+    omega (arith, reaches c.args.p (length c.args.a.now) c.requires.1.after_in c.in-Set.is)
 
 pub returns-in-Exclude : goal.returns-in-Exclude
 unfolding value_clauses
@@ -56,10 +56,10 @@ returns-in-Keep c =
 pub returns-in-Rise : goal.returns-in-Rise
 unfolding value_clauses
 returns-in-Rise c =
-    let rule2-given₁ = c.in-Rise.is in
+    let rule_is = c.in-Rise.is in
     let args = c.args in
     let p = args.p in
-    rw (rule2-given₁, ← c.smaller-u.ensures)
+    rw (rule_is, ← c.smaller-u.ensures)
     (checked_one args.a.now (negated args.x ∷ negated (p.before + args.v) ∷ bare (p.after + c.smaller-u.result) ∷ [])
     args.at c.counted-in-Rise.ensures c.both_lead-in-Rise.ensures)
 

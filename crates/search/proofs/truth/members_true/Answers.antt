@@ -2,7 +2,6 @@
 use Rattle.search.proofs.CheckLaws.{members_none, members_more}
 use native.Mathlib.Omega.{arith}
 use mathlib.Core.Path.{◌≡◌}
-use Prim.Native.Nat.{◌-◌}
 use Rattle.search.proofs.truth.members_true.Goals as goal
 
 pub loop-i-init : goal.loop-i-init

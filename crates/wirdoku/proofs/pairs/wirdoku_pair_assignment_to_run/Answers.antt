@@ -16,13 +16,13 @@ returns-then-pair-ne0 c =
     let assignment = args.assignment in
     let run = args.run in
     let t = args.first.now in
-    let u = args.second.now in (
-      ap answer_told c.told.ensures
+    let u = args.second.now in record {
+      result_value = ap answer_told c.told.ensures
           ∙ pair_refused (λ (m : Model). decode_report m args.bound assignment.now (length run.now)) refusal t u pair.result pair.ensures
-          c.if-pair-ne0.true,
-      pair_refused (λ (m : Model). decode_left m args.bound assignment.now run.now) (λ (n l : ℕ). run.now) t u pair.result pair.ensures
-          c.if-pair-ne0.true,
-    )
+          c.if-pair-ne0.true;
+      run_after = pair_refused (λ (m : Model). decode_left m args.bound assignment.now run.now) (λ (n l : ℕ). run.now) t u pair.result pair.ensures
+          c.if-pair-ne0.true;
+    }
 
 pub returns : goal.returns
 returns c =
@@ -32,11 +32,11 @@ returns c =
     let assignment = args.assignment in
     let run = args.run in
     let t = args.first.now in
-    let u = args.second.now in (
-      ap answer_told c.told-2.ensures ∙ (λ i. refusal (c.number.ensures i) (c.place.ensures i)) ∙ call-ensures.0
+    let u = args.second.now in record {
+      result_value = ap answer_told c.told-2.ensures ∙ (λ i. refusal (c.number.ensures i) (c.place.ensures i)) ∙ call-ensures.result_value
           ∙ pair_composed_lem (λ (m : Model). decode_report m args.bound assignment.now (length run.now)) refusal t u pair.result pair.ensures
-          c.if-pair-ne0.false,
-      call-ensures.1
+          c.if-pair-ne0.false;
+      run_after = call-ensures.run_after
           ∙ pair_composed_lem (λ (m : Model). decode_left m args.bound assignment.now run.now) (λ (n l : ℕ). run.now) t u pair.result pair.ensures
-          c.if-pair-ne0.false,
-    )
+          c.if-pair-ne0.false;
+    }

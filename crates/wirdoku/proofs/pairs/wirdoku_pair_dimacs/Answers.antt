@@ -15,12 +15,12 @@ returns-then-wanted-ne0 c =
     let bound = args.bound in
     let out = args.out in
     let t = args.first.now in
-    let u = args.second.now in (
-      c.file_reply.ensures
+    let u = args.second.now in record {
+      value = c.file_reply.ensures
           ∙ pair_refused (λ (m : Model). file_reply (file_report m bound (length out.now))) refused_file t u wanted.result wanted.ensures
-          c.if-wanted-ne0.true,
-      pair_refused (λ (m : Model). file_left m bound out.now) (λ (n l : ℕ). out.now) t u wanted.result wanted.ensures c.if-wanted-ne0.true,
-    )
+          c.if-wanted-ne0.true;
+      out_after = pair_refused (λ (m : Model). file_left m bound out.now) (λ (n l : ℕ). out.now) t u wanted.result wanted.ensures c.if-wanted-ne0.true;
+    }
 
 pub returns : goal.returns
 returns c =
@@ -30,11 +30,11 @@ returns c =
     let bound = args.bound in
     let out = args.out in
     let t = args.first.now in
-    let u = args.second.now in (
-      c.file_reply-2.ensures ∙ (λ i. file_reply (file_reported (c.number.ensures i) (c.bytes.ensures i)))
-          ∙ ap file_reply write-file-ensures.0
+    let u = args.second.now in record {
+      value = c.file_reply-2.ensures ∙ (λ i. file_reply (file_reported (c.number.ensures i) (c.bytes.ensures i)))
+          ∙ ap file_reply write-file-ensures.result_value
           ∙ pair_composed_lem (λ (m : Model). file_reply (file_report m bound (length out.now))) refused_file t u wanted.result wanted.ensures
-          c.if-wanted-ne0.false,
-      write-file-ensures.1
-          ∙ pair_composed_lem (λ (m : Model). file_left m bound out.now) (λ (n l : ℕ). out.now) t u wanted.result wanted.ensures c.if-wanted-ne0.false,
-    )
+          c.if-wanted-ne0.false;
+      out_after = write-file-ensures.out_after
+          ∙ pair_composed_lem (λ (m : Model). file_left m bound out.now) (λ (n l : ℕ). out.now) t u wanted.result wanted.ensures c.if-wanted-ne0.false;
+    }

@@ -15,13 +15,13 @@ returns-then-asked-ne0 c =
     let bound = args.bound in
     let out = args.out in
     let t = args.first.now in
-    let u = args.second.now in (
-      ap size_told c.size_answer.ensures
+    let u = args.second.now in record {
+      result_value = ap size_told c.size_answer.ensures
           ∙ pair_refused (λ (m : Model). emitted_sizes (emit_report m bound (length out.now))) refused_sizes t u asked.result asked.ensures
-          c.if-asked-ne0.true,
-      pair_refused (λ (m : Model). emit_left m bound (length out.now) out.now) (λ (n l : ℕ). out.now) t u asked.result asked.ensures
-          c.if-asked-ne0.true,
-    )
+          c.if-asked-ne0.true;
+      out_after = pair_refused (λ (m : Model). emit_left m bound (length out.now) out.now) (λ (n l : ℕ). out.now) t u asked.result asked.ensures
+          c.if-asked-ne0.true;
+    }
 
 pub returns : goal.returns
 returns c =
@@ -31,11 +31,11 @@ returns c =
     let bound = args.bound in
     let out = args.out in
     let t = args.first.now in
-    let u = args.second.now in (
-      c.emitted.ensures ∙ ap emitted_sizes emit-ensures.0
+    let u = args.second.now in record {
+      result_value = c.emitted.ensures ∙ ap emitted_sizes emit-ensures.0
           ∙ pair_composed_lem (λ (m : Model). emitted_sizes (emit_report m bound (length out.now))) refused_sizes t u asked.result asked.ensures
-          c.if-asked-ne0.false,
-      emit-ensures.1
+          c.if-asked-ne0.false;
+      out_after = emit-ensures.1
           ∙ pair_composed_lem (λ (m : Model). emit_left m bound (length out.now) out.now) (λ (n l : ℕ). out.now) t u asked.result asked.ensures
-          c.if-asked-ne0.false,
-    )
+          c.if-asked-ne0.false;
+    }

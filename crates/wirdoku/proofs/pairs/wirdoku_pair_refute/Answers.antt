@@ -17,13 +17,13 @@ returns-then-claimed-ne0 c =
     let words = args.words.now in
     let hints = args.hints.now in
     let t = args.first.now in
-    let u = args.second.now in (
-      c.refute_reply.ensures
+    let u = args.second.now in record {
+      value = c.refute_reply.ensures
           ∙ pair_refused (λ (m : Model). refute_reply (refute_report m bound words hints)) refused_refute t u claimed.result claimed.ensures
-          c.if-claimed-ne0.true,
-      pair_refused (λ (m : Model). emit_left m bound (length words) words) (λ (n l : ℕ). words) t u claimed.result claimed.ensures
-          c.if-claimed-ne0.true,
-    )
+          c.if-claimed-ne0.true;
+      words_after = pair_refused (λ (m : Model). emit_left m bound (length words) words) (λ (n l : ℕ). words) t u claimed.result claimed.ensures
+          c.if-claimed-ne0.true;
+    }
 
 pub returns : goal.returns
 returns c =
@@ -34,13 +34,13 @@ returns c =
     let words = args.words.now in
     let hints = args.hints.now in
     let t = args.first.now in
-    let u = args.second.now in (
-      c.refute_reply-2.ensures
+    let u = args.second.now in record {
+      value = c.refute_reply-2.ensures
           ∙ (λ i. refute_reply (refute_reported (c.number.ensures i) (c.words.ensures i) (c.outcome.ensures i)))
-          ∙ ap refute_reply refute-ensures.0
+          ∙ ap refute_reply refute-ensures.result_value
           ∙ pair_composed_lem (λ (m : Model). refute_reply (refute_report m bound words hints)) refused_refute t u claimed.result claimed.ensures
-          c.if-claimed-ne0.false,
-      refute-ensures.1
+          c.if-claimed-ne0.false;
+      words_after = refute-ensures.words_after
           ∙ pair_composed_lem (λ (m : Model). emit_left m bound (length words) words) (λ (n l : ℕ). words) t u claimed.result claimed.ensures
-          c.if-claimed-ne0.false,
-    )
+          c.if-claimed-ne0.false;
+    }
