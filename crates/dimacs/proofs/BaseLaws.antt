@@ -79,19 +79,19 @@ module _ (m : Model) (ok : T (well_formed m)) where
 
     -- a piece
     module _ (p : ℕ) (hp : p < row_pieces m k r) {ws : List ℤ} (e : ws ≡ words_of (piece_of m (base_bound k r) (base_row r) p)) where
-      pub piece-texts : All (HasText texts) ws
-      piece-texts = texts_of e (base_piece_inside m k r ok p hp)
+      pub piece_texts : All (HasText texts) ws
+      piece_texts = texts_of e (base_piece_inside m k r ok p hp)
 
-      pub piece-lines : entries_text texts ws ≡ lines_of (piece_of m k r p)
-      piece-lines = lines_of_lem (piece_of m (base_bound k r) (base_row r) p) e (base_piece_inside m k r ok p hp) (piece_raised m k r hr p)
+      pub piece_lines : entries_text texts ws ≡ lines_of (piece_of m k r p)
+      piece_lines = lines_of_lem (piece_of m (base_bound k r) (base_row r) p) e (base_piece_inside m k r ok p hp) (piece_raised m k r hr p)
 
     -- a whole row
     module _ {ws : List ℤ} (e : ws ≡ words_of (row_of m (base_bound k r) (base_row r))) where
       pub row_texts : All (HasText texts) ws
       row_texts = texts_of e (base_row_inside m k r ok)
 
-      pub row-lines : entries_text texts ws ≡ lines_of (row_of m k r)
-      row-lines = lines_of_lem (row_of m (base_bound k r) (base_row r)) e (base_row_inside m k r ok) (row_raised m k r hr)
+      pub row_lines : entries_text texts ws ≡ lines_of (row_of m k r)
+      row_lines = lines_of_lem (row_of m (base_bound k r) (base_row r)) e (base_row_inside m k r ok) (row_raised m k r hr)
 
 -- ---- pieces and rows, joined
 module _ (m : Model) (k : ℕ) where

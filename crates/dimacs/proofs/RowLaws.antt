@@ -58,13 +58,13 @@ module _ (d n : ℕ) (small : d + n < 100000) (z : ℤ) (h : nat_abs z ≤ n) wh
   Long = (2 ≤ length (word_text (raised_word d z))) × (length (word_text (raised_word d z)) ≤ 7)
 
   raised_between : Long
-  raised_between = ⊎_elim zero-long other-long (lt_or_le (nat_abs z) 1)
+  raised_between = ⊎_elim zero_long other_long (lt_or_le (nat_abs z) 1)
     where
-      zero-long : nat_abs z < 1 → Long
-      zero-long l = let e = ap length (raised_zero d z (omega arith)) in (omega (arith, e), omega (arith, e))
+      zero_long : nat_abs z < 1 → Long
+      zero_long l = let e = ap length (raised_zero d z (omega arith)) in (omega (arith, e), omega (arith, e))
 
-      other-long : 1 ≤ nat_abs z → Long
-      other-long l =
+      other_long : 1 ≤ nat_abs z → Long
+      other_long l =
           let e = raised_long d z (λ q. omega arith) in
           let s = sign_most z in
           (omega (arith, e, digits_some (d + nat_abs z)), omega (arith, e, s, digits_most_five (d + nat_abs z) (omega arith)))

@@ -1,5 +1,5 @@
 -- put_page: the first line, or a piece of a row.
-use Rattle.dimacs.proofs.BaseLaws.{piece-texts, piece-lines}
+use Rattle.dimacs.proofs.BaseLaws.{piece_texts, piece_lines}
 use Rattle.dimacs.proofs.PageLaws.{first_page, page_later, pages_later}
 use Rattle.emission.specs.Cut.{row_pieces}
 use Rattle.buffer.proofs.BufferLaws.{wrote_as, room_as}
@@ -37,11 +37,11 @@ put_words-requires c =
     let held = c.put_base_piece-count.ensures.0 in
     let texts = c.fill_row.ensures in
     let ok = pre.0.formed in
-    let text = piece-lines a.m ok a.bound (a.row - 1) pre.4 in_list texts a.p in_row held.front in
+    let text = piece_lines a.m ok a.bound (a.row - 1) pre.4 in_list texts a.p in_row held.front in
     let page = text ∙ sym (page_later a.m a.bound a.row a.p c.if-row-eq0.false) in (
       held.fits,
       texts.long,
-      piece-texts a.m ok a.bound (a.row - 1) pre.4 in_list texts a.p in_row held.front,
+      piece_texts a.m ok a.bound (a.row - 1) pre.4 in_list texts a.p in_row held.front,
       room_as (sym page) pre.9,
     )
 
@@ -54,5 +54,5 @@ returns c =
     let in_list : a.row - 1 ≤ a.bound + 1 = omega (arith, pre.5) in
     let held = c.put_base_piece-count.ensures.0 in
     let text =
-    piece-lines a.m pre.0.formed a.bound (a.row - 1) pre.4 in_list c.fill_row.ensures a.p in_row held.front in
+    piece_lines a.m pre.0.formed a.bound (a.row - 1) pre.4 in_list c.fill_row.ensures a.p in_row held.front in
     wrote_as (sym (text ∙ sym (page_later a.m a.bound a.row a.p c.if-row-eq0.false))) c.put_words.ensures

@@ -1,6 +1,6 @@
 -- cut_row_bytes: the bytes of a piece a turn.
 use mathlib.Core.List.{List}
-use Rattle.dimacs.proofs.BaseLaws.{piece-texts, piece-lines, row_pieces_joined, held_piece_most}
+use Rattle.dimacs.proofs.BaseLaws.{piece_texts, piece_lines, row_pieces_joined, held_piece_most}
 use Rattle.dimacs.proofs.PageLaws.{piece_most}
 use Rattle.dimacs.specs.File.{lines_of}
 use Rattle.emission.proofs.CutLaws.{row_pieces_most}
@@ -39,7 +39,7 @@ words_bytes-bytes-requires c =
     let p = c.loop-piece.piece in
     let in_row : p < row_pieces m k r = omega (arith, c.loop-piece-test.true, c.row_pieces-piece-end.ensures) in
     let held = c.put_base_piece-count.ensures.0 in
-    let texts = piece-texts m pre.0.formed k r pre.3 pre.4 pre.6 p in_row held.front in
+    let texts = piece_texts m pre.0.formed k r pre.3 pre.4 pre.6 p in_row held.front in
     (held.fits, held_piece_most m pre.0.formed k r p in_row held, pre.6.long, texts)
 
 pub overflow_add-bytes : goal.overflow_add-bytes
@@ -52,7 +52,7 @@ overflow_add-bytes c =
     let p = c.loop-piece.piece in
     let in_row : p < row_pieces m k r = omega (arith, c.loop-piece-test.true, c.row_pieces-piece-end.ensures) in
     let held = c.put_base_piece-count.ensures.0 in
-    let text = piece-lines m pre.0.formed k r pre.3 pre.4 pre.6 p in_row held.front in
+    let text = piece_lines m pre.0.formed k r pre.3 pre.4 pre.6 p in_row held.front in
     let most = piece_most m pre.0.formed k pre.3 r p pre.4 in_row in
     omega (arith, c.words_bytes-bytes.ensures, ap length text, most, c.loop-piece.invariant.2, row_pieces_most m pre.0.formed k r, in_row)
 
@@ -73,7 +73,7 @@ loop-piece-preserved c =
     let f : ℕ → List ℕ = λ i. lines_of (piece_of m k r i) in
     let in_row : p < row_pieces m k r = omega (arith, c.loop-piece-test.true, c.row_pieces-piece-end.ensures) in
     let held = c.put_base_piece-count.ensures in
-    let text = piece-lines m pre.0.formed k r pre.3 pre.4 pre.6 p in_row held.0.front in
+    let text = piece_lines m pre.0.formed k r pre.3 pre.4 pre.6 p in_row held.0.front in
     let most = piece_most m pre.0.formed k pre.3 r p pre.4 in_row in
     let bytes = c.words_bytes-bytes.ensures in (
       omega arith,

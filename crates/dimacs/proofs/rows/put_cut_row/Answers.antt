@@ -1,5 +1,5 @@
 -- put_cut_row: a piece a turn, each from where the one before ended.
-use Rattle.dimacs.proofs.BaseLaws.{piece-texts, piece-lines, row_pieces_joined}
+use Rattle.dimacs.proofs.BaseLaws.{piece_texts, piece_lines, row_pieces_joined}
 use Rattle.dimacs.specs.File.{lines_of}
 use Rattle.emission.specs.Cut.{row_pieces, piece_of}
 use Rattle.buffer.proofs.BufferLaws.{wrote_as, wrote_each, wrote_each_none, room_as, room_each}
@@ -34,10 +34,10 @@ put_words-end-requires c =
     let p = c.loop-p.p in
     let in_row : p < row_pieces m k r = omega (arith, c.loop-p-test.true, c.row_pieces-p-end.ensures) in
     let held = c.put_base_piece-count.ensures.0 in
-    let text = piece-lines m pre.0.formed k r pre.3 pre.4 pre.6 p in_row held.front in
+    let text = piece_lines m pre.0.formed k r pre.3 pre.4 pre.6 p in_row held.front in
     let whole = room_as (row_pieces_joined m k r) pre.7 in
     let room = room_each (λ i. lines_of (piece_of m k r i)) p (row_pieces m k r) c.loop-p.invariant.1 in_row whole in
-    (held.fits, pre.6.long, piece-texts m pre.0.formed k r pre.3 pre.4 pre.6 p in_row held.front, room_as (sym text) room)
+    (held.fits, pre.6.long, piece_texts m pre.0.formed k r pre.3 pre.4 pre.6 p in_row held.front, room_as (sym text) room)
 
 pub overflow_step-p : goal.overflow_step-p
 overflow_step-p c = omega arith
@@ -55,7 +55,7 @@ loop-p-preserved c =
     let p = c.loop-p.p in
     let in_row : p < row_pieces m k r = omega (arith, c.loop-p-test.true, c.row_pieces-p-end.ensures) in
     let piece = c.put_base_piece-count.ensures in
-    let text = piece-lines m pre.0.formed k r pre.3 pre.4 pre.6 p in_row piece.0.front in
+    let text = piece_lines m pre.0.formed k r pre.3 pre.4 pre.6 p in_row piece.0.front in
     let wrote = wrote_each (λ i. lines_of (piece_of m k r i)) p c.loop-p.invariant.1 (wrote_as (sym text) c.put_words-end.ensures) in
     (omega arith, wrote, piece.1 ∙ c.loop-p.invariant.2)
 

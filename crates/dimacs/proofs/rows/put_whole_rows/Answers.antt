@@ -1,5 +1,5 @@
 -- put_whole_rows: a row a turn; the words of the row before are there.
-use Rattle.dimacs.proofs.BaseLaws.{row_texts, row-lines, rows_joined, follows, step_base, held_before}
+use Rattle.dimacs.proofs.BaseLaws.{row_texts, row_lines, rows_joined, follows, step_base, held_before}
 use Rattle.dimacs.specs.Rows.{follows_step, Holds}
 use Rattle.dimacs.specs.File.{lines_of}
 use Rattle.emission.specs.Cut.{row_of}
@@ -53,7 +53,7 @@ put_words-end-requires c =
       held.fits,
       texts.long,
       row_texts m ok k r pre.2 in_list texts held.front,
-      room_as (sym (row-lines m ok k r pre.2 in_list texts held.front)) room,
+      room_as (sym (row_lines m ok k r pre.2 in_list texts held.front)) room,
     )
 
 pub overflow_step-row : goal.overflow_step-row
@@ -71,7 +71,7 @@ loop-row-preserved c =
     let in_list : r ≤ k + 1 = omega (arith, c.loop-row-test.true) in
     let texts = c.fill_row.ensures in
     let held = c.put_row_words-held.ensures in
-    let text = row-lines m pre.0.formed k r pre.2 in_list texts held.0.front in
+    let text = row_lines m pre.0.formed k r pre.2 in_list texts held.0.front in
     let wrote = wrote_each (λ i. lines_of (row_of m k i)) r c.loop-row.invariant.1 (wrote_as (sym text) c.put_words-end.ensures) in
     (omega arith, wrote, held.1 ∙ c.loop-row.invariant.2, texts.long, λ h. held_before m k r held.0)
 

@@ -1,5 +1,5 @@
 -- row_bytes: the whole row at once, or piece after piece.
-use Rattle.dimacs.proofs.BaseLaws.{row_texts, row-lines, held_row_most}
+use Rattle.dimacs.proofs.BaseLaws.{row_texts, row_lines, held_row_most}
 use Rattle.dimacs.specs.Rows.{FewWords}
 use lib.ListN.{length}
 use mathlib.Core.Path.{ap, ◌∙◌}
@@ -28,5 +28,5 @@ returns-then-one-le-WORDS c =
     let r = a.row in
     let held = c.put_base_row-count.ensures in
     let texts = c.fill_row.ensures in
-    let text = row-lines m pre.0.formed k r pre.4 pre.5 texts held.0.front in
+    let text = row_lines m pre.0.formed k r pre.4 pre.5 texts held.0.front in
     (c.words_bytes.ensures ∙ ap length text, held.1, texts.long)
