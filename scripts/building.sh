@@ -19,18 +19,24 @@ alive() {
     [ -e "/proc/$1" ] && ! grep -q '^State:.*zombie' "/proc/$1/status" 2>/dev/null
 }
 
+# newer STAMP PATH..: those of the paths, and of what stands in the crates' folders, that are newer than a stamp; out/ is what rt writes there
+newer() {
+    stamp=$1
+    shift
+    find crates.txt "$@" -newer "$stamp"
+    find crates -mindepth 2 -path 'crates/*/out' -prune -o -newer "$stamp" -print
+}
+
 # is_built: whether the command is there and no source is newer than its build
 is_built() (
     cd "$root" && [ -x rust-target/release/wirdoku ] && [ -f rust-target/built ] || return 1
-    newer=$(find crates.txt crates Cargo.toml Cargo.lock tool/Cargo.toml tool/build.rs tool/src -newer rust-target/built)
-    [ -z "$newer" ]
+    [ -z "$(newer rust-target/built Cargo.toml Cargo.lock tool/Cargo.toml tool/build.rs tool/src)" ]
 )
 
 # is_proved: whether the library's archive is there and no crate is newer than its proof
 is_proved() (
     cd "$root" && [ -f target/staticlib/libwirdoku.a ] && [ -f target/staticlib/proved ] || return 1
-    newer=$(find crates.txt crates -newer target/staticlib/proved)
-    [ -z "$newer" ]
+    [ -z "$(newer target/staticlib/proved)" ]
 )
 
 # build: brings library and command up to date. Ends the script with 6 if that fails, and with 128 and its number at a signal.

@@ -3,13 +3,13 @@ import os
 import subprocess
 import sys
 
-from crates import ROOT
+from crates import ROOT, program_of
 
 RELEASE = os.path.join(ROOT, "rust-target", "release")
 REFERENCE = os.path.join(RELEASE, "reference")
 COMMAND = os.path.join(RELEASE, "wirdoku")
-SIZE = os.path.join(ROOT, "target", "bin", "size")
-CNF = os.path.join(ROOT, "target", "bin", "cnf")
+SIZE = program_of("size")
+CNF = program_of("cnf")
 
 passed = 0
 failed = 0

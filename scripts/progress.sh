@@ -19,14 +19,14 @@ crates_below() {
             for (i = 1; i <= n; i++) visit(names[i])
         }
         { sub(/#.*/, "") }
-        i = index($0, ":") { needs[substr($0, 1, i - 1)] = substr($0, i + 1) }
+        i = index($0, ":") { split(substr($0, 1, i - 1), head, " "); needs[head[1]] = substr($0, i + 1) }
         END { visit(top); print count }' crates.txt
 }
 
 # follow: shows the build until the script that has begun it says by TERM that it has ended, or is gone. Ctrl-C is for that script alone.
 follow() {
     cd "$root" || exit
-    total=$(crates_below wirdoku) count=0 shown=' ' over=''
+    total=$(crates_below wirdoku_c) count=0 shown=' ' over=''
     trap '' INT HUP
     trap 'over=yes' TERM
     while [ -z "$over" ] && alive "$$"; do
@@ -47,41 +47,50 @@ elapsed() {
     span $(($(date +%s) - began))
 }
 
-# The files in which rt keeps what the prover says of each crate, as far as they are of this build.
-crate_logs() {
-    find target/log -name '*.out' -newer "$scratch/begun" "$@" 2>/dev/null || true
+# What rt says of each crate once it is done with it: its name and `proved`, `before` if there was nothing to prove, or `not`. A line `== NAME`
+# stands in front; the end of the log, which may be written at the moment, is believed only where it says that the crate is proved.
+crates_told() {
+    awk '
+        function tell() { if (name != "" && name != "summary") print name, verdict }
+        /^== [a-z0-9_]+$/ { tell(); name = $2; verdict = "before"; next }
+        /^logic=proved / { verdict = "proved"; tell(); name = ""; next }
+        !/^rt: / { verdict = "not" }' "$log"
 }
 
-# A line for each crate that was not told before. rt prints what it says of the crates that it has begun together when the last of them
-# ends; the crates' own files have it at once.
+# A line for each crate that was not told before.
 show_proved() {
-    said=$({ cat "$log" && crate_logs -exec cat {} +; } | sed -n \
-        -e 's/^[a-z-]*: \([A-Za-z0-9_]*\) proved (\(.*\))$/\1 \2/p' -e 's/^rt: \([A-Za-z0-9_]*\) NOT PROVED.*/\1 not/p')
     while read -r name result; do
         case $shown in *" ${name:-/} "*) continue ;; esac
         [ -n "$name" ] || continue
         shown="$shown$name "
         case $result in
         not) tell "$name is not proved, $(elapsed) elapsed" && continue ;;
-        unchanged*) result='proved before' ;;
+        before) result=', proved before' ;;
+        *) result='' ;;
         esac
         count=$((count + 1))
-        tell "[$count/$total] $name, $result, $(elapsed) elapsed"
-    done <<EOF
-$said
-EOF
+        tell "[$count/$total] $name$result, $(elapsed) elapsed"
+    done <<END
+$(crates_told)
+END
 }
 
 tell() {
     if on_terminal; then printf '\r\033[K%s\n' "$1" >&2; else echo "$1" >&2; fi
 }
 
-# What is being done now: the crates whose files have no verdict yet, or what the steps say of themselves.
+# The libraries that rt is building: it makes a folder first, and notes there at last what the library was built of.
+crates_begun() {
+    find crates/*/out/rlib -maxdepth 0 -newer "$scratch/begun" 2>/dev/null | while read -r folder; do
+        [ -f "$folder/stamp" ] || echo "$folder" | sed 's,^crates/\(.*\)/out/rlib$,\1,'
+    done
+}
+
+# What is being done now: the crates that are being built, or what the steps say of themselves.
 show_now() {
     on_terminal || return 0
     names=''
-    for file in $(crate_logs); do
-        name=$(basename "$file" .out)
+    for name in $(crates_begun); do
         case $shown in *" $name "*) ;; *) names="$names, $name" ;; esac
     done
     now=$(sed -n 's/^build-steps: now //p' "$log" | tail -n 1)

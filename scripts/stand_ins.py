@@ -5,41 +5,46 @@ import shutil
 import subprocess
 import time
 
-from crates import DEPENDENCIES, ROOT, text_of
+from crates import ROOT, text_of, with_those_below
 from terminal import usual_signals
 
-# FAKE is the folder of the stand-ins, FAKE_CRATES what there is to prove, in this order and two at a time. At the crate FAKE_HOLD the prover
-# goes on only when there is a file FAKE/go; the crate FAKE_FAIL is not proved.
+# FAKE is the folder of the stand-ins, FAKE_CRATES what there is to prove, in this order and two at a time; the last one is no library. At the
+# crate FAKE_HOLD the prover goes on only when there is a file FAKE/go; the crate FAKE_FAIL is not proved.
 RT = """#!/bin/sh
 echo "$1" >>"$FAKE/calls"
-unchanged() { echo "rt: $1 proved (unchanged since it was last proved)"; }
+top=${FAKE_CRATES##* }
 prove() {
-    ! [ -f "target/stamp/$1" ] || { unchanged "$1"; return; }
-    echo "fn $1::$1: proved"
+    ! [ -f "../$1/out/rlib/stamp" ] || return
+    [ "$1" = "$top" ] || mkdir -p "../$1/out/rlib"
     while [ "$1" = "${FAKE_HOLD-}" ] && [ ! -e "$FAKE/go" ]; do "$FAKE/prover"; done
     "$FAKE/prover"
-    [ "$1" != "${FAKE_FAIL-}" ] || { echo "rt: $1 NOT PROVED (exit 1, 2 s)"; return; }
-    : >"target/stamp/$1"
-    echo "rt: $1 proved (16 s)"
+    [ "$1" != "${FAKE_FAIL-}" ] || { printf 'fn %s::%s: not proved\nlogic=not-proved\n' "$1" "$1"; return; }
+    printf 'fn %s::%s: proved\nlogic=proved functions=1\n' "$1" "$1"
+    [ "$1" = "$top" ] || : >"../$1/out/rlib/stamp"
 }
-flush() { wait; for crate in $batch; do cat "target/log/$crate.out"; done; batch=''; }
+block() { said=$(prove "$1"); printf '== %s\n%s' "$1" "${said:+$said
+}"; }
 case $1 in
 version) echo 'stand-in logic 0123456789abcdef' ;;
-check)
-    mkdir -p target/log target/stamp
-    batch=''
+all)
+    beside=''
     for crate in $FAKE_CRATES; do
-        (prove "$crate") >"target/log/$crate.out" 2>&1 &
-        case $batch in '') batch=$crate ;; *) batch="$batch $crate"; flush ;; esac
+        block "$crate" &
+        case $beside in '') beside=yes ;; *) wait; beside='' ;; esac
     done
-    flush
-    [ -z "${FAKE_FAIL-}" ] || { echo "rt: FAILED: $FAKE_FAIL"; exit 1; }
-    echo "rt: ok, $(echo "$FAKE_CRATES" | wc -w) crates proved" ;;
-staticlib)
-    for crate in $FAKE_CRATES; do unchanged "$crate" >&2; done
-    mkdir -p target/staticlib
-    : >target/staticlib/libwirdoku.a
-    echo 'rt: target/staticlib/libwirdoku.a has the functions of wirdoku that are marked #[no_mangle] pub extern "C"' ;;
+    wait
+    echo '== summary'
+    ok=0 all=0
+    for crate in $FAKE_CRATES; do
+        all=$((all + 1))
+        if [ "$crate" = "${FAKE_FAIL-}" ]; then echo "$crate: failed (1)"; else echo "$crate: ok"; ok=$((ok + 1)); fi
+    done
+    echo "$ok of $all crates ok"
+    [ "$ok" = "$all" ] ;;
+lib)
+    mkdir -p out
+    : >"out/lib$top.a"
+    echo 'logic=proved functions=1' ;;
 esac
 """
 PROVER = "#!/bin/sh\nsleep 0.02\n"
@@ -55,21 +60,11 @@ echo "$* in $(pwd -P): $([ -t 0 ] || cat)"
 [ ! -e /proc/$$/fd/9 ] || exit 1
 exit 10
 """
-COPIED = ["scripts", "tool", "crates/wirdoku", "crates.txt", "Cargo.toml", "Cargo.lock", ".gitignore"]
+COPIED = ["scripts", "tool", "crates/wirdoku", "crates/wirdoku_c", "crates.txt", "Cargo.toml", "Cargo.lock", ".gitignore"]
 
 
-def below(crate):
-    """The crate and those that it needs, in the order of crates.txt."""
-    found = {crate}
-    while True:
-        more = found | {dep for name in found for dep in DEPENDENCIES[name] if dep in DEPENDENCIES}
-        if more == found:
-            return [name for name in DEPENDENCIES if name in found]
-        found = more
-
-
-# what `rt check` is asked to prove
-BELOW = [name for name in below("wirdoku") if name != "wirdoku"]
+# what is proved for the command
+BELOW = with_those_below(["wirdoku_c"])
 
 
 class Copy:
@@ -82,7 +77,7 @@ class Copy:
         self.temporary = os.path.join(folder, "tmp")
         os.mkdir(self.fake)
         os.mkdir(self.temporary)
-        ignored = shutil.ignore_patterns("__pycache__")
+        ignored = shutil.ignore_patterns("__pycache__", "out")
         for name in COPIED:
             source, target = os.path.join(ROOT, name), os.path.join(self.root, name)
             os.makedirs(os.path.dirname(target), exist_ok=True)

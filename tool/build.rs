@@ -1,5 +1,4 @@
-//! Links the proved library's archive, which `rt staticlib wirdoku` builds at the top of the repository, and notes what the command says
-//! of its version.
+//! Links the proved library's archive, which scripts/build-tool builds, and notes what the command says of its version.
 
 use std::path::{Path, PathBuf};
 use std::process::Command;
@@ -24,7 +23,7 @@ fn link(folder: &Path) {
     if !archive.is_file() {
         // `cargo check` needs no archive; a build ends with the linker's error after this line.
         println!(
-            "cargo:warning={} is missing: run `rt staticlib wirdoku` at the top of the repository, then build again",
+            "cargo:warning={} is missing: run `sh scripts/build-tool` at the top of the repository, which builds it and this package",
             archive.display()
         );
     }
@@ -37,10 +36,12 @@ fn note_version(root: &Path) {
     let file = Path::new(&variable("OUT_DIR")).join("version.txt");
     fs::write(&file, text).unwrap_or_else(|error| panic!("{}: {}", file.display(), error));
     // the sources tell whether there are changes, and git's files that there is another commit
-    let sources =
-        ["crates.txt", "crates", "Cargo.toml", "Cargo.lock", "tool/Cargo.toml", "tool/build.rs", "tool/src", "scripts/version"];
-    for source in sources {
-        println!("cargo:rerun-if-changed={}", root.join(source).display());
+    let sources = ["crates.txt", "Cargo.toml", "Cargo.lock", "tool/Cargo.toml", "tool/build.rs", "tool/src", "scripts/version"];
+    let crates = inside(&root.join("crates"));
+    // what rt writes stands in each crate's folder too
+    let parts = crates.iter().flat_map(|one| inside(one)).filter(|path| !path.ends_with("out"));
+    for source in sources.iter().map(|source| root.join(source)).chain(parts) {
+        println!("cargo:rerun-if-changed={}", source.display());
     }
     for name in ["HEAD", "logs/HEAD"] {
         // in a work tree of its own, .git is a file that says where they are
@@ -49,6 +50,11 @@ fn note_version(root: &Path) {
             println!("cargo:rerun-if-changed={}", path.display());
         }
     }
+}
+
+/// What stands in a folder.
+fn inside(folder: &Path) -> Vec<PathBuf> {
+    fs::read_dir(folder).map_or_else(|_| Vec::new(), |entries| entries.flatten().map(|entry| entry.path()).collect())
 }
 
 fn printed(command: &mut Command) -> Option<String> {
