@@ -5,7 +5,7 @@ use Prim.Native.Nat.{◌≤◌, ◌-◌}
 use Rattle.model_cases.proofs.calls.show_bytes.Given as goal
 
 abbrev pub invariant-loop-i : goal.invariant-loop-i
-invariant-loop-i l = (l.i ≤ l.i-end) × (l.i-end ≡ length l.buf)
+invariant-loop-i g l = (l.i ≤ l.i-end) × (l.i-end ≡ length l.buf)
 
 abbrev pub decreases-loop-i : goal.decreases-loop-i
-decreases-loop-i l = l.i-end - l.i
+decreases-loop-i g l = l.i-end - l.i
