@@ -356,7 +356,8 @@ no_earlier_steps = StepLaws.no_earlier_steps
 
 pub no_earlier_lists : (width : ℕ → ℕ) (m : Model) (o c : ℕ) (e : Edge) → NoneEarlier m e
     → edge_items width m o c e
-    ≡ source_items width m o c e ++ target_items width m o c e ++ guard_items width m o c e ++ each m.vars (λ i. items_from_before width m o c i (update_at e i))
+    ≡ source_items width m o c e ++ target_items width m o c e ++ guard_items width m o c e
+    ++ each m.vars (λ i. items_from_before width m o c i (update_at e i))
     ++ resets_items width m o c e
 no_earlier_lists = SourcesBefore.no_earlier_lists
 

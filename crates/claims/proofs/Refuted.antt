@@ -25,7 +25,7 @@ use Rattle.refutation.proofs.Sound.{some_true, ClausesTrue, refutes_sound, contr
 use Rattle.refutation.proofs.Laws.{begins_after}
 use Rattle.refute.specs.RefuteCall.{RefuteReport, checked_report, refute_reported, after_emission, refute_report}
 use Rattle.claims.specs.Words.{is_zero, on_first, clauses_in, word_true, words_true}
-use Rattle.claims.specs.Calls.{Calls, calls_with, record_calls, Accepts, Emitted}
+use Rattle.claims.specs.Calls.{calls_with, record_calls, Accepts, Emitted}
 use Rattle.claims.specs.Refuted.{Refuting, record_refutes, RefutedList, NoRun}
 use Rattle.claims.proofs.Accepted.{Facts, facts, walk_accepted}
 use Rattle.claims.proofs.CallProofs.{words_true_lem, solves_satisfies}
@@ -87,9 +87,11 @@ closes_zero (negsuc n) = ne_eqb (2 * n + 3) 0 (λ h. omega arith)
 -- ---- words that are true, in front of any others
 and_left : (a b : Bool) → T (a && b) → T a
 and_left true b t = tt
+and_left false b t = elim t [ ]
 
 and_right : (a b : Bool) → T (a && b) → T b
 and_right true b t = t
+and_right false b t = elim t [ ]
 
 module _ (a : List ℕ) (ys : List ℤ) where
   abbrev v : ℕ → Bool
@@ -162,7 +164,8 @@ module _ (a : List ℕ) (ys : List ℤ) where
   later_zero : (w : ℤ) (cs : List (List ℤ)) → is_zero w ≡ true → T (later_true (cond (is_zero w) ([] ∷ cs) (on_first w cs))) → T (all_true cs)
   later_zero w cs z t = rw z at t
 
-  later_true_lem : (xs : List ℤ) → T (later_true (clauses_in xs)) → (h : ℕ) → T (begins (xs ++ ys) (length xs) (suc h)) → T (some_true v (drop (suc h) (xs ++ ys)))
+  later_true_lem : (xs : List ℤ) → T (later_true (clauses_in xs)) → (h : ℕ) → T (begins (xs ++ ys) (length xs) (suc h))
+      → T (some_true v (drop (suc h) (xs ++ ys)))
   unfolding clauses_in
   later_true_lem [] t h b = absurd (omega (arith, begins_before ys 0 (suc h) b))
   later_true_lem (w ∷ xs) t zero b =

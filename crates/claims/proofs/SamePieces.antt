@@ -31,7 +31,8 @@ module _ (f : Edge → Edge) (keeps : Keeps f) (m : Model) (ok : T (well_formed 
   choices_same : choices n ≡ choices m
   choices_same = other.choices_same one_hot_width m n.edges top
 
-  group_same : (o : ℕ) (x : Component) → group_clauses (o + offset one_hot_width n x) (group_size n x) ≡ group_clauses (o + offset one_hot_width m x) (group_size m x)
+  group_same : (o : ℕ) (x : Component)
+      → group_clauses (o + offset one_hot_width n x) (group_size n x) ≡ group_clauses (o + offset one_hot_width m x) (group_size m x)
   group_same o loc = refl
   group_same o (counter i) = refl
   group_same o (clock i) = rw top refl

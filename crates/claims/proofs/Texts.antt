@@ -38,10 +38,12 @@ use Rattle.text.specs.atoms.Atoms.{relation_at, atom_of, atom_faults, atom_slots
 use Rattle.text.specs.updates.Sets.{sum_of, set_to, set_of, times_set, set_twice, set_faults, update_slots, order_slots, set_items}
 use Rattle.text.specs.resets.Resets.{source_of, clock_set, reset_of, reset_faults, reset_slots, reset_items}
 use Rattle.text.specs.line.Values.{number_faults, reference_faults, counter_faults}
-use Rattle.text.specs.lines.Store.{with_locations, with_initial, with_target, with_clocks, with_vars, with_used, with_counter, with_invariant, with_edge, with_source}
+use Rattle.text.specs.lines.Store.{with_locations, with_initial, with_target, with_clocks, with_vars, with_used, with_counter, with_invariant, with_edge}
+use Rattle.text.specs.lines.Store.{with_source}
 use Rattle.text.specs.lines.Store.{with_edge_target, with_label, with_guard, with_updates, with_resets}
 use Rattle.text.specs.lines.Progress.{Progress, unread, advanced, refused, tried, read_line}
-use Rattle.text.specs.lines.Lines.{locations_line, init_line, target_line, clocks_line, vars_line, var_line, inv_line, edges_line, from_line, to_line, when_line, set_line}
+use Rattle.text.specs.lines.Lines.{locations_line, init_line, target_line, clocks_line, vars_line, var_line, inv_line, edges_line, from_line, to_line}
+use Rattle.text.specs.lines.Lines.{when_line, set_line}
 use Rattle.text.specs.lines.Lines.{label_line, reset_line}
 use Rattle.text.specs.lines.Sequence.{in_turn, read_head, read_counters, read_invariants, read_edge, read_edges, read_lines}
 use Rattle.text.specs.Text.{read_refused, read_accepted, read_ended, read_report, if_read}
@@ -223,7 +225,8 @@ module _ (m : Model) (ok : T (well_formed m)) where
       needed = length (words m k)
 
       go : (b l : Bool)
-          → Not20 (cond b (emit_reported 21 0 0 0) (cond l (emit_reported 22 0 0 needed) (emit_reported 0 (variables m k) (length (clauses m k)) needed))).number
+          → Not20 (cond b (emit_reported 21 0 0 0)
+          (cond l (emit_reported 22 0 0 needed) (emit_reported 0 (variables m k) (length (clauses m k)) needed))).number
       go true l h = omega arith
       go false true h = omega arith
       go false false h = omega arith
@@ -387,13 +390,13 @@ never_20 = record {
 
 -- ---- the small models
 pub row_texts : RowTexts
-unfolding list_below all_below first_at starts_with is_due value_of number_of digits_of split_on is_hyphen items_of fault_number line_number any_of rises_from relation_at
-    atom_of atom_faults atom_slots inv_items when_items sum_of set_to set_of times_set set_twice set_faults update_slots order_slots set_items source_of clock_set reset_of
-    reset_faults reset_slots reset_items number_faults reference_faults counter_faults with_locations with_initial with_target with_clocks with_vars with_used with_counter
-    with_invariant with_edge with_source with_edge_target with_label with_guard with_updates with_resets read_line locations_line init_line target_line clocks_line vars_line
-    var_line inv_line edges_line from_line to_line label_line when_line set_line reset_line in_turn read_head read_counters read_invariants read_edge read_edges read_lines
-    read_ended read_report blank_model clock_relations counter_relations counter_updates two_of_each raised_then_copied copied_then_raised two_orders reset_and_copied
-    clocks_swapped
+unfolding list_below all_below first_at starts_with is_due value_of number_of digits_of split_on is_hyphen items_of fault_number line_number any_of rises_from
+    relation_at atom_of atom_faults atom_slots inv_items when_items sum_of set_to set_of times_set set_twice set_faults update_slots order_slots set_items
+    source_of clock_set reset_of reset_faults reset_slots reset_items number_faults reference_faults counter_faults with_locations with_initial with_target
+    with_clocks with_vars with_used with_counter with_invariant with_edge with_source with_edge_target with_label with_guard with_updates with_resets
+    read_line locations_line init_line target_line clocks_line vars_line var_line inv_line edges_line from_line to_line label_line when_line set_line
+    reset_line in_turn read_head read_counters read_invariants read_edge read_edges read_lines read_ended read_report blank_model clock_relations
+    counter_relations counter_updates two_of_each raised_then_copied copied_then_raised two_orders reset_and_copied clocks_swapped
 row_texts = record {
   clock_relations_lem = refl;
   counter_relations_lem = refl;
