@@ -173,6 +173,9 @@ filed_bytes = Files.filed_bytes
 pub text_calls_lem : (t : List ℕ) → IsRead t → text_calls t ≡ record_calls (text_model t)
 text_calls_lem = Texts.read_calls
 
+pub text_refutes_lem : (t : List ℕ) → IsRead t → text_refutes t ≡ record_refutes (text_model t)
+text_refutes_lem = Texts.read_refutes
+
 -- A text that is read, a bound up to 64 and a buffer for the list's words give an accepted emission, and only a text that is read gives one.
 pub text_emits : (t : List ℕ) → IsRead t → (k : ℕ) → k ≤ 64 → (old : List ℤ) → length (words (text_model t) k) ≤ length old → Emitted (text_calls t) k
 text_emits = Texts.text_emits
@@ -293,6 +296,9 @@ pair_formed = Pairs.pair_formed
 pub pair_calls_lem : (t u : List ℕ) → IsPair t u → pair_calls t u ≡ record_calls (pair_model t u)
 pair_calls_lem = Pairs.pair_calls_lem
 
+pub pair_refutes_lem : (t u : List ℕ) → IsPair t u → pair_refutes t u ≡ record_refutes (pair_model t u)
+pair_refutes_lem = Pairs.pair_refutes_lem
+
 pub pair_emits : (t u : List ℕ) → IsPair t u → (k : ℕ) → k ≤ 64 → (old : List ℤ) → length (words (pair_model t u) k) ≤ length old → Emitted (pair_calls t u) k
 pair_emits = Pairs.pair_emits
 
@@ -403,9 +409,17 @@ pub self_copies_refutes : (m : Model) → T (well_formed m) → (k : ℕ) (old :
     → refute_report (self_model m) k old hints ≡ refute_report m k old hints
 self_copies_refutes = SameAnswers.self_copies_refutes
 
+pub unlabelled_refutes : (m : Model) → T (well_formed m) → (k : ℕ) (old : List ℤ) (hints : List ℕ)
+    → refute_report (unlabelled m) k old hints ≡ refute_report m k old hints
+unlabelled_refutes = SameAnswers.unlabelled_refutes
+
 pub labels_alone_refutes : (m n : Model) → T (well_formed m) → T (well_formed n) → LabelsAlone m n → (k : ℕ) (old : List ℤ) (hints : List ℕ)
     → refute_report m k old hints ≡ refute_report n k old hints
 labels_alone_refutes = SameAnswers.labels_alone_refutes
+
+pub text_labels_alone_refutes : (t u : List ℕ) → IsRead t → IsRead u → LabelsAlone (text_model t) (text_model u) → (k : ℕ) (old : List ℤ) (hints : List ℕ)
+    → refute_report (text_model t) k old hints ≡ refute_report (text_model u) k old hints
+text_labels_alone_refutes = SameAnswers.text_labels_alone_refutes
 
 -- So do the records of any two texts that are read, if they differ in labels alone. (That emission, file, walker and conversions for C are those on the
 -- record read is `text_calls_lem`.)

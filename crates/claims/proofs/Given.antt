@@ -99,6 +99,9 @@ module _ (n l : ℕ) (m : Model) where
       subst (λ (c : Calls). (e : (k : ℕ) → k ≤ 64 → Emitted c k) → EmittedShortest c e) (sym (given_calls (emitted_given 0 (e 0 (omega arith)))))
       (shortest (λ n. n) m) e
 
+  pub given_refutes : n ≡ 0 → refutes_if (eqb n 0) n l m ≡ record_refutes m
+  given_refutes z = ap (λ (b : Bool). refutes_if b n l m) (eq-eqb n 0 z)
+
   -- a list that is refuted means that there is a model
   pub refuted_given : (k : ℕ) → RefutedList (refutes_if (eqb n 0) n l m) k → n ≡ 0
   refuted_given k x = go (eqb n 0) refl x.answers

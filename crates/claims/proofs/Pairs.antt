@@ -43,11 +43,11 @@ use Rattle.wirdoku.specs.declared.StateAnswer.{StateAnswer}
 use Rattle.wirdoku.specs.declared.pairs.PartSteps.{PartSteps}
 use Rattle.claims.specs.Calls.{record_calls, Emitted, EmittedWords, EmittedDemand2, EmittedDemand3, EmittedShortest}
 use Rattle.claims.specs.Files.{Filed, FiledBytes}
-use Rattle.claims.specs.Refuted.{pair_refutes, RefutedList, RefutesNever20, NoRun}
+use Rattle.claims.specs.Refuted.{record_refutes, pair_refutes, RefutedList, RefutesNever20, NoRun}
 use Rattle.claims.specs.Texts.{Not20}
 use Rattle.claims.specs.Pairs.{pair_of, IsPair, pair_model, pair_calls, PairNever20}
 use Rattle.claims.proofs.Given.{given_calls, emitted_given, filed_given, given_emits, given_files, given_filed, given_words, given_2, given_3}
-use Rattle.claims.proofs.Given.{given_shortest, given_not_20, refuted_given, given_no_run}
+use Rattle.claims.proofs.Given.{given_shortest, given_not_20, given_refutes, refuted_given, given_no_run}
 use Rattle.claims.proofs.Texts.{read_number, emit_not, refute_not, refutes_not, file_not, list_not, step_not, walk_not, decode_not, encode_not}
 
 -- ---- two texts, by whether each is read
@@ -100,6 +100,10 @@ module _ (t u : List ℕ) where
   pub pair_calls_lem : IsPair t u → pair_calls t u ≡ record_calls m
   unfolding if_pair
   pair_calls_lem = given_calls n l m
+
+  pub pair_refutes_lem : IsPair t u → pair_refutes t u ≡ record_refutes m
+  unfolding if_pair
+  pair_refutes_lem = given_refutes n l m
 
   pub emitted_pair : (k : ℕ) → Emitted (pair_calls t u) k → IsPair t u
   unfolding if_pair

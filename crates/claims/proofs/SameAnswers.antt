@@ -247,7 +247,7 @@ pub self_copies_refutes : (m : Model) → T (well_formed m) → (k : ℕ) (old :
 unfolding self_model
 self_copies_refutes m ok = refutes_same self_edge SelfCopyLaws.keeps m ok
 
-unlabelled_refutes : (m : Model) → T (well_formed m) → (k : ℕ) (old : List ℤ) (hints : List ℕ)
+pub unlabelled_refutes : (m : Model) → T (well_formed m) → (k : ℕ) (old : List ℤ) (hints : List ℕ)
     → refute_report (unlabelled m) k old hints ≡ refute_report m k old hints
 unfolding unlabelled
 unlabelled_refutes m ok = refutes_same unlabelled_edge LabelLaws.keeps m ok
@@ -256,3 +256,7 @@ pub labels_alone_refutes : (m n : Model) → T (well_formed m) → T (well_forme
     → refute_report m k old hints ≡ refute_report n k old hints
 labels_alone_refutes m n ok ok' same k old hints =
     sym (unlabelled_refutes m ok k old hints) ∙ ap (λ (x : Model). refute_report x k old hints) same ∙ unlabelled_refutes n ok' k old hints
+
+pub text_labels_alone_refutes : (t u : List ℕ) → IsRead t → IsRead u → LabelsAlone (text_model t) (text_model u) → (k : ℕ) (old : List ℤ) (hints : List ℕ)
+    → refute_report (text_model t) k old hints ≡ refute_report (text_model u) k old hints
+text_labels_alone_refutes t u z y = labels_alone_refutes (text_model t) (text_model u) (accepted_formed t z) (accepted_formed u y)

@@ -60,17 +60,21 @@ use Rattle.wirdoku.specs.declared.Shape.{Shape}
 use Rattle.wirdoku.specs.declared.StateAnswer.{StateAnswer}
 use Rattle.claims.specs.Calls.{record_calls, Emitted, EmittedWords, EmittedDemand2, EmittedDemand3, EmittedShortest}
 use Rattle.claims.specs.Files.{Filed, FiledBytes}
-use Rattle.claims.specs.Refuted.{text_refutes, RefutedList, NoRun}
-use Rattle.claims.specs.Texts.{text_calls, IsRead, Not20, Never20, RowTexts}
+use Rattle.claims.specs.Refuted.{record_refutes, text_refutes, RefutedList, NoRun}
+use Rattle.claims.specs.Texts.{text_model, text_calls, IsRead, Not20, Never20, RowTexts}
 use Rattle.claims.specs.RowModels.{clock_relations, counter_relations, counter_updates, two_of_each, raised_then_copied, copied_then_raised, two_orders}
 use Rattle.claims.specs.RowModels.{reset_and_copied, clocks_swapped}
 use Rattle.claims.proofs.Given.{given_calls, emitted_given, filed_given, given_emits, given_files, given_filed, given_words, given_2, given_3}
-use Rattle.claims.proofs.Given.{given_shortest, given_not_20, refuted_given, given_no_run}
+use Rattle.claims.proofs.Given.{given_shortest, given_not_20, given_refutes, refuted_given, given_no_run}
 
 -- ---- a text that is read
 pub read_calls : (t : List ℕ) → IsRead t → text_calls t ≡ record_calls (read_report t).model
 unfolding if_read
 read_calls t z = given_calls (read_report t).number (read_report t).line (read_report t).model z
+
+pub read_refutes : (t : List ℕ) → IsRead t → text_refutes t ≡ record_refutes (text_model t)
+unfolding if_read
+read_refutes t z = given_refutes (read_report t).number (read_report t).line (read_report t).model z
 
 module _ (t : List ℕ) where
   abbrev n : ℕ

@@ -75,7 +75,8 @@ module _ (m : Model) where
     module _ (u : State) (h : step m s (get_or run t 0) ≡ some u) where
       pub reached_more : walk m first (take (t + 1) run) ≡ some u
       reached_more =
-          ap (walk m first) more ∙ walk_app m (take t run) (get_or run t 0 ∷ []) first s reached ∙ walk_step m s u (get_or run t 0) [] h ∙ (walk_nil m u u).1 refl
+          ap (walk m first) more ∙ walk_app m (take t run) (get_or run t 0 ∷ []) first s reached ∙ walk_step m s u (get_or run t 0) [] h
+          ∙ (walk_nil m u u).1 refl
 
       pub steps_more : steps_bytes one_hot m first (take (t + 1) run) ≡ steps_bytes one_hot m first (take t run) ++ step_bytes m (get_or run t 0) u
       steps_more =
@@ -84,7 +85,8 @@ module _ (m : Model) where
           (steps_cons s u (get_or run t 0) [] h ∙ rw (steps_none m u) (append-nil (step_bytes m (get_or run t 0) u)))
 
       pub steps_whole :
-          steps_bytes one_hot m first run ≡ steps_bytes one_hot m first (take t run) ++ step_bytes m (get_or run t 0) u ++ steps_bytes one_hot m u (drop (t + 1) run)
+          steps_bytes one_hot m first run
+          ≡ steps_bytes one_hot m first (take t run) ++ step_bytes m (get_or run t 0) u ++ steps_bytes one_hot m u (drop (t + 1) run)
       steps_whole =
           ap (steps_bytes one_hot m first) (sym (take-append-drop t run)) ∙ steps_append (take t run) (drop t run) first s reached ∙
           ap (λ (x : List ℕ). steps_bytes one_hot m first (take t run) ++ x)

@@ -187,7 +187,8 @@ edge_formed_lem m le le' e h =
           λ i p l. hold_is (reset_at e i) (no i m.clocks (clock_update_formed m.clocks (reset_at e i)) (is_unchanged (reset_at e i)) (g.6 i l) p);
     }
 
-invariant_slot_constant : (b : Bool) (c : ℕ) (atoms : List AtomSlot) → T (cond b (atoms_formed c 0 atoms) (atoms_formed 0 0 atoms)) → greatest_constant atoms ≤ 30
+invariant_slot_constant : (b : Bool) (c : ℕ) (atoms : List AtomSlot) → T (cond b (atoms_formed c 0 atoms) (atoms_formed 0 0 atoms))
+    → greatest_constant atoms ≤ 30
 invariant_slot_constant true c atoms h = atoms_constant c 0 atoms h
 invariant_slot_constant false c atoms h = atoms_constant 0 0 atoms h
 
@@ -196,7 +197,8 @@ edge_slot_constant true l c v e h = atoms_constant c v e.guard (edge_parts l c v
 edge_slot_constant false l c v e h = atoms_constant 0 0 e.guard (edge_parts 1 0 0 e ((and_T (eqb e.label 0) (edge_formed 1 0 0 e)).0 h).1).3
 
 ceiling_31 :
-    (m : Model) → max_below (λ i. greatest_constant (invariant_at m i)) 16 ≤ 30 → max_below (λ i. greatest_constant (edge_at m i).guard) 32 ≤ 30 → ceiling m ≤ 31
+    (m : Model) → max_below (λ i. greatest_constant (invariant_at m i)) 16 ≤ 30 → max_below (λ i. greatest_constant (edge_at m i).guard) 32 ≤ 30
+    → ceiling m ≤ 31
 unfolding ceiling
 ceiling_31 m p q = omega arith
 

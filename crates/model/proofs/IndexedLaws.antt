@@ -257,7 +257,8 @@ module _ {A : Type 0} where
   unfolding list_below
   get_d_list d f zero v p = absurd (not-suc-le-zero p)
   get_d_list d f (suc n) v p = below_cases v n p
-      (λ e. ap (λ (i : ℕ). get_or (list_below f n ++ (f n ∷ [])) i d) (e ∙ sym (length_list f n)) ∙ get_or-append_seam (list_below f n) (f n) [] d ∙ ap f (sym e))
+      (λ e. ap (λ (i : ℕ). get_or (list_below f n ++ (f n ∷ [])) i d) (e ∙ sym (length_list f n))
+      ∙ get_or-append_seam (list_below f n) (f n) [] d ∙ ap f (sym e))
       (λ l. get_or-append (list_below f n) (f n ∷ []) d v (rw (length_list f n) l) ∙ get_d_list d f n v l)
 
 -- ---- the turns of a loop, at n + 1

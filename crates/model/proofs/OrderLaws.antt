@@ -148,7 +148,8 @@ module _ (e : Edge) (ok : Ordered e) where
     pub record Updates (n : ℕ) (vs new : List ℕ) : Type 0 where
       pub long : length new ≡ length vs
       pub kept : (i : ℕ) → n ≤ place i → get_or new i 0 ≡ get_or vs i 0
-      pub sets : (k : ℕ) → k < n → new_counter (read_at_place k vs new) (greatest (slot k)) (get_or vs (slot k) 0) (update_at e (slot k)) ≡ some (get_or new (slot k) 0)
+      pub sets : (k : ℕ) → k < n
+          → new_counter (read_at_place k vs new) (greatest (slot k)) (get_or vs (slot k) 0) (update_at e (slot k)) ≡ some (get_or new (slot k) 0)
 
     -- the counter at place n stands at no other place
     apart : (n i : ℕ) → n < listed e → place i ≢ n → i ≢ slot n

@@ -14,7 +14,8 @@ pub overflow_cast-result : goal.overflow_cast-result
 overflow_cast-result c =
     let fits-z = c.ranges.z in
     let z = c.args.z in
-    rw (to_z-of_z fits-z, to_z-of_z (sfits_widen {w' = w16} tt fits-z), to_z-of_z (minus_fits z fits-z)) (minus_up z fits-z (rw (to_z-of_z fits-z) at c.if-z-lt0.true))
+    rw (to_z-of_z fits-z, to_z-of_z (sfits_widen {w' = w16} tt fits-z), to_z-of_z (minus_fits z fits-z))
+    (minus_up z fits-z (rw (to_z-of_z fits-z) at c.if-z-lt0.true))
 
 pub overflow_cast-result-else-z-lt0 : goal.overflow_cast-result-else-z-lt0
 overflow_cast-result-else-z-lt0 c = rw (to_z-of_z c.ranges.z) (plus_up c.args.z c.ranges.z (rw (to_z-of_z c.ranges.z) at c.if-z-lt0.false))

@@ -3,7 +3,7 @@ use borrow.Author.Rules.{rules}
 use Rattle.model.proofs.IndexedLaws.{sum_none, sum_more}
 use native.Mathlib.Omega.{arith}
 use mathlib.Core.Path.{◌≡◌, sym, ◌∙◌, ap₂}
-use Prim.Native.Nat.{◌-◌, ◌+◌}
+use Prim.Native.Nat.{◌+◌}
 use Rattle.model.proofs.Model.counters_size.Goals as goal
 
 pub loop-i-init : goal.loop-i-init

@@ -7,7 +7,8 @@ use Rattle.model.proofs.State.delay.Goals as goal
 
 pub returns-then-not-invariant_holds : goal.returns-then-not-invariant_holds
 unfolding delay_step
-returns-then-not-invariant_holds c = refused _ _ _ (ap (invariant_holds _) (sym c.delayed-later.ensures) ∙ told_false c.invariant_holds.ensures c.if-not-invariant_holds.true-raw)
+returns-then-not-invariant_holds c =
+    refused _ _ _ (ap (invariant_holds _) (sym c.delayed-later.ensures) ∙ told_false c.invariant_holds.ensures c.if-not-invariant_holds.true-raw)
 
 pub returns : goal.returns
 unfolding delay_step

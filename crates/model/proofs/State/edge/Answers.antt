@@ -31,7 +31,8 @@ returns-then-self-e c =
 
 pub returns-then-not-all_hold : goal.returns-then-not-all_hold
 returns-then-not-all_hold c =
-    answer c.before.before.before.before.before.before.before.before (refused _ _ _ (allowed_is _ _ _ _ (eq-eqb _ _ c.if-self-e.false) (told_false c.all_hold.ensures c.if-not-all_hold.true-raw) refl))
+    answer c.before.before.before.before.before.before.before.before (refused _ _ _
+    (allowed_is _ _ _ _ (eq-eqb _ _ c.if-self-e.false) (told_false c.all_hold.ensures c.if-not-all_hold.true-raw) refl))
 
 pub returns-then-not-invariant_holds : goal.returns-then-not-invariant_holds
 returns-then-not-invariant_holds c =

@@ -14,7 +14,8 @@ pub overflow_cast-result : goal.overflow_cast-result
 overflow_cast-result c =
     let fits-w = c.ranges.w in
     let w = c.args.w in
-    rw (to_z-of_z fits-w, to_z-of_z (sfits_widen {w' = w64} tt fits-w), to_z-of_z (minus_fits w fits-w)) (minus_up w fits-w (rw (to_z-of_z fits-w) at c.if-w-lt0.true))
+    rw (to_z-of_z fits-w, to_z-of_z (sfits_widen {w' = w64} tt fits-w), to_z-of_z (minus_fits w fits-w))
+    (minus_up w fits-w (rw (to_z-of_z fits-w) at c.if-w-lt0.true))
 
 pub overflow_cast-result-else-w-lt0 : goal.overflow_cast-result-else-w-lt0
 overflow_cast-result-else-w-lt0 c = rw (to_z-of_z c.ranges.w) (plus_up c.args.w c.ranges.w (rw (to_z-of_z c.ranges.w) at c.if-w-lt0.false))
