@@ -2,12 +2,12 @@
 // beyond `LONGEST` changes nothing: a model text of more than 8,192 bytes is refused whatever it holds.
 #![tactic(auto)]
 
+use input::read_full;
 use model::Model;
 use std::io;
-use std::io::Read;
 
 // How many bytes of the input are read at most.
-const LONGEST: u64 = 65536;
+const LONGEST: usize = 65536;
 
 fn line(rt: &impl Print, key: &str, n: u64) -> io::Result<()> {
     println!(rt; "{key}={n}")
@@ -39,9 +39,10 @@ fn print_file(rt: &impl Print, m: Model, bound: usize) -> io::Result<()> {
 }
 
 fn main(rt: HostRuntime) -> io::Result<()> {
-    let mut input = Vec::new(rt.alloc());
-    rt.stdin().take(LONGEST).read_to_end(&mut input)?;
-    let asked = dimacs::requested(&input);
+    let mut stdin = rt.stdin();
+    let mut input = [0u8; LONGEST];
+    let n = read_full(&mut stdin, &mut input)?;
+    let asked = dimacs::requested(&input[..n]);
     if asked.number != 0 {
         line(&rt, "refusal", asked.number as u64)?;
         return line(&rt, "line", asked.line as u64);

@@ -2,10 +2,10 @@
 // A line that begins with # is written out again, and each question writes the numbers of its answer.
 #![tactic(auto)]
 
+use input::read_full;
 use model::Model;
 use numbers::Numbers;
 use std::io;
-use std::io::Read;
 
 mod answers;
 mod calls;
@@ -14,7 +14,7 @@ mod print;
 mod records;
 
 // How many bytes of the input are read at most.
-const LONGEST: u64 = 65536;
+const LONGEST: usize = 65536;
 
 fn command(rt: &impl Print, m: Model, n: Numbers) -> io::Result<Model> {
     let values = n.values;
@@ -60,7 +60,8 @@ fn run(rt: &impl Print, s: &[u8]) -> io::Result<()> {
 }
 
 fn main(rt: HostRuntime) -> io::Result<()> {
-    let mut input = Vec::new(rt.alloc());
-    rt.stdin().take(LONGEST).read_to_end(&mut input)?;
-    run(&rt, &input)
+    let mut stdin = rt.stdin();
+    let mut input = [0u8; LONGEST];
+    let n = read_full(&mut stdin, &mut input)?;
+    run(&rt, &input[..n])
 }

@@ -3,12 +3,12 @@
 // 8,192 bytes is refused whatever it holds.
 #![tactic(auto)]
 
+use input::read_full;
 use sizing::SizeAnswer;
 use std::io;
-use std::io::Read;
 
 // How many bytes of the input are read at most.
-const LONGEST: u64 = 65536;
+const LONGEST: usize = 65536;
 
 fn line(rt: &impl Print, key: &str, n: u64) -> io::Result<()> {
     println!(rt; "{key}={n}")
@@ -23,7 +23,8 @@ fn show(rt: &impl Print, a: SizeAnswer) -> io::Result<()> {
 }
 
 fn main(rt: HostRuntime) -> io::Result<()> {
-    let mut input = Vec::new(rt.alloc());
-    rt.stdin().take(LONGEST).read_to_end(&mut input)?;
-    show(&rt, sizing::program_sizes(&input))
+    let mut stdin = rt.stdin();
+    let mut input = [0u8; LONGEST];
+    let n = read_full(&mut stdin, &mut input)?;
+    show(&rt, sizing::program_sizes(&input[..n]))
 }
