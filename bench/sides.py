@@ -7,7 +7,7 @@ import spin
 from subjects import MOST, RELEASE, ROOT
 from timing import Time, often, run, run_often
 
-COMMAND = os.path.join(RELEASE, "wirdoku")
+COMMAND = os.path.join(RELEASE, "wirdoku-next")
 PROMELA = os.path.join(ROOT, "bench", "promela")
 # each solver on a file
 SOLVERS = {"cadical": ["cadical", "-q"], "minisat": ["minisat", "-verb=0"], "picosat": ["picosat"]}

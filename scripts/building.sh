@@ -1,7 +1,12 @@
 # shellcheck shell=sh
-# Sourced by scripts/wirdoku and scripts/build-tool, which name the top of the repository in `root`: whether the command is built, and its
-# build, by one call at a time, with progress on standard error.
+# Sourced by scripts/wirdoku, scripts/build-tool and next/wirdoku, which name the top of the repository in `root`: whether the command is built,
+# and its build, by one call at a time, with progress on standard error. `next` in `folder` means the command of that folder.
 : "${root:?}"
+folder=${folder:-tool}
+case $folder in
+next) package=wirdoku-next stamp=rust-target/built-next sources='tool/Cargo.toml tool/build.rs tool/src next/Cargo.toml next/build.rs next/src' ;;
+*) package=wirdoku stamp=rust-target/built sources='tool/Cargo.toml tool/build.rs tool/src' ;;
+esac
 # shellcheck source=scripts/progress.sh
 . "$root/scripts/progress.sh"
 
@@ -21,16 +26,17 @@ alive() {
 
 # newer STAMP PATH..: those of the paths, and of what stands in the crates' folders, that are newer than a stamp; out/ is what rt writes there
 newer() {
-    stamp=$1
+    than=$1
     shift
-    find crates.txt "$@" -newer "$stamp"
-    find crates -mindepth 2 -path 'crates/*/out' -prune -o -newer "$stamp" -print
+    find crates.txt "$@" -newer "$than"
+    find crates -mindepth 2 -path 'crates/*/out' -prune -o -newer "$than" -print
 }
 
 # is_built: whether the command is there and no source is newer than its build
 is_built() (
-    cd "$root" && [ -x rust-target/release/wirdoku ] && [ -f rust-target/built ] || return 1
-    [ -z "$(newer rust-target/built Cargo.toml Cargo.lock tool/Cargo.toml tool/build.rs tool/src)" ]
+    cd "$root" && [ -x "rust-target/release/$package" ] && [ -f "$stamp" ] || return 1
+    # shellcheck disable=SC2086
+    [ -z "$(newer "$stamp" Cargo.toml Cargo.lock $sources)" ]
 )
 
 # is_proved: whether the library's archive is there and no crate is newer than its proof
@@ -93,7 +99,7 @@ run_steps() {
         say "proving the library and building the command, which takes minutes; log: $log"
     fi
     # in a session of their own, so that all processes that the steps begin can be ended together
-    setsid sh "$root/scripts/build-steps" "$$" </dev/null >"$log" 2>&1 &
+    setsid sh "$root/scripts/build-steps" "$$" "$folder" </dev/null >"$log" 2>&1 &
     steps=$!
     follow 9>&- &
     follower=$!

@@ -8,6 +8,7 @@ from crates import ROOT, program_of
 RELEASE = os.path.join(ROOT, "rust-target", "release")
 REFERENCE = os.path.join(RELEASE, "reference")
 COMMAND = os.path.join(RELEASE, "wirdoku")
+NEXT = os.path.join(RELEASE, "wirdoku-next")
 SIZE = program_of("size")
 CNF = program_of("cnf")
 
@@ -29,6 +30,14 @@ def printed(command, data=b""):
 def values(output):
     """The lines KEY=VALUE of an output, as a dictionary."""
     return dict(line.split("=", 1) for line in output.decode().splitlines() if "=" in line)
+
+
+def called_wirdoku(folder):
+    """A folder for the path, made in this one, in which the next command is called as it will be."""
+    programs = os.path.join(folder, "programs")
+    os.mkdir(programs)
+    os.symlink(NEXT, os.path.join(programs, "wirdoku"))
+    return programs
 
 
 def check(name, expected, found):

@@ -1,4 +1,5 @@
-"""The first build of the command as its user sees it (scripts/wirdoku), with stand-ins for rt and cargo."""
+"""The first build of the command as its user sees it (scripts/wirdoku), with stand-ins for rt and cargo; and what the next command answers
+before it is built (next/wirdoku)."""
 import os
 import re
 import shutil
@@ -27,17 +28,19 @@ def without_build(copy):
     """What is answered at once, on a copy where nothing is built and neither rt nor cargo is on the path."""
     bare = dict(copy.env(), PATH=copy.path_without("rt", "cargo"))
     for words in ["--help"], ["help"], ["-h"], ["check", "--help"]:
-        check("%s without a build" % words, (0, content("tool/src/help.txt").decode(), ""), copy.run(copy.script("wirdoku", *words), env=bare))
+        asked = copy.script("wirdoku", *words, folder="next")
+        check("%s without a build" % words, (0, content("next/src/help.txt").decode(), ""), copy.run(asked, env=bare))
     said = "wirdoku: a command is missing\n`wirdoku --help` says how it is used\n"
-    check("no command, without a build", (1, "", said), copy.run(copy.script("wirdoku"), env=bare))
+    check("no command, without a build", (1, "", said), copy.run(copy.script("wirdoku", folder="next"), env=bare))
     check("nothing is written for that", False, os.path.exists(copy.root + "/rust-target"))
     said = "wirdoku: the Rattle toolchain (rt) is not on the path; README.md says where it comes from\n"
-    check("no rt", (6, "", said), copy.run(copy.script("wirdoku", "check", "m"), env=bare))
+    for folder in "scripts", "next":
+        check("no rt, %s/wirdoku" % folder, (6, "", said), copy.run(copy.script("wirdoku", "check", "m", folder=folder), env=bare))
 
 
 def versions(copy):
     """The three lines of --version without a build: with and without rt, git, and changes."""
-    number = re.search(r'^version = "(.*)"$', text_of(copy.root + "/tool/Cargo.toml"), re.M).group(1)
+    number = re.search(r'^version = "(.*)"$', text_of(copy.root + "/next/Cargo.toml"), re.M).group(1)
 
     def lines(commit, toolchain="stand-in logic 0123456789abcdef"):
         return (0, "wirdoku %s\ncommit %s\ntoolchain %s\n" % (number, commit, toolchain), "")
@@ -46,22 +49,21 @@ def versions(copy):
         who = ["-c", "user.name=nobody", "-c", "user.email=nobody@localhost", "-c", "commit.gpgsign=false"]
         return subprocess.run(["git", "-C", copy.root] + who + list(words), check=True, capture_output=True).stdout.decode().strip()
 
-    command = copy.script("wirdoku", "--version")
+    command = copy.script("wirdoku", "--version", folder="next")
     check("version outside git", lines("unknown"), copy.run(command))
     git("init", "--quiet")
     check("version before the first commit", lines("unknown"), copy.run(command))
     git("add", "--all")
     git("commit", "--quiet", "--message", "all")
     head = git("rev-parse", "HEAD")[:12]
-    check("version of a commit", lines(head), copy.run(copy.script("wirdoku", "-V")))
+    check("version of a commit", lines(head), copy.run(copy.script("wirdoku", "-V", folder="next")))
     check("version without rt", lines(head, "unknown"), copy.run(command, env=dict(copy.env(), PATH=copy.path_without("rt"))))
-    with open(copy.root + "/tool/src/main.rs", "a", encoding="utf-8") as file:
+    with open(copy.root + "/next/src/main.rs", "a", encoding="utf-8") as file:
         file.write("\n")
     check("version with a change", lines(head + " (with changes)"), copy.run(command))
     inner = os.path.join(copy.root, "inner")
-    shutil.copytree(os.path.join(copy.root, "scripts"), inner + "/scripts")
-    shutil.copytree(os.path.join(copy.root, "tool"), inner + "/tool")
-    check("version in a folder of another repository", lines("unknown"), copy.run(["sh", inner + "/scripts/version"]))
+    shutil.copytree(os.path.join(copy.root, "next"), inner + "/next")
+    check("version in a folder of another repository", lines("unknown"), copy.run(["sh", inner + "/next/version"]))
 
 
 def plain(copy):

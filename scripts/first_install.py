@@ -1,10 +1,11 @@
-"""The installed command, its manual page and its completion: scripts/install with what is built, and both pages against the help text."""
+"""The installed command and library: scripts/install with what is built. The next command's manual page and completion (next/share) against
+its help text."""
 import os
 import re
 import shutil
 import subprocess
 
-from checks import check, content
+from checks import NEXT, called_wirdoku, check, content
 from crates import ROOT
 from terminal import CTRL_A, Terminal
 
@@ -13,14 +14,15 @@ FILES = [
     "include/wirdoku.h",
     "lib/libwirdoku.a",
     "lib/pkgconfig/wirdoku.pc",
-    "share/bash-completion/completions/wirdoku",
-    "share/man/man1/wirdoku.1",
 ]
+PAGE, COMPLETION = [os.path.join(ROOT, "next", "share", name) for name in ("wirdoku.1", "wirdoku.bash")]
 SOLVERS = ["cadical", "minisat", "picosat"]
-HELP = content("tool/src/help.txt").decode()
+HELP = content("next/src/help.txt").decode()
 # a usage line of the help text, which may go on in a line that is set in: the command's name, and what may follow
 USAGE = re.findall(r"^  wirdoku (\w+) (.*)$", re.sub(r"\n {16}(?=\[)", " ", HELP), re.M)
-VERSION = re.search(r'^version = "(.*)"$', content("tool/Cargo.toml").decode(), re.M).group(1)
+VERSION, NEXT_VERSION = [
+    re.search(r'^version = "(.*)"$', content(folder + "/Cargo.toml").decode(), re.M).group(1) for folder in ("tool", "next")
+]
 
 
 def run(*command, cwd="/", **more):
@@ -47,8 +49,9 @@ def installed(prefix):
     command = prefix + "/bin/wirdoku"
     status, out, err = run(command, "check", os.path.join(ROOT, "models", "logger_b.txt"), "--quiet")
     check("the installed command", (10, "a run of 3 steps reaches the target", ""), (status, out.partition("\n")[0], err))
-    check("its version", script("version"), run(command, "--version"))
-    check("its help", (0, HELP, ""), run(command, "--help"))
+    check("its version", (0, "wirdoku %s\n" % VERSION, ""), run(command, "--version"))
+    check("the next command's version", run("sh", os.path.join(ROOT, "next", "version")), run(NEXT, "--version"))
+    check("the next command's help", (0, HELP, ""), run(NEXT, "--help"))
 
 
 def for_c(prefix):
@@ -102,7 +105,7 @@ def manual(page):
     # groff may write other signs for these two
     lines = [" ".join(line.split()).replace("\u2019", "'").replace("\u2010", "-") for line in out.splitlines()]
     check("the page is shown", (0, True), (status, lines[0].startswith("WIRDOKU(1)")))
-    check("the page's version", True, "wirdoku " + VERSION in out)
+    check("the page's version", True, "wirdoku " + NEXT_VERSION in out)
     for name, rest in USAGE:
         check("usage of %s on the page" % name, True, "wirdoku %s %s" % (name, rest) in lines)
         check("command %s on the page" % name, True, any(line == name or line.startswith(name + " ") for line in lines))
@@ -113,18 +116,18 @@ def manual(page):
         check("exit status %s on the page" % status, True, "%s %s." % (status, " ".join(meaning.split()).lower()) in whole)
 
 
-def examples(prefix):
+def examples(folder):
     """The page's examples, each in a copy of the shipped models, find a run or draw one."""
-    with open(prefix + "/share/man/man1/wirdoku.1", encoding="utf-8") as file:
+    with open(PAGE, encoding="utf-8") as file:
         blocks = re.findall(r"^\.EX\n(.*?)^\.EE$", file.read(), re.M | re.S)
     check("the page has examples", True, len(blocks) >= 4)
+    path = called_wirdoku(folder) + os.pathsep + os.environ["PATH"]
     for block in blocks:
-        folder = prefix + "/examples"
-        shutil.copytree(os.path.join(ROOT, "models"), folder)
-        path = prefix + "/bin" + os.pathsep + os.environ["PATH"]
-        status, out, _ = run("sh", "-c", block.replace("\\-", "-"), cwd=folder, PATH=path)
+        models = folder + "/examples"
+        shutil.copytree(os.path.join(ROOT, "models"), models)
+        status, out, _ = run("sh", "-c", block.replace("\\-", "-"), cwd=models, PATH=path)
         check("example %r" % block, (10, True), (status, out.startswith("a run of ") or out == ""))
-        shutil.rmtree(folder)
+        shutil.rmtree(models)
 
 
 def completed(script_file, *words):
@@ -163,8 +166,8 @@ def main(folder):
     prefix = folder + "/prefix"
     installed(prefix)
     for_c(prefix)
-    manual(prefix + "/share/man/man1/wirdoku.1")
-    examples(prefix)
-    completion(prefix + "/share/bash-completion/completions/wirdoku")
+    manual(PAGE)
+    examples(folder)
+    completion(COMPLETION)
     removed(prefix)
     other_calls(folder)

@@ -81,8 +81,8 @@ tell() {
 
 # The libraries that rt is building: it makes a folder first, and notes there at last what the library was built of.
 crates_begun() {
-    find crates/*/out/rlib -maxdepth 0 -newer "$scratch/begun" 2>/dev/null | while read -r folder; do
-        [ -f "$folder/stamp" ] || echo "$folder" | sed 's,^crates/\(.*\)/out/rlib$,\1,'
+    find crates/*/out/rlib -maxdepth 0 -newer "$scratch/begun" 2>/dev/null | while read -r library; do
+        [ -f "$library/stamp" ] || echo "$library" | sed 's,^crates/\(.*\)/out/rlib$,\1,'
     done
 }
 

@@ -1,4 +1,4 @@
-"""The part of JSON Schema (draft 2020-12) that docs/answers.schema.json uses. A keyword that is not known here is an error."""
+"""The part of JSON Schema (draft 2020-12) that next/docs/answers.schema.json uses. A keyword that is not known here is an error."""
 
 TYPES = {"object": dict, "array": list, "string": str, "integer": int, "boolean": bool, "null": type(None)}
 SILENT = {"$schema", "title", "$defs"}

@@ -60,7 +60,7 @@ echo "$* in $(pwd -P): $([ -t 0 ] || cat)"
 [ ! -e /proc/$$/fd/9 ] || exit 1
 exit 10
 """
-COPIED = ["scripts", "tool", "crates/wirdoku", "crates/wirdoku_c", "crates.txt", "Cargo.toml", "Cargo.lock", ".gitignore"]
+COPIED = ["scripts", "tool", "next", "crates/wirdoku", "crates/wirdoku_c", "crates.txt", "Cargo.toml", "Cargo.lock", ".gitignore"]
 
 
 # what is proved for the command
@@ -106,8 +106,8 @@ class Copy:
             os.symlink(os.path.join(entry, program), os.path.join(links, program))
         return links
 
-    def script(self, name, *words):
-        return ["sh", os.path.join(self.root, "scripts", name)] + list(words)
+    def script(self, name, *words, folder="scripts"):
+        return ["sh", os.path.join(self.root, folder, name)] + list(words)
 
     def run(self, command, cwd="/", data="", env=None):
         """Status, output and standard error of a command, without a terminal."""

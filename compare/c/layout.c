@@ -1,6 +1,6 @@
-/* Sizes of the header's structs, and size and place of each field, held to layout.txt; so are the Rust declarations (tool/tests/library.rs).
- * That the library's machine code has them there is seen by answers with other numbers in every field (texts.c, lists.c, files.c, runs.c, outputs.c, refutations.c,
- * pairs.c). */
+/* Sizes of the header's structs, and size and place of each field, held to layout.txt and refutation_layout.txt; so are the Rust declarations
+ * (tool/tests/library.rs). That the library's machine code has them there is seen by answers with other numbers in every field (texts.c, lists.c,
+ * files.c, runs.c, outputs.c, refutations.c, pairs.c). */
 #include "check.h"
 #include <stdio.h>
 #include <string.h>
@@ -8,10 +8,12 @@
 #define STRUCT(s) {#s, 0, sizeof(struct s)}
 #define FIELD(s, f) {#s "." #f, offsetof(struct s, f), sizeof(((struct s *)0)->f)}
 
-static const struct {
+struct place {
     const char *name;
     size_t offset, size;
-} LAYOUT[] = {
+};
+
+static const struct place LAYOUT[] = {
     STRUCT(wirdoku_answer), FIELD(wirdoku_answer, number), FIELD(wirdoku_answer, place),
     STRUCT(wirdoku_sizes), FIELD(wirdoku_sizes, number), FIELD(wirdoku_sizes, line), FIELD(wirdoku_sizes, variables),
     FIELD(wirdoku_sizes, clauses), FIELD(wirdoku_sizes, words),
@@ -23,22 +25,31 @@ static const struct {
     STRUCT(wirdoku_state_answer), FIELD(wirdoku_state_answer, number), FIELD(wirdoku_state_answer, line),
     FIELD(wirdoku_state_answer, state),
     STRUCT(wirdoku_output), FIELD(wirdoku_output, number), FIELD(wirdoku_output, line), FIELD(wirdoku_output, outcome),
-    STRUCT(wirdoku_refutation), FIELD(wirdoku_refutation, number), FIELD(wirdoku_refutation, line), FIELD(wirdoku_refutation, words),
-    FIELD(wirdoku_refutation, outcome),
     STRUCT(wirdoku_pair), FIELD(wirdoku_pair, number), FIELD(wirdoku_pair, text), FIELD(wirdoku_pair, line),
     STRUCT(wirdoku_part_steps), FIELD(wirdoku_part_steps, number), FIELD(wirdoku_part_steps, line), FIELD(wirdoku_part_steps, first),
     FIELD(wirdoku_part_steps, second),
 };
 
-void layout_tests(void) {
-    FILE *file = fopen("compare/c/layout.txt", "r");
+static const struct place REFUTATION_LAYOUT[] = {
+    STRUCT(wirdoku_refutation), FIELD(wirdoku_refutation, number), FIELD(wirdoku_refutation, line), FIELD(wirdoku_refutation, words),
+    FIELD(wirdoku_refutation, outcome),
+};
+
+static void held_to(const char *path, const struct place *layout, size_t places) {
+    FILE *file = fopen(path, "r");
     char expected[128], found[128];
-    for (size_t i = 0; i < sizeof LAYOUT / sizeof *LAYOUT; i++) {
-        snprintf(found, sizeof found, "%s %zu %zu\n", LAYOUT[i].name, LAYOUT[i].offset, LAYOUT[i].size);
+    for (size_t i = 0; i < places; i++) {
+        snprintf(found, sizeof found, "%s %zu %zu\n", layout[i].name, layout[i].offset, layout[i].size);
         int holds = file != NULL && fgets(expected, sizeof expected, file) != NULL && strcmp(expected, found) == 0;
         check(found, holds);
     }
-    check("layout.txt has no more lines", file != NULL && fgets(expected, sizeof expected, file) == NULL);
+    snprintf(found, sizeof found, "%s has no more lines", path);
+    check(found, file != NULL && fgets(expected, sizeof expected, file) == NULL);
     if (file != NULL)
         fclose(file);
+}
+
+void layout_tests(void) {
+    held_to("compare/c/layout.txt", LAYOUT, sizeof LAYOUT / sizeof *LAYOUT);
+    held_to("compare/c/refutation_layout.txt", REFUTATION_LAYOUT, sizeof REFUTATION_LAYOUT / sizeof *REFUTATION_LAYOUT);
 }

@@ -1,4 +1,4 @@
-//! The command's own ways to a shortest run, against the reference program's
+//! The next command's ways to a shortest run, against the reference program's
 //! search: cubes in one process of cadical, doubling and bisecting with another
 //! solver, and the search through all states by the proved step call.
 
@@ -7,14 +7,14 @@ use std::io;
 use reference::model::MAX_BOUND;
 use reference::search::Shortest;
 use reference::subject::Subject;
-use wirdoku::args::{Bounds, Check, Proof, Reach};
-use wirdoku::check::check;
-use wirdoku::json::Value;
 use wirdoku::library;
-use wirdoku::model::{Model, Text};
-use wirdoku::reach::{self, Outcome};
-use wirdoku::solver::Solver;
-use wirdoku::subject::Subject as Asked;
+use wirdoku_next::args::{Bounds, Check, Proof, Reach};
+use wirdoku_next::check::check;
+use wirdoku_next::json::Value;
+use wirdoku_next::model::{Model, Text};
+use wirdoku_next::reach::{self, Outcome};
+use wirdoku_next::solver::Solver;
+use wirdoku_next::subject::Subject as Asked;
 
 use crate::desk::Desk;
 use crate::tally::Tally;
@@ -25,12 +25,12 @@ const STATES: usize = 100_000;
 /// A list of at most so many words is refuted by proved code, unasked.
 const SHORT: usize = 250_000;
 
-/// All three ways for a model whose shortest run the reference program knows.
-pub fn test(desk: &mut Desk, tally: &mut Tally, subject: &Subject, found: Shortest, solver: &Solver) {
-    for solver in [&Solver::Cadical, solver] {
+/// All three ways for the model at a place of the list, whose shortest run the reference program knows.
+pub fn test(desk: &mut Desk, tally: &mut Tally, subject: &Subject, found: Shortest, index: usize) {
+    for solver in [&Solver::Cadical, &Solver::ALL[index % Solver::ALL.len()]] {
         desk.calls += 1;
         let outcome = searched(subject, solver).and_then(|told| agreed(told, found));
-        tally.about(subject, &format!("search of the command with {}", solver.name()), outcome);
+        tally.about(subject, &format!("search of the next command with {}", solver.name()), outcome);
     }
     let outcome = reached(subject).and_then(|told| agreed(told, found));
     tally.about(subject, "search through all states", outcome);

@@ -9,9 +9,8 @@ use reference::gen::pairs::{pair, small_pair};
 use reference::gen::rng::Rng;
 use reference::step;
 use reference::subject::Subject;
-use wirdoku::answer::Verdict;
 use wirdoku::library::{self, PartSteps, STAYS};
-use wirdoku::solver::Solver;
+use wirdoku::solver::{Solver, Verdict};
 
 use crate::desk::Desk;
 use crate::judge::{ends, first_reached};
@@ -59,7 +58,7 @@ pub fn test(desk: &mut Desk, tally: &mut Tally, shipped: &[(Subject, Subject)]) 
     }
     let mut met = Met::default();
     for (index, question) in questions.iter().enumerate() {
-        let solver = &Solver::ALL[index % Solver::ALL.len()];
+        let solver = Solver::ALL[index % Solver::ALL.len()];
         let test = format!("composed with {} at bound {}, {}", question.second.name, question.bound, solver.name());
         let outcome = judged(desk, solver, question, &mut met);
         let outcome = outcome.map_err(|cause| format!("{cause}\n{}", String::from_utf8_lossy(&question.second.text)));
@@ -108,7 +107,7 @@ fn generated(seed: u64) -> Result<Option<Question>, String> {
 }
 
 /// The solver's verdict is the reference's, and its assignment is that of a run.
-fn judged(desk: &mut Desk, solver: &Solver, question: &Question, met: &mut Met) -> Result<(), String> {
+fn judged(desk: &mut Desk, solver: Solver, question: &Question, met: &mut Met) -> Result<(), String> {
     let (first, second) = (&question.first.text, &question.second.text);
     let list = emitted_together(first, second, question.bound)?;
     match (desk.solve(solver, &list, &[])?, question.has_run) {

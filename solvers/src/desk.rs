@@ -1,12 +1,13 @@
 //! Lists given to solvers, each call a process of its own.
 
-use std::io::{BufRead, BufReader, Write};
+use std::env;
+use std::fs;
+use std::io::{BufRead, BufReader};
 use std::process::{Child, Command, Stdio};
-use std::thread;
 
-use wirdoku::answer::{competition, Verdict};
-use wirdoku::solver::Solver;
-use wirdoku::solving;
+use wirdoku::answer::competition;
+use wirdoku::scratch::Scratch;
+use wirdoku::solver::{self, Solver, Verdict};
 
 use crate::list::List;
 
@@ -18,22 +19,22 @@ pub struct Desk {
 
 impl Desk {
     /// What a solver says of a list and further clauses.
-    pub fn solve(&mut self, solver: &Solver, list: &List, further: &[Vec<i32>]) -> Result<Verdict, String> {
+    pub fn solve(&mut self, solver: Solver, list: &List, further: &[Vec<i32>]) -> Result<Verdict, String> {
         self.calls += 1;
         let file = list.file_with(further);
-        solving::solve(solver, list.variables, &file).map_err(|failure| failure.to_string())
+        solver::solve(solver, list.variables, &file).map_err(|failure| failure.to_string())
     }
 
     /// All satisfying assignments of a list, by picosat's own enumeration, which
     /// is ended if there are more than `limit`.
     pub fn all(&mut self, list: &List, limit: usize) -> Result<Vec<Vec<u8>>, String> {
         self.calls += 1;
+        let scratch = Scratch::under(&env::temp_dir()).map_err(|error| error.to_string())?;
+        let path = scratch.file("list.cnf");
+        fs::write(&path, list.file_with(&[])).map_err(|error| error.to_string())?;
         let mut command = Command::new("picosat");
-        command.arg("--all").stdin(Stdio::piped()).stdout(Stdio::piped());
+        command.arg("--all").arg(&path).stdout(Stdio::piped());
         let mut child = command.spawn().map_err(|error| format!("picosat: {error}"))?;
-        let (file, input) = (list.file_with(&[]), child.stdin.take());
-        // A write that fails shows in what picosat prints.
-        thread::spawn(move || input.map(|mut pipe| pipe.write_all(&file)));
         let written = first_answers(&mut child, limit);
         // Ends it where the limit was passed; a process that has ended is left as it is.
         let _ = child.kill();
@@ -64,7 +65,7 @@ fn solutions(text: &str, variables: usize) -> Result<Vec<Vec<u8>>, String> {
     let mut solutions = Vec::new();
     for answer in answers.split("s SATISFIABLE\n").skip(1) {
         let answer = format!("s SATISFIABLE\n{answer}");
-        match competition(answer.as_bytes(), variables).map_err(|refused| refused.reason)? {
+        match competition(answer.as_bytes(), variables)? {
             Verdict::Satisfiable(assignment) => solutions.push(assignment),
             Verdict::Unsatisfiable => return Err("an answer without values".to_string()),
         }

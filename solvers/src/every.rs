@@ -5,8 +5,7 @@ use std::ops::RangeInclusive;
 
 use reference::search::{all_runs, count_runs};
 use reference::subject::Subject;
-use wirdoku::answer::Verdict;
-use wirdoku::solver::Solver;
+use wirdoku::solver::{Solver, Verdict};
 
 use crate::desk::Desk;
 use crate::judge::decoded;
@@ -37,7 +36,7 @@ pub fn test(desk: &mut Desk, tally: &mut Tally, shipped: &[Subject]) -> Result<(
         for bound in BOUNDS.filter(|bound| !generated || bound % 7 == index % 7) {
             let runs = runs_of(subject, bound)?;
             if (1..=BLOCKED).contains(&runs) && blocked.len() < LISTS {
-                let solver = &Solver::ALL[blocked.len() % Solver::ALL.len()];
+                let solver = Solver::ALL[blocked.len() % Solver::ALL.len()];
                 let test = format!("all assignments at bound {bound}, {}", solver.name());
                 tally.about(subject, &test, by_blocking(desk, solver, subject, bound, runs));
                 blocked.push(runs);
@@ -66,7 +65,7 @@ fn runs_of(subject: &Subject, bound: usize) -> Result<u128, String> {
 
 /// Asks again and again, each assignment ruled out by a further clause, until
 /// the solver finds no more.
-fn by_blocking(desk: &mut Desk, solver: &Solver, subject: &Subject, bound: usize, runs: u128) -> Result<(), String> {
+fn by_blocking(desk: &mut Desk, solver: Solver, subject: &Subject, bound: usize, runs: u128) -> Result<(), String> {
     let list = emitted(subject, bound)?;
     let (mut found, mut ruled_out) = (Vec::new(), Vec::new());
     while let Verdict::Satisfiable(assignment) = desk.solve(solver, &list, &ruled_out)? {

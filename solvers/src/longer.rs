@@ -5,9 +5,8 @@
 use reference::model::{variables, MAX_BOUND};
 use reference::step::states_of_prefix;
 use reference::subject::Subject;
-use wirdoku::answer::Verdict;
 use wirdoku::library;
-use wirdoku::solver::Solver;
+use wirdoku::solver::{Solver, Verdict};
 
 use crate::desk::Desk;
 use crate::judge::decoded;
@@ -24,7 +23,7 @@ pub fn test(desk: &mut Desk, tally: &mut Tally, pairs: &[Pair]) {
     let (mut tried, mut inside, mut outside) = (0, 0, 0);
     for (index, pair) in chosen.take(PAIRS).enumerate() {
         let longer = (pair.bound + 1 + index % 4).min(MAX_BOUND);
-        let solver = &Solver::ALL[index % Solver::ALL.len()];
+        let solver = Solver::ALL[index % Solver::ALL.len()];
         let test = format!("bounds {} and {longer}, {}", pair.bound, solver.name());
         let outcome = goes_on(desk, solver, &pair.subject, pair.bound, longer);
         let outcome = outcome.and_then(|assignment| cuts(&pair.subject, longer, &assignment));
@@ -42,7 +41,7 @@ pub fn test(desk: &mut Desk, tally: &mut Tally, pairs: &[Pair]) {
 
 /// A solver's assignment for `bound`, fixed value by value in the list for
 /// `longer`; returns a free assignment for `longer`.
-fn goes_on(desk: &mut Desk, solver: &Solver, subject: &Subject, bound: usize, longer: usize) -> Result<Vec<u8>, String> {
+fn goes_on(desk: &mut Desk, solver: Solver, subject: &Subject, bound: usize, longer: usize) -> Result<Vec<u8>, String> {
     let (short, long) = (emitted(subject, bound)?, emitted(subject, longer)?);
     let kept = &short.words[..short.words.len() - 2];
     if !long.words.starts_with(kept) {
@@ -57,7 +56,7 @@ fn goes_on(desk: &mut Desk, solver: &Solver, subject: &Subject, bound: usize, lo
     satisfying(desk, solver, &long, &[])
 }
 
-fn satisfying(desk: &mut Desk, solver: &Solver, list: &List, further: &[Vec<i32>]) -> Result<Vec<u8>, String> {
+fn satisfying(desk: &mut Desk, solver: Solver, list: &List, further: &[Vec<i32>]) -> Result<Vec<u8>, String> {
     match desk.solve(solver, list, further)? {
         Verdict::Satisfiable(assignment) => Ok(assignment),
         Verdict::Unsatisfiable => Err(format!("unsatisfiable with {} values fixed", further.len())),

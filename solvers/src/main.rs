@@ -2,7 +2,7 @@
 //! is compared with the reference program, and every assignment that they give
 //! goes through the proved conversion and both walkers. What they print is read by
 //! the proved call and by the reference program, as it stands and damaged. The same
-//! for lists of two models that are composed. The command's own searches for a
+//! for lists of two models that are composed. The next command's searches for a
 //! shortest run, with a solver and without, must find the length that the reference
 //! program finds. Refutations are checked three times.
 //!

@@ -7,8 +7,7 @@ use reference::gen::outputs::damaged;
 use reference::gen::rng::Rng;
 use reference::output::output_to_assignment;
 use wirdoku::library::{self, SATISFIABLE, UNSATISFIABLE};
-use wirdoku::solver::Solver;
-use wirdoku::solving::printed;
+use wirdoku::solver::{printed, Solver};
 
 use crate::desk::Desk;
 use crate::judge::decoded;
@@ -37,7 +36,7 @@ pub fn test(desk: &mut Desk, tally: &mut Tally, pairs: &[Pair]) {
     println!("outputs of cadical and picosat: every {EVERY}th pair of the above, {COPIES} damaged copies of each");
     let mut met = Met::default();
     for (index, pair) in pairs.iter().enumerate().step_by(EVERY) {
-        for solver in &SOLVERS {
+        for solver in SOLVERS {
             let test = format!("output of {} at bound {}", solver.name(), pair.bound);
             tally.about(&pair.subject, &test, outputs(desk, solver, pair, index as u64, &mut met));
         }
@@ -47,7 +46,7 @@ pub fn test(desk: &mut Desk, tally: &mut Tally, pairs: &[Pair]) {
 
 /// The output of a solver is accepted and says what is right; its damaged copies
 /// are read alike.
-fn outputs(desk: &mut Desk, solver: &Solver, pair: &Pair, seed: u64, met: &mut Met) -> Result<(), String> {
+fn outputs(desk: &mut Desk, solver: Solver, pair: &Pair, seed: u64, met: &mut Met) -> Result<(), String> {
     let list = emitted(&pair.subject, pair.bound)?;
     desk.calls += 1;
     let output = printed(solver, &list.file_with(&[])).map_err(|failure| failure.to_string())?;

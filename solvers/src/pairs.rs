@@ -8,8 +8,7 @@ use reference::gen::runs::walk as random_walk;
 use reference::model::{Atom, ClockUpdate, Edge, Model, Update, NO_ATOMS};
 use reference::step::walk;
 use reference::subject::Subject;
-use wirdoku::answer::Verdict;
-use wirdoku::solver::Solver;
+use wirdoku::solver::{Solver, Verdict};
 
 use crate::desk::Desk;
 use crate::judge::{decoded, ends};
@@ -73,8 +72,7 @@ pub fn test(desk: &mut Desk, tally: &mut Tally, pairs: &[Pair]) {
     let mut by_all = 0;
     for (index, pair) in pairs.iter().enumerate() {
         let all = index % ALL_SOLVERS_EVERY == 0;
-        let solvers =
-            if all { Solver::ALL.to_vec() } else { vec![Solver::ALL[index / ALL_SOLVERS_EVERY % Solver::ALL.len()].clone()] };
+        let solvers = if all { Solver::ALL.to_vec() } else { vec![Solver::ALL[index / ALL_SOLVERS_EVERY % Solver::ALL.len()]] };
         by_all += usize::from(all);
         let test = format!("bound {}", pair.bound);
         tally.about(&pair.subject, &test, judged(desk, pair, &solvers));
@@ -86,7 +84,7 @@ pub fn test(desk: &mut Desk, tally: &mut Tally, pairs: &[Pair]) {
 fn judged(desk: &mut Desk, pair: &Pair, solvers: &[Solver]) -> Result<(), String> {
     let list = emitted(&pair.subject, pair.bound)?;
     for solver in solvers {
-        match (desk.solve(solver, &list, &[])?, pair.has_run) {
+        match (desk.solve(*solver, &list, &[])?, pair.has_run) {
             (Verdict::Unsatisfiable, false) => {}
             (Verdict::Satisfiable(assignment), true) => {
                 decoded(&pair.subject, pair.bound, &assignment).map_err(|cause| format!("{}: {cause}", solver.name()))?;

@@ -11,8 +11,8 @@ use reference::gen::rng::Rng;
 use reference::refutation::{read, refute, refutes, NOT_REFUTED, REFUTED};
 use reference::subject::Subject;
 use wirdoku::library;
-use wirdoku::refutation::prove::CADICAL;
-use wirdoku::refutation::{check, refutation, Limits, Refutation};
+use wirdoku_next::refutation::prove::CADICAL;
+use wirdoku_next::refutation::{check, refutation, Limits, Refutation};
 
 use crate::desk::Desk;
 use crate::list::emitted;

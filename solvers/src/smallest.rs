@@ -5,8 +5,7 @@ use std::ops::RangeInclusive;
 use reference::model::MAX_BOUND;
 use reference::search::{shortest, Shortest};
 use reference::subject::Subject;
-use wirdoku::answer::Verdict;
-use wirdoku::solver::Solver;
+use wirdoku::solver::{Solver, Verdict};
 
 use crate::command;
 use crate::desk::Desk;
@@ -61,7 +60,7 @@ pub fn test(desk: &mut Desk, tally: &mut Tally, shipped: &[Subject]) -> Result<(
     println!("smallest bound: seeds {SEEDS:?}, shipped models, models made by hand");
     let subjects = subjects(shipped)?;
     for (index, (subject, found)) in subjects.iter().enumerate() {
-        let solver = &Solver::ALL[index % Solver::ALL.len()];
+        let solver = Solver::ALL[index % Solver::ALL.len()];
         let test = format!("smallest bound by {}", solver.name());
         let outcome = smallest(desk, solver, subject).and_then(|bound| match (bound, *found) {
             (Some(bound), Shortest::Steps(steps)) if bound == steps => Ok(()),
@@ -69,7 +68,7 @@ pub fn test(desk: &mut Desk, tally: &mut Tally, shipped: &[Subject]) -> Result<(
             _ => Err(format!("{bound:?}, but the reference's search: {found:?}")),
         });
         tally.about(subject, &test, outcome);
-        command::test(desk, tally, subject, *found, solver);
+        command::test(desk, tally, subject, *found, index);
     }
     let lengths: Vec<usize> = subjects
         .iter()
@@ -88,7 +87,7 @@ pub fn test(desk: &mut Desk, tally: &mut Tally, shipped: &[Subject]) -> Result<(
 }
 
 /// The first bound from 0 up whose list is satisfiable, its assignment a run's.
-fn smallest(desk: &mut Desk, solver: &Solver, subject: &Subject) -> Result<Option<usize>, String> {
+fn smallest(desk: &mut Desk, solver: Solver, subject: &Subject) -> Result<Option<usize>, String> {
     for bound in 0..=MAX_BOUND {
         let list = emitted(subject, bound)?;
         if let Verdict::Satisfiable(assignment) = desk.solve(solver, &list, &[])? {

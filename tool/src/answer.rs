@@ -10,31 +10,14 @@ pub enum Verdict {
     Unsatisfiable,
 }
 
-/// Why an answer is none.
-#[derive(Clone, Debug, PartialEq, Eq)]
-pub struct Refused {
-    pub reason: String,
-    /// Number and line, if the proved call refuses it.
-    pub refusal: Option<(u8, usize)>,
-}
-
-impl From<String> for Refused {
-    fn from(reason: String) -> Refused {
-        Refused { reason, refusal: None }
-    }
-}
-
 /// Reads an output in the competitions' form; one that is refused is told with its number, its sentence and its line.
-pub fn competition(output: &[u8], variables: usize) -> Result<Verdict, Refused> {
+pub fn competition(output: &[u8], variables: usize) -> Result<Verdict, String> {
     let mut assignment = vec![0; variables];
     let told = library::output_to_assignment(output, &mut assignment);
     match told.outcome {
         library::SATISFIABLE => Ok(Verdict::Satisfiable(assignment)),
         library::UNSATISFIABLE => Ok(Verdict::Unsatisfiable),
-        _ => {
-            let reason = explain::text_refusal(output, told.number, told.line);
-            Err(Refused { reason, refusal: Some((told.number, told.line)) })
-        }
+        _ => Err(explain::text_refusal(output, told.number, told.line)),
     }
 }
 
@@ -81,8 +64,12 @@ fn values<'a>(lines: impl Iterator<Item = &'a str>, variables: usize) -> Result<
 mod tests {
     use super::{competition, minisat, Verdict};
 
-    fn satisfied<T>(bytes: &[u8]) -> Result<Verdict, T> {
+    fn satisfied(bytes: &[u8]) -> Result<Verdict, String> {
         Ok(Verdict::Satisfiable(bytes.to_vec()))
+    }
+
+    fn reason(outcome: Result<Verdict, String>) -> String {
+        outcome.expect_err("the answer should be refused")
     }
 
     #[test]
@@ -95,21 +82,18 @@ mod tests {
 
     #[test]
     fn refused_outputs_are_told_with_number_and_line() {
-        let cases: [(&[u8], u8, usize, &str); 7] = [
-            (b"c\ns UNSATISFIABLE\n", 33, 1, "\n    c\n    a comment begins with `c` and a space"),
-            (b"s UNKNOWN\n", 33, 1, "\n    s UNKNOWN"),
-            (b"s SATISFIABLE\nv 1 -2 0", 33, 2, "\n    v 1 -2 0\n    the line has no LF at its end"),
-            (b"s SATISFIABLE\nv 1\nv 3 0\n", 34, 3, "\n    v 3 0"),
-            (b"s SATISFIABLE\nv 1 0\n", 35, 2, "\n    v 1 0"),
-            (b"s SATISFIABLE\nv 1 -2\n", 35, 3, "\n    (the text ends before this line)"),
-            (b"", 35, 1, "\n    (the text ends before this line)"),
+        let cases: [(&[u8], &str, &str); 7] = [
+            (b"c\ns UNSATISFIABLE\n", "refusal 33, line 1: ", "\n    c\n    a comment begins with `c` and a space"),
+            (b"s UNKNOWN\n", "refusal 33, line 1: ", "\n    s UNKNOWN"),
+            (b"s SATISFIABLE\nv 1 -2 0", "refusal 33, line 2: ", "\n    v 1 -2 0\n    the line has no LF at its end"),
+            (b"s SATISFIABLE\nv 1\nv 3 0\n", "refusal 34, line 3: ", "\n    v 3 0"),
+            (b"s SATISFIABLE\nv 1 0\n", "refusal 35, line 2: ", "\n    v 1 0"),
+            (b"s SATISFIABLE\nv 1 -2\n", "refusal 35, line 3: ", "\n    (the text ends before this line)"),
+            (b"", "refusal 35, line 1: ", "\n    (the text ends before this line)"),
         ];
-        for (output, number, line, end) in cases {
-            let refused = competition(output, 2).unwrap_err();
-            assert_eq!(refused.refusal, Some((number, line)));
-            let reason = refused.reason;
-            let beginning = format!("refusal {}, line {}: ", number, line);
-            assert!(reason.starts_with(&beginning) && reason.ends_with(end), "{}", reason);
+        for (output, beginning, end) in cases {
+            let reason = reason(competition(output, 2));
+            assert!(reason.starts_with(beginning) && reason.ends_with(end), "{}", reason);
         }
     }
 
@@ -139,7 +123,7 @@ mod tests {
             ("SAT\n-2147483648 0\n", "variable 2147483648 is above the greatest, 2"),
         ];
         for (text, expected) in cases {
-            assert_eq!(minisat(text, 2), Err(expected.to_string()), "{}", text);
+            assert_eq!(reason(minisat(text, 2)), expected, "{}", text);
         }
     }
 }

@@ -1,27 +1,72 @@
-//! The limits of a model, and which of them a composed model would pass, for the message of refusal 38. That it is refused is the
-//! library's answer; what is said here of it is counted from the two texts, which the proved reader has accepted.
+//! Which limits a composed model would pass, for the message of refusal 38. That it is refused is the library's answer; what is said here
+//! of it is counted from the two texts, which the proved reader has accepted.
 
-use crate::drawing::{Atom, Drawing, Edge};
+const LOCATIONS: usize = 16;
+const CLOCKS: usize = 4;
+const COUNTERS: usize = 4;
+const EDGES: usize = 32;
+const ATOMS: usize = 4;
 
-pub const LOCATIONS: usize = 16;
-pub const CLOCKS: usize = 4;
-pub const COUNTERS: usize = 4;
-pub const EDGES: usize = 32;
-pub const ATOMS: usize = 4;
-pub const LABEL: usize = 15;
-pub const CLOCK_CONSTANT: usize = 30;
-pub const COUNTER_VALUE: usize = 31;
+/// What an accepted text declares: numbers, the atoms of each invariant, and label and atoms of each edge.
+#[derive(Default)]
+struct Declared {
+    locations: usize,
+    clocks: usize,
+    counters: usize,
+    invariants: Vec<usize>,
+    edges: Vec<Edge>,
+}
+
+struct Edge {
+    label: usize,
+    atoms: usize,
+}
+
+impl Declared {
+    fn of(text: &[u8]) -> Declared {
+        let mut declared = Declared::default();
+        let mut label = 0;
+        for line in String::from_utf8_lossy(text).lines() {
+            let (key, value) = line.split_once('=').unwrap_or((line, ""));
+            let number = value.parse().unwrap_or(0);
+            match key {
+                "locations" => declared.locations = number,
+                "clocks" => declared.clocks = number,
+                "vars" => declared.counters = number,
+                "inv" => declared.invariants.push(atoms(value)),
+                "label" => label = number,
+                "when" => declared.edges.push(Edge { label, atoms: atoms(value) }),
+                _ => {}
+            }
+        }
+        declared
+    }
+
+    fn bears(&self, label: usize) -> bool {
+        self.edges.iter().any(|edge| edge.label == label)
+    }
+
+    /// The edges that move alone beside another model.
+    fn alone(&self, other: &Declared) -> usize {
+        self.edges.iter().filter(|edge| edge.label == 0 || !other.bears(edge.label)).count()
+    }
+}
+
+/// The atoms of an `inv` or `when` value.
+fn atoms(value: &str) -> usize {
+    match value {
+        "-" => 0,
+        _ => value.split(',').count(),
+    }
+}
 
 /// A sentence for each limit that the model composed of two accepted texts would pass.
 pub fn passed(first: &[u8], second: &[u8]) -> Vec<String> {
-    let (first, second) = match (Drawing::of(first), Drawing::of(second)) {
-        (Some(first), Some(second)) => (first, second),
-        _ => return Vec::new(),
-    };
+    let (first, second) = (Declared::of(first), Declared::of(second));
     let found = [
         locations(&first, &second),
         sum("clocks", CLOCKS, first.clocks, second.clocks),
-        sum("counters", COUNTERS, first.counters.len(), second.counters.len()),
+        sum("counters", COUNTERS, first.counters, second.counters),
         edges(&first, &second),
         invariant(&first, &second),
         guard(&first, &second),
@@ -29,8 +74,8 @@ pub fn passed(first: &[u8], second: &[u8]) -> Vec<String> {
     found.into_iter().flatten().collect()
 }
 
-fn locations(first: &Drawing, second: &Drawing) -> Option<String> {
-    let (one, other) = (first.locations(), second.locations());
+fn locations(first: &Declared, second: &Declared) -> Option<String> {
+    let (one, other) = (first.locations, second.locations);
     let all = one * other;
     (all > LOCATIONS).then(|| format!("locations: {} times {} are {}, and a model has at most {}", one, other, all, LOCATIONS))
 }
@@ -40,27 +85,21 @@ fn sum(name: &str, most: usize, one: usize, other: usize) -> Option<String> {
     (all > most).then(|| format!("{}: {} and {} are {}, and a model has at most {}", name, one, other, all, most))
 }
 
-fn edges(first: &Drawing, second: &Drawing) -> Option<String> {
-    let (i, j) = (first.locations(), second.locations());
-    let (one, other) = (alone(first, second), alone(second, first));
+fn edges(first: &Declared, second: &Declared) -> Option<String> {
+    let (one, other) = (first.alone(second), second.alone(first));
     let pairs = pairs(first, second).count();
-    let all = one * j + other * i + pairs;
+    let all = one * second.locations + other * first.locations + pairs;
     (all > EDGES).then(|| {
         format!(
             "edges: {} of the first alone times {} locations, {} of the second alone times {} locations and {} in pairs are {}, \
              and a model has at most {}",
-            one, j, other, i, pairs, all, EDGES
+            one, second.locations, other, first.locations, pairs, all, EDGES
         )
     })
 }
 
-/// How many edges move alone beside another model.
-fn alone(drawing: &Drawing, other: &Drawing) -> usize {
-    drawing.edges.iter().filter(|edge| edge.is_alone_beside(other)).count()
-}
-
 /// The edges of both that share a label, with their numbers.
-fn pairs<'a>(first: &'a Drawing, second: &'a Drawing) -> impl Iterator<Item = ((usize, &'a Edge), (usize, &'a Edge))> {
+fn pairs<'a>(first: &'a Declared, second: &'a Declared) -> impl Iterator<Item = ((usize, &'a Edge), (usize, &'a Edge))> {
     first.edges.iter().enumerate().filter(|(_, edge)| edge.label != 0).flat_map(move |(number, edge)| {
         let partners = second.edges.iter().enumerate().filter(move |(_, other)| other.label == edge.label);
         partners.map(move |partner| ((number, edge), partner))
@@ -68,7 +107,7 @@ fn pairs<'a>(first: &'a Drawing, second: &'a Drawing) -> impl Iterator<Item = ((
 }
 
 /// The pair of locations with the most atoms, the first of those.
-fn invariant(first: &Drawing, second: &Drawing) -> Option<String> {
+fn invariant(first: &Declared, second: &Declared) -> Option<String> {
     let ((i, one), (j, other)) = (most(&first.invariants)?, most(&second.invariants)?);
     (one + other > ATOMS).then(|| {
         format!(
@@ -84,25 +123,24 @@ fn invariant(first: &Drawing, second: &Drawing) -> Option<String> {
     })
 }
 
-/// The first of the longest invariants: its location and its length.
-fn most(invariants: &[Vec<Atom>]) -> Option<(usize, usize)> {
-    let greatest = invariants.iter().map(Vec::len).max()?;
-    invariants.iter().position(|atoms| atoms.len() == greatest).map(|place| (place, greatest))
+/// The first of the greatest numbers, with its index.
+fn most(numbers: &[usize]) -> Option<(usize, usize)> {
+    let greatest = numbers.iter().copied().max()?;
+    numbers.iter().position(|number| *number == greatest).map(|place| (place, greatest))
 }
 
 /// The first pair of edges with too many atoms.
-fn guard(first: &Drawing, second: &Drawing) -> Option<String> {
-    let atoms = |one: &Edge, other: &Edge| one.guard.len() + other.guard.len();
-    let ((e, one), (f, other)) = pairs(first, second).find(|((_, one), (_, other))| atoms(one, other) > ATOMS)?;
+fn guard(first: &Declared, second: &Declared) -> Option<String> {
+    let ((e, one), (f, other)) = pairs(first, second).find(|((_, one), (_, other))| one.atoms + other.atoms > ATOMS)?;
     Some(format!(
         "atoms of a guard: {} of edge {} of the first and {} of edge {} of the second, which share label {}, are {}, and a guard has \
          at most {}",
-        one.guard.len(),
+        one.atoms,
         e,
-        other.guard.len(),
+        other.atoms,
         f,
         one.label,
-        atoms(one, other),
+        one.atoms + other.atoms,
         ATOMS
     ))
 }

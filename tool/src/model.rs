@@ -1,18 +1,19 @@
 //! What a command is asked about: the model of one text, or that of two texts composed. Each question goes to the library's call on one
 //! text or to its call on two.
 
-use std::path::{Path, PathBuf};
+use std::fs::File;
+use std::io::{self, Read};
+use std::path::Path;
 
 use crate::args::Files;
-use crate::library::{self, Answer, FileAnswer, RefutationAnswer, Shape, Sizes, State, StateAnswer};
-use crate::{explain, input, limits};
+use crate::library::{self, Answer, FileAnswer, Shape, Sizes, State, StateAnswer};
+use crate::{explain, limits};
 
 /// A text of more bytes than this is refused, whatever it holds.
 const LONGEST_TEXT: u64 = 8_192;
 
 /// A model file: its name for messages, and its text.
 pub struct Text {
-    pub path: PathBuf,
     pub name: String,
     pub bytes: Vec<u8>,
 }
@@ -21,8 +22,14 @@ impl Text {
     /// Reads no more of a file than it takes to see that the text is too long. An error is told with the name.
     fn read(path: &Path) -> Result<Text, String> {
         let name = path.display().to_string();
-        match input::read(path, LONGEST_TEXT) {
-            Ok(bytes) => Ok(Text { path: path.to_path_buf(), name, bytes }),
+        let mut bytes = Vec::new();
+        let outcome = if path == Path::new("-") {
+            io::stdin().lock().take(LONGEST_TEXT + 1).read_to_end(&mut bytes)
+        } else {
+            File::open(path).and_then(|file| file.take(LONGEST_TEXT + 1).read_to_end(&mut bytes))
+        };
+        match outcome {
+            Ok(_) => Ok(Text { name, bytes }),
             Err(error) => Err(format!("{} cannot be read: {}", name, error)),
         }
     }
@@ -109,20 +116,6 @@ impl Model {
         }
     }
 
-    pub fn emit(&self, bound: usize, out: &mut [i32]) -> Sizes {
-        match self {
-            Model::One(text) => library::emit(&text.bytes, bound, out),
-            Model::Two(first, second) => library::pair_emit(&first.bytes, &second.bytes, bound, out),
-        }
-    }
-
-    pub fn refute(&self, bound: usize, words: &mut [i32], hints: &[u32]) -> RefutationAnswer {
-        match self {
-            Model::One(text) => library::refute(&text.bytes, bound, words, hints),
-            Model::Two(first, second) => library::pair_refute(&first.bytes, &second.bytes, bound, words, hints),
-        }
-    }
-
     pub fn initial(&self) -> StateAnswer {
         match self {
             Model::One(text) => library::initial(&text.bytes),
@@ -141,13 +134,6 @@ impl Model {
         match self {
             Model::One(text) => library::walk(&text.bytes, run),
             Model::Two(first, second) => library::pair_walk(&first.bytes, &second.bytes, run),
-        }
-    }
-
-    pub fn run_to_assignment(&self, run: &[u8], assignment: &mut [u8]) -> Answer {
-        match self {
-            Model::One(text) => library::run_to_assignment(&text.bytes, run, assignment),
-            Model::Two(first, second) => library::pair_run_to_assignment(&first.bytes, &second.bytes, run, assignment),
         }
     }
 

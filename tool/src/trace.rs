@@ -1,12 +1,8 @@
-//! The states that a run passes, as a table. The states come from the proved step call; the ends and labels of edges are read from the
-//! text, which the proved reader has accepted, and names from the file beside it. Of two models that are composed (`parts`) the table
-//! shows what each does.
+//! The states that a run passes, as a table. The states come from the proved step call; the labels of edges are read from the text,
+//! which the proved reader has accepted. Of two models that are composed (`parts`) the table shows what each does.
 
-use crate::library::State;
-use crate::names::Names;
-use crate::parts;
-use crate::subject::{Part, Subject};
-use crate::table::{self, Column};
+use crate::library::{self, Shape, State, STAYS};
+use crate::model::Model;
 
 /// A row: the choice that led here (none in the first row), its edge's label (0 if it is a delay), the state, and the ticks that have
 /// passed.
@@ -18,30 +14,19 @@ pub struct Row {
     pub elapsed: usize,
 }
 
-/// The trace of a run, as far as it is allowed, and its bytes.
-pub fn text(subject: &Subject, run: &[u8]) -> String {
-    let rows = rows(subject, run);
-    let table = match &subject.parts {
-        None => table::text(&columns(&subject.whole, &rows)),
-        Some(both) => parts::text(subject, both, &rows),
-    };
-    let bytes: String = run.iter().map(|byte| format!(" {}", byte)).collect();
-    format!("{}step bytes:{}\n", table, bytes)
-}
-
 /// The rows of a run from the initial state up to its end, or up to its first step that is refused.
-pub fn rows(subject: &Subject, run: &[u8]) -> Vec<Row> {
-    let mut row = Row { choice: None, label: 0, state: subject.model.initial().state, elapsed: 0 };
+pub fn rows(model: &Model, shape: &Shape, run: &[u8]) -> Vec<Row> {
+    let mut row = Row { choice: None, label: 0, state: model.initial().state, elapsed: 0 };
     let mut rows = vec![row];
     for byte in run {
-        let answer = subject.model.step(row.state, *byte);
+        let answer = model.step(row.state, *byte);
         if answer.number != 0 {
             break;
         }
         // A delay of d is d ticks, at the ceiling too: only what clocks show is cut there.
-        let (label, ticks) = match edge(subject.shape().ceiling, *byte) {
+        let (label, ticks) = match edge(shape.ceiling, *byte) {
             None => (0, usize::from(*byte)),
-            Some(edge) => (subject.whole.drawing.edges[edge].label as u8, 0),
+            Some(edge) => (label_of(model, edge, *byte), 0),
         };
         row = Row { choice: Some(*byte), label, state: answer.state, elapsed: row.elapsed + ticks };
         rows.push(row);
@@ -54,116 +39,136 @@ pub fn edge(ceiling: usize, byte: u8) -> Option<usize> {
     usize::from(byte).checked_sub(ceiling + 1)
 }
 
-/// What a step byte stands for in a model: a delay, or an edge with its source and target.
-pub fn choice(part: &Part, byte: u8) -> String {
-    let ends = |edge: usize| {
-        let drawn = part.drawing.edges.get(edge)?;
-        Some(format!(": {} -> {}", part.names.location(drawn.source), part.names.location(drawn.target)))
-    };
-    match edge(part.shape.ceiling, byte) {
-        None => format!("delay {}", byte),
-        Some(edge) => format!("{}{}", part.names.edge(edge), ends(edge).unwrap_or_default()),
+/// The label of an edge of the model, and of a composed one that of the part that moves: both have the same if both do.
+fn label_of(model: &Model, number: usize, byte: u8) -> u8 {
+    let own = |text: &[u8], byte| edge(library::shape(text).ceiling, byte).map_or(0, |number| label(text, number));
+    match model {
+        Model::One(text) => label(&text.bytes, number),
+        Model::Two(first, second) => match library::pair_parts(&first.bytes, &second.bytes, byte) {
+            steps if steps.first == STAYS => own(&second.bytes, steps.second),
+            steps => own(&first.bytes, steps.first),
+        },
     }
 }
 
-/// A choice with the label that it bears; 0 means none.
-pub fn labelled(choice: String, names: &Names, label: u8) -> String {
-    match label {
-        0 => choice,
-        _ => format!("{}, {}", choice, names.label(usize::from(label))),
+/// The label of an edge in a text that is accepted: it has a `label=` line for each edge, in their order.
+fn label(text: &[u8], edge: usize) -> u8 {
+    let mut values = text.split(|byte| *byte == b'\n').filter_map(|line| line.strip_prefix(b"label="));
+    let value = values.nth(edge).and_then(|value| std::str::from_utf8(value).ok());
+    value.and_then(|number| number.parse().ok()).unwrap_or(0)
+}
+
+/// What a step byte stands for, with the label of an edge that is not private.
+pub fn choice(ceiling: usize, byte: u8, label: u8) -> String {
+    match (edge(ceiling, byte), label) {
+        (None, _) => format!("delay {}", byte),
+        (Some(edge), 0) => format!("edge {}", edge),
+        (Some(edge), label) => format!("edge {}, label {}", edge, label),
     }
 }
 
-/// What a clock shows: M has a mark, since it means M or more.
+/// The rows under a line of headings, in columns. A clock at the ceiling has a `+`.
+pub fn table(shape: &Shape, rows: &[Row]) -> String {
+    let mut lines = vec![headings(shape)];
+    lines.extend(rows.iter().enumerate().map(|(step, row)| cells(shape, step, row)));
+    aligned(&lines, &[1])
+}
+
+fn headings(shape: &Shape) -> Vec<String> {
+    let mut line = vec!["step".to_string(), "choice".to_string(), "location".to_string()];
+    line.extend((0..shape.counters).map(|index| format!("v{}", index)));
+    line.extend((0..shape.clocks).map(|index| format!("x{}", index)));
+    line.push("elapsed".to_string());
+    line
+}
+
+fn cells(shape: &Shape, step: usize, row: &Row) -> Vec<String> {
+    let choice = row.choice.map_or("-".to_string(), |byte| choice(shape.ceiling, byte, row.label));
+    let mut line = vec![step.to_string(), choice, row.state.location.to_string()];
+    let counters = row.state.counters.iter().take(usize::from(shape.counters));
+    line.extend(counters.map(|value| value.to_string()));
+    let clocks = row.state.clocks.iter().take(usize::from(shape.clocks));
+    line.extend(clocks.map(|value| clock(shape.ceiling, *value)));
+    line.push(row.elapsed.to_string());
+    line
+}
+
 pub fn clock(ceiling: usize, value: u8) -> String {
     let mark = if usize::from(value) == ceiling { "+" } else { "" };
     format!("{}{}", value, mark)
 }
 
-/// The table of one model.
-fn columns(part: &Part, rows: &[Row]) -> Vec<Column> {
-    let taken = |row: &Row| row.choice.map_or("-".to_string(), |byte| labelled(choice(part, byte), &part.names, row.label));
-    let mut columns = vec![steps(rows), Column::words("choice", rows.iter().map(taken))];
-    columns.push(locations("location", &part.names, rows.iter().map(|row| row.state.location)));
-    columns.extend(values(part, part.shape.ceiling, rows, (0, 0)));
-    columns.push(elapsed(rows));
-    columns
+/// Lines of as many cells each, two spaces apart: choices, in the columns named, to the left of theirs, numbers to the right.
+pub fn aligned(lines: &[Vec<String>], choices: &[usize]) -> String {
+    let widths: Vec<usize> =
+        (0..lines[0].len()).map(|column| lines.iter().map(|line| line[column].len()).max().unwrap_or(0)).collect();
+    lines.iter().map(|line| joined(line, &widths, choices)).collect()
 }
 
-pub fn steps(rows: &[Row]) -> Column {
-    Column::numbers("step", (0..rows.len()).map(|step| step.to_string()))
-}
-
-pub fn elapsed(rows: &[Row]) -> Column {
-    Column::numbers("elapsed", rows.iter().map(|row| row.elapsed.to_string()))
-}
-
-/// Locations by name, or by number in a column of numbers if none has a name.
-pub fn locations(heading: &str, names: &Names, locations: impl Iterator<Item = u8>) -> Column {
-    let cells = locations.map(|location| names.location(usize::from(location)));
-    match names.has_locations() {
-        true => Column::words(heading, cells),
-        false => Column::numbers(heading, cells),
-    }
-}
-
-/// A column for each counter and each clock of a model, which stand in the states after so many of another. A clock at the ceiling has a
-/// `+`.
-pub fn values(part: &Part, ceiling: usize, rows: &[Row], (counters, clocks): (usize, usize)) -> Vec<Column> {
-    let counter = |index: usize| {
-        let cells = rows.iter().map(|row| row.state.counters[counters + index].to_string());
-        Column::numbers(&part.names.counter(index), cells)
-    };
-    let clock_column = |index: usize| {
-        let cells = rows.iter().map(|row| clock(ceiling, row.state.clocks[clocks + index]));
-        Column::numbers(&part.names.clock(index), cells)
-    };
-    let counted = (0..part.drawing.counters.len()).map(counter);
-    counted.chain((0..part.drawing.clocks).map(clock_column)).collect()
+fn joined(line: &[String], widths: &[usize], choices: &[usize]) -> String {
+    let padded: Vec<String> = line
+        .iter()
+        .zip(widths)
+        .enumerate()
+        .map(|(column, (cell, width))| match choices.contains(&column) {
+            true => format!("{:<1$}", cell, *width),
+            false => format!("{:>1$}", cell, *width),
+        })
+        .collect();
+    format!("{}\n", padded.join("  "))
 }
 
 #[cfg(test)]
 mod tests {
-    use super::{choice, clock, columns, labelled, Row};
-    use crate::library::State;
-    use crate::model::{Model, Text};
-    use crate::subject::Subject;
-    use crate::table;
+    use super::{choice, label, table, Row};
+    use crate::library::{Shape, State};
 
-    /// A model of two locations, two counters and two clocks, whose ceiling is 4.
-    fn subject() -> Subject {
-        let edge = |ends: &str| format!("{}label=0\nwhen=x0>3\nset=-\nreset=-\n", ends);
-        let head = "locations=2\ninit=0\ntarget=1\nclocks=2\nvars=2\nvar=31,4\nvar=31,0\ninv=-\ninv=-\nedges=2\n";
-        let text = format!("{}{}{}", head, edge("from=0\nto=1\n"), edge("from=1\nto=1\n"));
-        let text = Text { path: "-".into(), name: "-".to_string(), bytes: text.into_bytes() };
-        Subject::of(Model::One(text)).unwrap_or_else(|stop| panic!("{}", stop.message))
+    fn shape(counters: u8, clocks: u8, ceiling: usize) -> Shape {
+        Shape { clocks, counters, ceiling, ..Shape::default() }
+    }
+
+    fn row(choice: Option<u8>, location: u8, counters: [u8; 4], clocks: [u8; 4], elapsed: usize) -> Row {
+        Row { choice, label: 0, state: State { location, counters, clocks }, elapsed }
     }
 
     #[test]
     fn step_bytes_are_delays_up_to_the_ceiling_and_then_edges() {
-        let whole = subject().whole;
-        let choices: Vec<String> = [0, 4, 5, 6].iter().map(|byte| choice(&whole, *byte)).collect();
-        assert_eq!(choices, ["delay 0", "delay 4", "edge 0: 0 -> 1", "edge 1: 1 -> 1"]);
-        assert_eq!(labelled("edge 0".to_string(), &whole.names, 0), "edge 0");
-        assert_eq!(labelled("edge 0".to_string(), &whole.names, 15), "edge 0, label 15");
+        assert_eq!(choice(4, 0, 0), "delay 0");
+        assert_eq!(choice(4, 4, 0), "delay 4");
+        assert_eq!(choice(4, 5, 0), "edge 0");
+        assert_eq!(choice(31, 63, 0), "edge 31");
+    }
+
+    #[test]
+    fn labels_other_than_0_stand_beside_their_edges() {
+        assert_eq!(choice(4, 5, 1), "edge 0, label 1");
+        assert_eq!(choice(31, 63, 15), "edge 31, label 15");
+        let rows = [row(None, 0, [0; 4], [0; 4], 0), Row { label: 9, ..row(Some(2), 1, [0; 4], [0; 4], 0) }];
+        let expected = "step  choice           location  elapsed\n\
+                        \u{20}  0  -                       0        0\n\
+                        \u{20}  1  edge 0, label 9         1        0\n";
+        assert_eq!(table(&shape(0, 0, 1), &rows), expected);
+    }
+
+    #[test]
+    fn each_edge_has_the_label_of_its_own_line() {
+        let text = b"edges=3\nfrom=0\nto=0\nlabel=15\nwhen=-\nfrom=1\nto=1\nlabel=0\nwhen=-\nfrom=2\nto=2\nlabel=7\n";
+        assert_eq!([0, 1, 2, 3].map(|edge| label(text, edge)), [15, 0, 7, 0]);
+    }
+
+    #[test]
+    fn columns_are_as_many_as_declared() {
+        let rows = [row(None, 0, [0; 4], [0; 4], 0), row(Some(2), 1, [0; 4], [0; 4], 0)];
+        let expected = "step  choice  location  elapsed\n   0  -              0        0\n   1  edge 0         1        0\n";
+        assert_eq!(table(&shape(0, 0, 1), &rows), expected);
     }
 
     #[test]
     fn a_clock_at_the_ceiling_is_marked_and_a_counter_is_not() {
-        assert_eq!([clock(4, 3), clock(4, 4), clock(31, 31)], ["3", "4+", "31+"]);
-        let row = |choice, location, counters, clocks, elapsed| {
-            let state = State { location, counters, clocks };
-            Row { choice, label: 0, state, elapsed }
-        };
-        let rows = [
-            row(None, 0, [4, 0, 0, 0], [0, 3, 0, 0], 0),
-            row(Some(4), 0, [4, 31, 0, 0], [4, 4, 0, 0], 4),
-            row(Some(5), 1, [4, 31, 0, 0], [4, 4, 0, 0], 4),
-        ];
-        let expected = "step  choice          location  v0  v1  x0  x1  elapsed\n\
-                        \u{20}  0  -                      0   4   0   0   3        0\n\
-                        \u{20}  1  delay 4                0   4  31  4+  4+        4\n\
-                        \u{20}  2  edge 0: 0 -> 1         1   4  31  4+  4+        4\n";
-        assert_eq!(table::text(&columns(&subject().whole, &rows)), expected);
+        let rows = [row(None, 0, [4, 0, 0, 0], [0, 3, 0, 0], 0), row(Some(4), 15, [4, 31, 0, 0], [4, 4, 0, 0], 4)];
+        let expected = "step  choice   location  v0  v1  x0  x1  elapsed\n\
+                        \u{20}  0  -               0   4   0   0   3        0\n\
+                        \u{20}  1  delay 4        15   4  31  4+  4+        4\n";
+        assert_eq!(table(&shape(2, 2, 4), &rows), expected);
     }
 }

@@ -2,49 +2,24 @@
 
 mod common;
 
-use common::{bare_model as model, model_text, wirdoku, wirdoku_with_input, with_path, Folder, Outcome, SOLVERS};
+use common::{model, model_text, wirdoku, wirdoku_with_input, Folder, SOLVERS};
 
 const LOGGER_TRACE: &str = "\
 a run of 3 steps reaches the target
-step  choice          location  v0  x0  elapsed
-   0  -                      0   0   0        0
-   1  edge 0: 0 -> 1         1   0   0        0
-   2  delay 3                1   0   3        3
-   3  edge 2: 1 -> 3         3   0   3        3
+step  choice   location  v0  x0  elapsed
+   0  -               0   0   0        0
+   1  edge 0          1   0   0        0
+   2  delay 3         1   0   3        3
+   3  edge 2          3   0   3        3
 step bytes: 5 3 7
 ";
 
-/// cadical decides all bounds in one process.
-const LOGGER_CUBES: &str = "\
-bounds 1 to 64 in one file: 1227 variables, 8536 clauses
-bound 1: unsatisfiable
-bound 2: unsatisfiable
-bound 3: satisfiable
-";
-
-/// Other solvers are given a list at a time. Their run for 4 steps may reach the target after 3, and then 3 need not be asked about.
-const LOGGER_LISTS: &str = "\
+const LOGGER_PROGRESS: &str = "\
+bound 0: 11 variables, 25 clauses, unsatisfiable
 bound 1: 30 variables, 158 clauses, unsatisfiable
 bound 2: 49 variables, 291 clauses, unsatisfiable
-bound 4: 87 variables, 557 clauses, satisfiable
+bound 3: 68 variables, 424 clauses, satisfiable
 ";
-const LOGGER_THIRD: &str = "bound 3: 68 variables, 424 clauses, satisfiable\n";
-
-/// The line after the trace of a run that is said to be a shortest one.
-fn shortest(solver: &str) -> String {
-    format!("(walked by proved code; that no shorter run does is the word of {}, which is not checked)\n", solver)
-}
-
-fn assert_logger_progress(solver: &str, outcome: &Outcome) {
-    let progress = outcome.progress();
-    assert_ne!(progress, outcome.err, "there is a time in each line");
-    if solver == "cadical" {
-        assert_eq!(progress, LOGGER_CUBES);
-    } else {
-        let rest = progress.strip_prefix(LOGGER_LISTS).unwrap_or_else(|| panic!("{}", progress));
-        assert!(["", LOGGER_THIRD].contains(&rest), "{}", progress);
-    }
-}
 
 /// A clock that must show more than 3, so the ceiling is 4; then two rounds that count v0 up to 2.
 const SLOW: &str = "locations=2\ninit=0\ntarget=1\nclocks=1\nvars=1\nvar=2,0\ninv=-\ninv=-\nedges=2\n\
@@ -60,36 +35,32 @@ fn the_shortest_run_of_the_logger() {
     for solver in SOLVERS {
         let outcome = wirdoku(&["check", &model("logger_b.txt"), "--solver", solver]);
         assert_eq!(outcome.status, 10, "{:?}", outcome);
-        assert_eq!(outcome.out, format!("{}{}", LOGGER_TRACE, shortest(solver)));
-        assert_logger_progress(solver, &outcome);
+        assert_eq!(outcome.out, LOGGER_TRACE);
+        assert_eq!(outcome.err, LOGGER_PROGRESS);
     }
 }
 
 #[test]
 fn the_usual_solver_and_quiet() {
     let outcome = wirdoku(&["check", &model("logger_b.txt"), "--quiet"]);
-    let expected = format!("{}{}", LOGGER_TRACE, shortest("cadical"));
-    assert_eq!((outcome.status, outcome.out, outcome.err.as_str()), (10, expected, ""));
+    assert_eq!((outcome.status, outcome.out.as_str(), outcome.err.as_str()), (10, LOGGER_TRACE, ""));
 }
 
 #[test]
 fn model_a_at_its_first_bounds() {
-    let found =
-        "a run of 1 step reaches the target\nstep  choice          location  elapsed\n   0  -                      0        0\n\
-                 \u{20}  1  edge 0: 0 -> 1         1        0\nstep bytes: 2\n(walked by proved code";
+    let found = "a run of 1 step reaches the target\nstep  choice  location  elapsed\n   0  -              0        0\n\
+                 \u{20}  1  edge 0         1        0\nstep bytes: 2\n";
     for solver in SOLVERS {
         let path = model("a.txt");
-        let no_shorter = ", and so was the empty run, which does not reach it";
-        for (bounds, shorter) in [(&["--up-to", "1"][..], no_shorter), (&["--bound", "1"], ""), (&[], no_shorter)] {
+        for bounds in [&["--up-to", "1"][..], &["--bound", "1"], &[]] {
             let arguments = [&["check", &path, "--solver", solver, "--quiet"], bounds].concat();
             let outcome = wirdoku(&arguments);
-            assert_eq!((outcome.status, outcome.out), (10, format!("{}{})\n", found, shorter)));
+            assert_eq!((outcome.status, outcome.out.as_str()), (10, found), "{:?}", outcome);
         }
         let outcome = wirdoku(&["check", &path, "--solver", solver, "--bound", "0"]);
-        let none = "no run of exactly 0 steps; longer runs were not looked at\n";
-        let expected = format!("{}(the word of {}, which is not checked)\n", none, solver);
-        assert_eq!((outcome.status, &outcome.out), (20, &expected));
-        assert_eq!(outcome.progress(), "bound 0: 2 variables, 4 clauses, unsatisfiable\n");
+        let expected = format!("no run of exactly 0 steps\n(the word of {}, which is not checked)\n", solver);
+        assert_eq!((outcome.status, outcome.out), (20, expected));
+        assert_eq!(outcome.err, "bound 0: 2 variables, 4 clauses, unsatisfiable\n");
     }
 }
 
@@ -98,23 +69,15 @@ fn no_run_within_the_bounds() {
     let folder = Folder::new();
     let closed = folder.file("closed.txt", CLOSED.as_bytes());
     for solver in SOLVERS {
-        let word = format!("; longer runs were not looked at\n(the word of {}, which is not checked)\n", solver);
+        let word = format!("(the word of {}, which is not checked)\n", solver);
         let outcome = wirdoku(&["check", &model("logger_b.txt"), "--up-to", "2", "--solver", solver]);
-        assert_eq!((outcome.status, outcome.out), (20, format!("no run of at most 2 steps{}", word)));
+        assert_eq!((outcome.status, outcome.out), (20, format!("no run up to 2 steps\n{}", word)));
         let outcome = wirdoku(&["check", &closed, "--solver", solver]);
-        assert_eq!((outcome.status, &outcome.out), (20, &format!("no run of at most 64 steps{}", word)));
-        let progress = outcome.progress();
-        // a line on the file and one on each bound, or one on each of 1, 2, 4, .. 64
-        assert_eq!(progress.lines().count(), if solver == "cadical" { 65 } else { 7 }, "{}", progress);
-        assert_eq!(
-            progress.lines().filter(|line| line.ends_with("unsatisfiable")).count(),
-            if solver == "cadical" { 64 } else { 7 }
-        );
+        assert_eq!((outcome.status, outcome.out), (20, format!("no run up to 64 steps\n{}", word)));
+        assert_eq!(outcome.err.lines().count(), 65);
+        assert!(outcome.err.lines().all(|line| line.ends_with("unsatisfiable")), "{}", outcome.err);
         let outcome = wirdoku(&["check", &closed, "--bound", "64", "--solver", solver, "--quiet"]);
-        let none = format!("no run of exactly 64 steps, so none of fewer{}", word);
-        assert_eq!((outcome.status, outcome.out), (20, none));
-        let outcome = wirdoku(&["check", &closed, "--bound", "1", "--solver", solver, "--quiet"]);
-        assert_eq!(outcome.out, format!("no run of exactly 1 step, so none of fewer{}", word));
+        assert_eq!((outcome.status, outcome.out), (20, format!("no run of exactly 64 steps\n{}", word)));
     }
 }
 
@@ -124,19 +87,19 @@ fn a_clock_at_the_ceiling_and_the_ticks_that_passed() {
     let slow = folder.file("slow.txt", SLOW.as_bytes());
     let expected = "\
 a run of 6 steps reaches the target
-step  choice          location  v0  x0  elapsed
-   0  -                      0   0   0        0
-   1  delay 4                0   0  4+        4
-   2  edge 0: 0 -> 0         0   1   0        4
-   3  delay 4                0   1  4+        8
-   4  edge 0: 0 -> 0         0   2   0        8
-   5  delay 4                0   2  4+       12
-   6  edge 1: 0 -> 1         1   2  4+       12
+step  choice   location  v0  x0  elapsed
+   0  -               0   0   0        0
+   1  delay 4         0   0  4+        4
+   2  edge 0          0   1   0        4
+   3  delay 4         0   1  4+        8
+   4  edge 0          0   2   0        8
+   5  delay 4         0   2  4+       12
+   6  edge 1          1   2  4+       12
 step bytes: 4 5 4 5 4 6
 ";
     for solver in SOLVERS {
         let outcome = wirdoku(&["check", &slow, "--solver", solver, "--quiet"]);
-        assert_eq!((outcome.status, outcome.out), (10, format!("{}{}", expected, shortest(solver))));
+        assert_eq!((outcome.status, outcome.out.as_str()), (10, expected), "{:?}", outcome);
     }
 }
 
@@ -145,15 +108,15 @@ step bytes: 4 5 4 5 4 6
 fn the_checkpoint_of_the_raised_counter() {
     let expected = "\
 this run of 7 steps reaches the target
-step  choice          location  v0  v1  v2  x0  elapsed
-   0  -                      0   0   0   0   0        0
-   1  delay 1                0   0   0   0   1        1
-   2  edge 0: 0 -> 1         1   1   1   0   0        1
-   3  delay 3                1   1   1   0   3        4
-   4  edge 2: 1 -> 2         2   1   1   0   3        4
-   5  edge 3: 2 -> 3         3   1   1   1   3        4
-   6  edge 4: 3 -> 3         3   0   1   0   3        4
-   7  edge 5: 3 -> 4         4   0   1   0   3        4
+step  choice   location  v0  v1  v2  x0  elapsed
+   0  -               0   0   0   0   0        0
+   1  delay 1         0   0   0   0   1        1
+   2  edge 0          1   1   1   0   0        1
+   3  delay 3         1   1   1   0   3        4
+   4  edge 2          2   1   1   0   3        4
+   5  edge 3          3   1   1   1   3        4
+   6  edge 4          3   0   1   0   3        4
+   7  edge 5          4   0   1   0   3        4
 step bytes: 1 5 3 7 8 9 10
 ";
     check_run("boot_logger_checkpoint.txt", &["1", "5", "3", "7", "8", "9", "10"], expected);
@@ -164,13 +127,13 @@ step bytes: 1 5 3 7 8 9 10
 fn the_saved_stopwatch_goes_on() {
     let expected = "\
 this run of 5 steps reaches the target
-step  choice          location  x0  x1  x2  elapsed
-   0  -                      0   0   0   0        0
-   1  edge 0: 0 -> 1         1   0   0   0        0
-   2  delay 3                1   3   3   3        3
-   3  edge 2: 1 -> 2         2   0   3   3        3
-   4  delay 3                2   3   6   6        6
-   5  edge 3: 2 -> 4         4   3   6   6        6
+step  choice   location  x0  x1  x2  elapsed
+   0  -               0   0   0   0        0
+   1  edge 0          1   0   0   0        0
+   2  delay 3         1   3   3   3        3
+   3  edge 2          2   0   3   3        3
+   4  delay 3         2   3   6   6        6
+   5  edge 3          4   3   6   6        6
 step bytes: 8 3 10 3 11
 ";
     check_run("retry_saved.txt", &["8", "3", "10", "3", "11"], expected);
@@ -181,36 +144,40 @@ step bytes: 8 3 10 3 11
 fn labels_stand_beside_their_edges() {
     let expected = "\
 a run of 3 steps reaches the target
-step  choice                    location  v0  x0  elapsed
-   0  -                                0   0   0        0
-   1  edge 0: 0 -> 1, label 15         1   0   0        0
-   2  delay 3                          1   0   3        3
-   3  edge 2: 1 -> 3, label 2          3   0   3        3
+step  choice            location  v0  x0  elapsed
+   0  -                        0   0   0        0
+   1  edge 0, label 15         1   0   0        0
+   2  delay 3                  1   0   3        3
+   3  edge 2, label 2          3   0   3        3
 step bytes: 5 3 7
 ";
     let text = model_text("logger_b.txt").replace("to=1\nlabel=0", "to=1\nlabel=15").replace("to=3\nlabel=0", "to=3\nlabel=2");
     for solver in SOLVERS {
         let outcome = wirdoku_with_input(&["check", "-", "--solver", solver], text.as_bytes());
-        assert_eq!((outcome.status, &outcome.out), (10, &format!("{}{}", expected, shortest(solver))));
-        assert_logger_progress(solver, &outcome);
+        assert_eq!(
+            (outcome.status, outcome.out.as_str(), outcome.err.as_str()),
+            (10, expected, LOGGER_PROGRESS),
+            "{:?}",
+            outcome
+        );
     }
 }
 
 /// The labels of the shipped model, beside edges that are private.
 #[test]
 fn kicks_and_a_watchdog_that_fires() {
-    let expected = "    the run ends in 1, and the target is 4
-step  choice                   location  v0  v1  x0  x1  elapsed
-   0  -                               1   0   0   0   0        0
-   1  delay 1                         1   0   0   1   1        1
-   2  edge 1: 1 -> 2, label 1         2   1   0   0   0        1
-   3  delay 3                         2   1   0   3   3        4
-   4  edge 2: 2 -> 0                  0   1   1   3   0        4
-   5  delay 4                         0   1   1   7   4        8
-   6  edge 0: 0 -> 1                  1   1   1   7   0        8
-   7  delay 1                         1   1   1   8   1        9
-   8  edge 5: 1 -> 5, label 2         5   1   1   8   1        9
-   9  edge 7: 5 -> 1, label 3         1   0   0   0   0        9
+    let expected = "\
+step  choice           location  v0  v1  x0  x1  elapsed
+   0  -                       1   0   0   0   0        0
+   1  delay 1                 1   0   0   1   1        1
+   2  edge 1, label 1         2   1   0   0   0        1
+   3  delay 3                 2   1   0   3   3        4
+   4  edge 2                  0   1   1   3   0        4
+   5  delay 4                 0   1   1   7   4        8
+   6  edge 0                  1   1   1   7   0        8
+   7  delay 1                 1   1   1   8   1        9
+   8  edge 5, label 2         5   1   1   8   1        9
+   9  edge 7, label 3         1   0   0   0   0        9
 step bytes: 1 11 3 12 4 10 1 15 17
 ";
     let path = model("boot_logger_kicked.txt");
@@ -233,23 +200,13 @@ fn check_run(name: &str, run: &[&str], expected: &str) {
     }
 }
 
-/// What the empty run decides needs no solver, and none is looked for.
 #[test]
 fn a_run_of_no_steps() {
     let text = model_text("a.txt").replace("init=0", "init=1");
-    let table = "step  choice  location  elapsed\n   0  -              1        0\nstep bytes:\n(walked by proved code)\n";
-    let expected = format!("a run of 0 steps reaches the target\n{}", table);
-    let folder = Folder::new();
-    let path = folder.file("model.txt", text.as_bytes());
-    for bounds in [&[][..], &["--up-to", "0"], &["--solver", "minisat"]] {
-        let outcome = with_path(&folder, &[&["check", &path], bounds].concat());
-        assert_eq!((outcome.status, outcome.out, outcome.err.as_str()), (10, expected.clone(), ""));
-    }
-    let outcome = wirdoku(&["check", &path, "--bound", "0", "--quiet"]);
-    assert_eq!((outcome.status, outcome.out), (10, expected));
-    let outcome = with_path(&folder, &["check", &model("a.txt"), "--up-to", "0"]);
-    let none = "no run of at most 0 steps; longer runs were not looked at\n(the empty run was walked by proved code)\n";
-    assert_eq!((outcome.status, outcome.out.as_str(), outcome.err.as_str()), (20, none, ""));
+    let outcome = wirdoku_with_input(&["check", "-"], text.as_bytes());
+    assert_eq!(outcome.status, 10, "{:?}", outcome);
+    let table = "step  choice  location  elapsed\n   0  -              1        0\nstep bytes:\n";
+    assert_eq!(outcome.out, format!("a run of 0 steps reaches the target\n{}", table));
 }
 
 #[test]
@@ -261,7 +218,6 @@ fn a_found_run_is_taken_by_walk() {
                 assert_eq!(outcome.status, 10, "{:?}", outcome);
                 let (first, rest) = outcome.out.split_once('\n').unwrap();
                 assert_eq!(first, format!("a run of {} steps reaches the target", bound));
-                let rest = rest.strip_suffix("(walked by proved code)\n").unwrap();
                 let bytes = rest.lines().last().unwrap().strip_prefix("step bytes:").unwrap();
                 let path = model(name);
                 let mut arguments = vec!["walk", &path];
@@ -278,19 +234,19 @@ fn a_found_run_is_taken_by_walk() {
 #[test]
 fn walks_that_miss_the_target() {
     let cases = [
-        (&["5", "4", "7"][..], "refusal 28, step 2: ", 2, 2),
-        (&["5", "3"], "refusal 30: ", 1, 3),
-        (&["5", "3", "8"], "refusal 27, step 3: ", 1, 3),
-        (&[], "refusal 30: ", 1, 1),
-        (&["255"], "refusal 27, step 1: ", 1, 1),
+        (&["5", "4", "7"][..], "refusal 28, step 2: ", 2),
+        (&["5", "3"], "refusal 30: ", 3),
+        (&["5", "3", "8"], "refusal 27, step 3: ", 3),
+        (&[], "refusal 30: ", 1),
+        (&["255"], "refusal 27, step 1: ", 1),
     ];
-    for (steps, refusal, reasons, rows) in cases {
+    for (steps, refusal, rows) in cases {
         let path = model("logger_b.txt");
         let outcome = wirdoku(&[&["walk", &path], steps].concat());
         assert_eq!((outcome.status, outcome.err.as_str()), (20, ""), "{:?}", outcome);
         assert!(outcome.out.starts_with(&format!("no run into the target: {}", refusal)), "{:?}", outcome);
-        // the verdict, the refused step and why, the headings, a row for each state that is reached, the bytes
-        assert_eq!(outcome.out.lines().count(), reasons + rows + 3, "{:?}", outcome);
+        // the verdict, the headings, a row for each state that is reached, the bytes
+        assert_eq!(outcome.out.lines().count(), rows + 3, "{:?}", outcome);
     }
 }
 
@@ -300,23 +256,15 @@ fn an_initial_state_that_breaks_its_invariant() {
     let outcome = wirdoku_with_input(&["walk", "-"], text.as_bytes());
     assert_eq!(outcome.status, 20);
     assert!(outcome.out.starts_with("no run into the target: refusal 29: "), "{:?}", outcome);
-    assert_eq!(outcome.out.lines().skip(1).collect::<Vec<_>>(), ["    invariant of location 0: x0>=1 fails, x0 is 0"]);
-    let none =
-        "no run at all: the initial state breaks its invariant (refusal 29)\n    invariant of location 0: x0>=1 fails, x0 is 0\n";
-    let folder = Folder::new();
-    let path = folder.file("model.txt", text.as_bytes());
-    for bounds in [&[][..], &["--bound", "3"], &["--bound", "0"], &["--up-to", "0"], &["--solver", "picosat"]] {
-        let outcome = with_path(&folder, &[&["check", &path], bounds].concat());
-        assert_eq!((outcome.status, outcome.out.as_str(), outcome.err.as_str()), (20, none, ""));
-    }
-    let outcome = with_path(&folder, &["check", &path, "--bound", "65"]);
-    outcome.assert_stopped(2, &format!("{}: refusal 21: ", path));
+    assert_eq!(outcome.out.lines().count(), 1);
+    let outcome = wirdoku_with_input(&["check", "-", "--quiet"], text.as_bytes());
+    assert_eq!((outcome.status, outcome.out.lines().next()), (20, Some("no run up to 64 steps")));
 }
 
 #[test]
 fn a_long_delay_goes_on_counting_ticks() {
     let outcome = wirdoku(&["walk", &model("logger_b.txt"), "4", "4", "1"]);
-    let rows: Vec<&str> = outcome.out.lines().skip(3).take(4).collect();
+    let rows: Vec<&str> = outcome.out.lines().skip(2).take(4).collect();
     let expected = [
         "   0  -               0   0   0        0",
         "   1  delay 4         0   0  4+        4",
@@ -359,15 +307,13 @@ fn help_says_what_is_proved() {
             "usage:",
             "exit status:",
             "What is proved:",
-            "What is not proved:",
+            "What is not proved: the solver",
             "taken at its word",
         ] {
             assert!(outcome.out.contains(part), "{}", part);
         }
-        assert!(outcome.out.lines().all(|line| line.len() <= 116));
+        assert!(outcome.out.lines().all(|line| line.len() <= 110));
     }
     let outcome = wirdoku(&["--version"]);
-    let lines: Vec<&str> = outcome.out.lines().collect();
-    assert_eq!((outcome.status, lines.len(), lines[0]), (0, 3, "wirdoku 0.2.0"));
-    assert!(lines[1].starts_with("commit ") && lines[2].starts_with("toolchain "), "{:?}", lines);
+    assert_eq!((outcome.status, outcome.out.as_str()), (0, "wirdoku 0.1.0\n"));
 }

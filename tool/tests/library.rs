@@ -75,10 +75,15 @@ fn structs_have_the_headers_layout() {
         + &layout!("wirdoku_state", State::default(), location counters clocks)
         + &layout!("wirdoku_state_answer", StateAnswer::default(), number line state)
         + &layout!("wirdoku_output", OutputAnswer::default(), number line outcome)
-        + &layout!("wirdoku_refutation", RefutationAnswer::default(), number line words outcome)
         + &layout!("wirdoku_pair", PairAnswer::default(), number text line)
         + &layout!("wirdoku_part_steps", PartSteps::default(), number line first second);
     assert_eq!(found, include_str!("../../compare/c/layout.txt"));
+}
+
+#[test]
+fn the_answer_on_refutations_has_the_headers_layout() {
+    let found = layout!("wirdoku_refutation", RefutationAnswer::default(), number line words outcome);
+    assert_eq!(found, include_str!("../../compare/c/refutation_layout.txt"));
 }
 
 #[test]
