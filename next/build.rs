@@ -32,6 +32,7 @@ fn note_version(root: &Path) {
         "next/build.rs",
         "next/src",
         "next/version",
+        "target/staticlib/proved",
     ];
     let crates = inside(&root.join("crates"));
     // what rt writes stands in each crate's folder too

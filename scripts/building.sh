@@ -1,8 +1,8 @@
 # shellcheck shell=sh
-# Sourced by scripts/wirdoku, scripts/build-tool and next/wirdoku, which name the top of the repository in `root`: whether the command is built,
-# and its build, by one call at a time, with progress on standard error. `next` in `folder` means the command of that folder.
-: "${root:?}"
-folder=${folder:-tool}
+# Sourced by scripts/wirdoku, scripts/build-tool, scripts/build-steps, scripts/install and next/wirdoku, which name the top of the repository in
+# `root` and the command's folder, tool or next, in `folder`: whether the command is built, and its build, by one call at a time, with progress
+# on standard error.
+: "${root:?}" "${folder:?}"
 case $folder in
 next) package=wirdoku-next stamp=rust-target/built-next sources='tool/Cargo.toml tool/build.rs tool/src next/Cargo.toml next/build.rs next/src' ;;
 *) package=wirdoku stamp=rust-target/built sources='tool/Cargo.toml tool/build.rs tool/src' ;;

@@ -1,5 +1,5 @@
-"""The first build of the command as its user sees it (scripts/wirdoku), with stand-ins for rt and cargo; and what the next command answers
-before it is built (next/wirdoku)."""
+"""The first build of the command as its user sees it (scripts/wirdoku), with stand-ins for rt and cargo; that of the next command
+(next/wirdoku), and what it answers before."""
 import os
 import re
 import shutil
@@ -66,10 +66,10 @@ def versions(copy):
     check("version in a folder of another repository", lines("unknown"), copy.run(["sh", inner + "/next/version"]))
 
 
-def plain(copy):
+def plain(copy, script="scripts/wirdoku", source="tool/src/main.rs"):
     """A build without a terminal, then the command; afterwards only what has changed is built."""
     log = copy.root + "/rust-target/build.log"
-    os.symlink(copy.root + "/scripts/wirdoku", copy.folder + "/linked")
+    os.symlink(os.path.join(copy.root, script), copy.folder + "/linked")
     call = [copy.folder + "/linked", "check", "m"]
     ran = "check m in %s: text\n" % os.path.realpath(copy.folder)
     status, out, err = copy.run(call, cwd=copy.folder, data="text")
@@ -83,7 +83,7 @@ def plain(copy):
     check("nothing is left", [], copy.left())
     check("the next call starts at once", (10, ran, ""), copy.run(call, cwd=copy.folder, data="text"))
     check("--version is the command's own once it is built", 10, copy.run(call[:1] + ["--version"])[0])
-    os.utime(copy.root + "/tool/src/main.rs")
+    os.utime(os.path.join(copy.root, source))
     status, _, err = copy.run(call)
     check("only the command is built again", (10, "wirdoku: building the command; log: " + log), (status, err.splitlines()[0]))
     check("rt was not asked again", ["all", "lib", "version"], copy.calls())

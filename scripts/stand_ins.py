@@ -51,8 +51,9 @@ PROVER = "#!/bin/sh\nsleep 0.02\n"
 CARGO = """#!/bin/sh
 : >"$TMPDIR/of-cargo"
 [ -z "${FAKE_CARGO_FAIL-}" ] || { echo 'error: could not compile `wirdoku`'; exit 101; }
+for package; do :; done
 mkdir -p rust-target/release
-cp "$FAKE/wirdoku" rust-target/release/wirdoku
+cp "$FAKE/wirdoku" "rust-target/release/$package"
 """
 # the command that such a build gives: it fails if it holds the lock of its build
 WIRDOKU = """#!/bin/sh
@@ -135,7 +136,7 @@ class Copy:
     def left(self):
         """What a build has left behind: processes, and files beside the log, the lock and what is built."""
         waited = until(lambda: not self.processes())
-        built = {"build.lock", "build.log", "built", "release"}
+        built = {"build.lock", "build.log", "built", "built-next", "release"}
         return ([] if waited else self.processes()) + os.listdir(self.temporary) + sorted(set(os.listdir(self.root + "/rust-target")) - built)
 
     def calls(self):

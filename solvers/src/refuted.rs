@@ -1,4 +1,4 @@
-//! Refutations by cadical, turned into lemmas with hints: the proved call, the
+//! Refutations by cadical, turned into lemmas with hints: the proved call, the next
 //! command's plain checker and the reference program, which writes a list of its
 //! own, accept them and agree on damaged copies. A list that can be satisfied is
 //! never refuted.
