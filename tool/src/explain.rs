@@ -54,7 +54,7 @@ pub fn sentence(number: u8) -> Option<&'static str> {
 }
 
 /// What the place of a refusal counts; none for a refusal without a place.
-fn place_name(number: u8) -> Option<&'static str> {
+pub fn place_name(number: u8) -> Option<&'static str> {
     match number {
         2..=8 | 33..=35 => Some("line"),
         24 => Some("byte"),
@@ -76,20 +76,25 @@ pub fn refusal(number: u8, place: usize) -> String {
 /// A refusal of a text or of a solver's output: the line above, and below it the text's line and what is wrong there. Line 0 is no
 /// line.
 pub fn text_refusal(text: &[u8], number: u8, line: usize) -> String {
+    refusal_with(text, number, line, &hints(text, number, line))
+}
+
+/// The same with these words on what is wrong there.
+pub fn refusal_with(text: &[u8], number: u8, line: usize, hints: &[String]) -> String {
     let mut report = refusal(number, line);
     if line > 0 {
         report.push_str("\n    ");
         report.push_str(&shown_line(text, line));
     }
-    for hint in hints(text, number, line) {
+    for hint in hints {
         report.push_str("\n    ");
-        report.push_str(&hint);
+        report.push_str(hint);
     }
     report
 }
 
 /// A line of the text without its LF, and whether it has one; none if the text has fewer lines.
-fn line_of(text: &[u8], line: usize) -> Option<(&[u8], bool)> {
+pub fn line_of(text: &[u8], line: usize) -> Option<(&[u8], bool)> {
     let mut pieces = text.split_inclusive(|byte| *byte == b'\n');
     let piece = pieces.nth(line.checked_sub(1)?)?;
     Some(match piece.split_last() {
@@ -114,14 +119,15 @@ fn shown_line(text: &[u8], line: usize) -> String {
 }
 
 /// Unlike Rust's own escapes these leave quotes as they are.
-fn escaped(byte: u8) -> Vec<char> {
+pub fn escaped(byte: u8) -> Vec<char> {
     if byte == b'\'' || byte == b'"' {
         return vec![char::from(byte)];
     }
     std::ascii::escape_default(byte).map(char::from).collect()
 }
 
-fn hints(text: &[u8], number: u8, line: usize) -> Vec<String> {
+/// What is wrong in a line, as far as its end, its key or its beginning shows it.
+pub fn hints(text: &[u8], number: u8, line: usize) -> Vec<String> {
     let mut hints = Vec::new();
     let found = line_of(text, line);
     if let (2, Some(key)) = (number, due_key(text, line)) {
@@ -158,7 +164,8 @@ fn due_key(text: &[u8], line: usize) -> Option<&'static str> {
     })
 }
 
-fn value_of(text: &[u8], line: usize, key: &str) -> Option<usize> {
+/// The number in a line, if the line has this key.
+pub fn value_of(text: &[u8], line: usize, key: &str) -> Option<usize> {
     let (bytes, _) = line_of(text, line)?;
     std::str::from_utf8(bytes).ok()?.strip_prefix(key)?.parse().ok()
 }

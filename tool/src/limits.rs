@@ -1,11 +1,11 @@
 //! Which limits a composed model would pass, for the message of refusal 38. That it is refused is the library's answer; what is said here
 //! of it is counted from the two texts, which the proved reader has accepted.
 
-const LOCATIONS: usize = 16;
-const CLOCKS: usize = 4;
-const COUNTERS: usize = 4;
-const EDGES: usize = 32;
-const ATOMS: usize = 4;
+pub const LOCATIONS: usize = 16;
+pub const CLOCKS: usize = 4;
+pub const COUNTERS: usize = 4;
+pub const EDGES: usize = 32;
+pub const ATOMS: usize = 4;
 
 /// What an accepted text declares: numbers, the atoms of each invariant, and label and atoms of each edge.
 #[derive(Default)]
