@@ -2,7 +2,7 @@
 use mathlib.Core.Path.{◌≡◌, refl, sym, ap, ◌∙◌}
 use mathlib.Core.Bool.{Bool, true, false, not, cond}
 use mathlib.Core.List.{List, ◌++◌}
-use mathlib.Core.Option.{Option, none, some}
+use Rattle.std.specs.Prelude.{Option, None, Some}
 use Prim.Native.Nat.{ℕ, ◌≤◌}
 use native.Mathlib.Omega.{arith}
 use lib.Dec.{T, ltb, eqb}
@@ -46,10 +46,10 @@ decode_accepted m k a n =
     go false b l x s f h = absurd (omega arith)
     go true true l x s f h = absurd (omega arith)
     go true false false x s f h = absurd (omega arith)
-    go true false true (some i) s f h = absurd (omega arith)
-    go true false true none true f h = absurd (omega arith)
-    go true false true none false (some i) h = absurd (omega arith)
-    go true false true none false none h = refl
+    go true false true (Some i) s f h = absurd (omega arith)
+    go true false true None true f h = absurd (omega arith)
+    go true false true None false (Some i) h = absurd (omega arith)
+    go true false true None false None h = refl
 
 -- ---- emission's report
 module _ (m : Model) (k room : ℕ) where

@@ -8,7 +8,7 @@ use mathlib.Core.Path.{◌≡◌}
 use mathlib.Core.Logic.{◌↔◌}
 use mathlib.Core.List.{List, [], ◌∷◌, ◌++◌}
 use mathlib.Core.Bool.{true}
-use mathlib.Core.Option.{some}
+use Rattle.std.specs.Prelude.{Some}
 use Prim.Native.Nat.{ℕ, ◌-◌, ◌≤◌, ◌<◌, max}
 use lib.Dec.{T}
 use lib.IntN.{ℤ}
@@ -282,7 +282,7 @@ steps_as_parts = Product.steps_are_parts
 
 -- Walks, and runs: cut to a part, each is a walk, or a run, of that part, in which the other's lone edges are left out.
 pub walks_as_parts : (a b : Model) → T (well_formed a) → T (well_formed b) → T (fits a b) → (r : List ℕ) (s x y t : State) → JointState a b s
-    → Parts a b s x y → walk (composed a b) s r ≡ some t → WalksAsParts a b r x y t
+    → Parts a b s x y → walk (composed a b) s r ≡ Some t → WalksAsParts a b r x y t
 walks_as_parts = Product.walks_are_parts
 
 pub runs_as_parts : (a b : Model) → T (well_formed a) → T (well_formed b) → T (fits a b) → (r : List ℕ) → RunsAsParts a b r
@@ -357,7 +357,7 @@ written_order = Written.updated_items
 
 -- An edge in which no update reads a counter that is set earlier steps as if all updates read the values from before the edge, and is listed so.
 pub no_earlier_steps : (m : Model) → WellFormed m → (e : Edge) → WellFormedEdge m e → (s t : State) → Shaped m s → NoneEarlier m e
-    → (edge_step m e s ≡ some t) ↔ EdgeBy (λ i w. value s (counter w)) m e s t
+    → (edge_step m e s ≡ Some t) ↔ EdgeBy (λ i w. value s (counter w)) m e s t
 no_earlier_steps = StepLaws.no_earlier_steps
 
 pub no_earlier_lists : (width : ℕ → ℕ) (m : Model) (o c : ℕ) (e : Edge) → NoneEarlier m e
@@ -370,11 +370,11 @@ no_earlier_lists = SourcesBefore.no_earlier_lists
 -- ---- copies of clocks
 -- A clock that an edge makes a copy shows after the edge what its source showed before it, whatever the edge does to the source; also where it resets the
 -- source, which then shows 0.
-pub copies_read_before : (m : Model) (e : Edge) (s t : State) → edge_step m e s ≡ some t → (i w : ℕ) → i < 4 → reset_at e i ≡ Copy w
+pub copies_read_before : (m : Model) (e : Edge) (s t : State) → edge_step m e s ≡ Some t → (i w : ℕ) → i < 4 → reset_at e i ≡ Copy w
     → value t (clock i) ≡ value s (clock w)
 copies_read_before = Copies.copies_read_before
 
-pub copy_beside_reset : (m : Model) (e : Edge) (s t : State) → edge_step m e s ≡ some t → (i w : ℕ) → i < 4 → w < 4 → reset_at e i ≡ Copy w
+pub copy_beside_reset : (m : Model) (e : Edge) (s t : State) → edge_step m e s ≡ Some t → (i w : ℕ) → i < 4 → w < 4 → reset_at e i ≡ Copy w
     → reset_at e w ≡ Reset → (value t (clock i) ≡ value s (clock w)) × (value t (clock w) ≡ 0)
 copy_beside_reset = Copies.copy_beside_reset
 

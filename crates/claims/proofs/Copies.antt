@@ -1,6 +1,6 @@
 -- A copy of a clock reads the values before the edge.
 use mathlib.Core.Path.{◌≡◌, ap, ◌∙◌}
-use mathlib.Core.Option.{some}
+use Rattle.std.specs.Prelude.{Some}
 use Prim.Native.Nat.{ℕ, ◌<◌}
 use Rattle.model.specs.declared.ClockUpdate.{ClockUpdate}
 use Rattle.model.specs.declared.ClockUpdate.TheVariants.{Reset, Copy}
@@ -11,7 +11,7 @@ use Rattle.model.specs.Record.{reset_at}
 use Rattle.model.specs.Automaton.{value, clock, new_clock, edge_step}
 use Rattle.model.proofs.StepLaws.{clock_stepped}
 
-module _ (m : Model) (e : Edge) (s t : State) (h : edge_step m e s ≡ some t) where
+module _ (m : Model) (e : Edge) (s t : State) (h : edge_step m e s ≡ Some t) where
   by_update : (i : ℕ) → i < 4 → (u : ClockUpdate) → reset_at e i ≡ u → value t (clock i) ≡ new_clock (λ x. value s (clock x)) (value s (clock i)) u
   by_update i l u c = clock_stepped m e s t h i l ∙ ap (new_clock (λ x. value s (clock x)) (value s (clock i))) c
 

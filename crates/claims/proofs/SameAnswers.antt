@@ -3,7 +3,7 @@
 use mathlib.Core.Path.{◌≡◌, refl, sym, ap, ap₂, ◌∙◌}
 use mathlib.Core.Bool.{not, cond}
 use mathlib.Core.List.{List, [], ◌∷◌, ◌++◌}
-use mathlib.Core.Option.{Option, none, some}
+use Rattle.std.specs.Prelude.{Option, None, Some}
 use Prim.Native.Nat.{ℕ, ◌+◌, ◌-◌}
 use lib.Dec.{T, ltb, leb}
 use lib.IntN.{ℤ}
@@ -104,8 +104,8 @@ module _ (f : Edge → Edge) (keeps : Keeps f) (m : Model) (ok : T (well_formed 
   walk_same s (b ∷ r) = λ i. and_then (step_same s b i) (λ t. walk_same t r i)
 
   ends_same : (x : Option State) → ends_in n x ≡ ends_in m x
-  ends_same none = refl
-  ends_same (some s) = refl
+  ends_same None = refl
+  ends_same (Some s) = refl
 
   runs_same : (r : List ℕ) → is_run n r ≡ is_run m r
   unfolding is_run

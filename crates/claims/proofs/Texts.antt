@@ -3,7 +3,7 @@
 use mathlib.Core.Path.{◌≡◌, refl}
 use mathlib.Core.Bool.{Bool, true, false, not, cond}
 use mathlib.Core.List.{List, [], ◌∷◌}
-use mathlib.Core.Option.{Option, none, some}
+use Rattle.std.specs.Prelude.{Option, None, Some}
 use Prim.Native.Nat.{ℕ, zero, suc, ◌+◌, ◌≤◌}
 use native.Mathlib.Omega.{arith}
 use lib.Dec.{T, ltb, leb, eqb}
@@ -277,8 +277,8 @@ module _ (m : Model) (ok : T (well_formed m)) where
           → Not20 (cond (not f) (step_reported 10 s) (cond c (step_reported 27 s) (maybe o (step_reported 28 s) (λ t. step_reported 0 t)))).number
       go false c o h = omega arith
       go true true o h = omega arith
-      go true false none h = omega arith
-      go true false (some t) h = omega arith
+      go true false None h = omega arith
+      go true false (Some t) h = omega arith
 
   steps_not : (r : List ℕ) (t : ℕ) (s : State) → Not20 (walk_steps m t s r).number
   unfolding walk_steps
@@ -292,8 +292,8 @@ module _ (m : Model) (ok : T (well_formed m)) where
       go : (x : Bool) (o : Option State) → ((u : State) → Not20 (walk_steps m (t + 1) u r).number)
           → Not20 (cond x (refusal 27 t) (maybe o (refusal 28 t) (λ u. walk_steps m (t + 1) u r))).number
       go true o f h = omega arith
-      go false none f h = omega arith
-      go false (some u) f h = f u h
+      go false None f h = omega arith
+      go false (Some u) f h = f u h
 
   pub walk_not : (r : List ℕ) → Not20 (walk_report m r).number
   unfolding walk_report
@@ -301,8 +301,8 @@ module _ (m : Model) (ok : T (well_formed m)) where
     where
       go : (l : Bool) (o : Option State) → Not20 (cond l (refusal 21 0) (maybe o (refusal 29 0) (λ s. walk_steps m 1 s r))).number
       go true o h = omega arith
-      go false none h = omega arith
-      go false (some s) h = steps_not r 1 s h
+      go false None h = omega arith
+      go false (Some s) h = steps_not r 1 s h
 
   pub decode_not : (k : ℕ) (a : List ℕ) (room : ℕ) → Not20 (decode_report m k a room).number
   unfolding decode_report
@@ -317,10 +317,10 @@ module _ (m : Model) (ok : T (well_formed m)) where
       go : (b l : Bool) (x : Option ℕ) (s : Bool) (f : Option ℕ) → Not20 (report b l x s f).number
       go true l x s f h = omega arith
       go false false x s f h = omega arith
-      go false true (some i) s f h = omega arith
-      go false true none true f h = omega arith
-      go false true none false (some i) h = omega arith
-      go false true none false none h = omega arith
+      go false true (Some i) s f h = omega arith
+      go false true None true f h = omega arith
+      go false true None false (Some i) h = omega arith
+      go false true None false None h = omega arith
 
   pub encode_not : (r : List ℕ) (room : ℕ) → Not20 (encode_report m r room).number
   unfolding encode_report

@@ -11,9 +11,6 @@ use Rattle.model.specs.declared.Update.{Update}
 use Rattle.model.specs.declared.Update.TheVariants.{Keep, Constant, Sum}
 use Rattle.model.specs.declared.ClockUpdate.{ClockUpdate}
 use Rattle.model.specs.declared.ClockUpdate.TheVariants.{Unchanged, Reset, Copy}
-use Rattle.model.specs.declared.AtomSlot.{AtomSlot}
-use Rattle.model.specs.declared.UpdateSlot.{UpdateSlot}
-use Rattle.model.specs.declared.ClockSlot.{ClockSlot}
 use Rattle.model.specs.declared.Counter.{Counter}
 use Rattle.model.specs.declared.Invariant.{Invariant}
 use Rattle.model.specs.declared.Edge.{Edge}
@@ -26,17 +23,17 @@ use Rattle.samples.specs.Models.{model_a}
 abbrev filled : {A : Type 0} → A → ℕ → List A → List A
 filled blank n l = l ++ replicate (n - length l) blank
 
-abbrev atoms : List Atom → List AtomSlot
+abbrev atoms : List Atom → List Atom
 atoms [] = []
-atoms (a ∷ l) = record { atom = a } ∷ atoms l
+atoms (a ∷ l) = a ∷ atoms l
 
-abbrev updates : List Update → List UpdateSlot
+abbrev updates : List Update → List Update
 updates [] = []
-updates (u ∷ l) = record { update = u } ∷ updates l
+updates (u ∷ l) = u ∷ updates l
 
-abbrev resets : List ClockUpdate → List ClockSlot
+abbrev resets : List ClockUpdate → List ClockUpdate
 resets [] = []
-resets (u ∷ l) = record { update = u } ∷ resets l
+resets (u ∷ l) = u ∷ resets l
 
 abbrev pub invariant : List Atom → Invariant
 invariant l = record { atoms = filled blank_atom 4 (atoms l) }

@@ -19,7 +19,6 @@ use Rattle.model.specs.declared.Update.{Update}
 use Rattle.model.specs.declared.Update.TheVariants.{Keep, Constant, Sum}
 use Rattle.model.specs.declared.ClockUpdate.{ClockUpdate}
 use Rattle.model.specs.declared.ClockUpdate.TheVariants.{Unchanged, Reset, Copy}
-use Rattle.model.specs.declared.AtomSlot.{AtomSlot}
 use Rattle.model.specs.declared.Edge.{Edge}
 use Rattle.model.specs.declared.Model.{Model}
 use Rattle.model.specs.Indexed.{list_below, all_below, sum_below}
@@ -133,7 +132,7 @@ unfolding order_formed
 order_below e h k l = (order_slot e ((all_below_lem (order_slot_formed e) 4).0 h)).slot_lt k l
 
 -- ---- slots that are formed, where 4 clocks and 4 counters are declared
-pub each_at : (atoms : List AtomSlot) → T (each_formed 4 4 atoms) → (k : ℕ) → k < 4 → T (atom_formed 4 4 (atom_at atoms k))
+pub each_at : (atoms : List Atom) → T (each_formed 4 4 atoms) → (k : ℕ) → k < 4 → T (atom_formed 4 4 (atom_at atoms k))
 unfolding each_formed
 each_at atoms h = (all_below_lem (λ k. atom_formed 4 4 (atom_at atoms k)) 4).0 h
 
@@ -159,7 +158,7 @@ one_at_most true = omega arith
 one_at_most false = omega arith
 
 -- there are 4 slots
-pub atom_count_le : (atoms : List AtomSlot) → atom_count atoms ≤ 4
+pub atom_count_le : (atoms : List Atom) → atom_count atoms ≤ 4
 unfolding atom_count
 atom_count_le atoms = sum_below_lem (λ k. cond (is_blank (atom_at atoms k)) 0 1) 4 1 (λ k l. one_at_most (is_blank (atom_at atoms k)))
 
@@ -203,12 +202,12 @@ reset_slot_more clocks u k p l h = subst T (in_first 4 (λ _. clock_update_forme
     (λ q. subst (λ (x : ClockUpdate). T (clock_update_formed 4 x)) (sym (hold_is u (no k clocks (clock_update_formed clocks u) (is_unchanged u) h q))) tt)
     (lt_or_le k clocks))
 
-pub each_more : (clocks vars : ℕ) (atoms : List AtomSlot) → clocks ≤ 4 → vars ≤ 4 → T (atoms_formed clocks vars atoms) → T (each_formed 4 4 atoms)
+pub each_more : (clocks vars : ℕ) (atoms : List Atom) → clocks ≤ 4 → vars ≤ 4 → T (atoms_formed clocks vars atoms) → T (each_formed 4 4 atoms)
 unfolding each_formed
 each_more clocks vars atoms p q h =
     (all_below_lem (λ k. atom_formed 4 4 (atom_at atoms k)) 4).1 (λ k l. atom_wider clocks vars 4 4 p q (atom_at atoms k) (atoms_at clocks vars atoms h k l))
 
-pub atoms_more : (clocks vars : ℕ) (atoms : List AtomSlot) → clocks ≤ 4 → vars ≤ 4 → T (atoms_formed clocks vars atoms) → T (atoms_formed 4 4 atoms)
+pub atoms_more : (clocks vars : ℕ) (atoms : List Atom) → clocks ≤ 4 → vars ≤ 4 → T (atoms_formed clocks vars atoms) → T (atoms_formed 4 4 atoms)
 unfolding atoms_formed
 atoms_more clocks vars atoms p q h =
     (and_T (each_formed 4 4 atoms) (filled_from_first atoms)).1

@@ -6,9 +6,6 @@ use Rattle.model.specs.declared.Update.{Update}
 use Rattle.model.specs.declared.Update.TheVariants.{Keep, Constant, Sum}
 use Rattle.model.specs.declared.ClockUpdate.{ClockUpdate}
 use Rattle.model.specs.declared.ClockUpdate.TheVariants.{Unchanged, Reset, Copy}
-use Rattle.model.specs.declared.AtomSlot.{AtomSlot}
-use Rattle.model.specs.declared.UpdateSlot.{UpdateSlot}
-use Rattle.model.specs.declared.ClockSlot.{ClockSlot}
 use Rattle.model.specs.declared.Edge.{Edge}
 use Rattle.model.specs.Indexed.{list_below, sum_below}
 use Rattle.model.specs.Record.{blank_atom, blank_update, blank_reset, atom_at, update_at, counter_in, reset_at}
@@ -41,16 +38,16 @@ joined_location locations i j = i * locations + j
 
 -- ---- atoms
 -- how many atoms an invariant or a guard has
-unfoldable pub atom_count : List AtomSlot → ℕ
+unfoldable pub atom_count : List Atom → ℕ
 atom_count atoms = sum_below (λ k. cond (is_blank (atom_at atoms k)) 0 1) 4
 
 -- slot k: the first's atoms, then the second's
-abbrev pub joined_atom : ℕ → ℕ → List AtomSlot → List AtomSlot → ℕ → Atom
+abbrev pub joined_atom : ℕ → ℕ → List Atom → List Atom → ℕ → Atom
 joined_atom clocks vars first second k = cond (ltb k (atom_count first)) (atom_at first k) (shifted_atom clocks vars (atom_at second (k - atom_count first)))
 
 -- the atoms of two invariants or of two guards
-unfoldable pub joined_atoms : ℕ → ℕ → List AtomSlot → List AtomSlot → List AtomSlot
-joined_atoms clocks vars first second = list_below (λ k. record { atom = joined_atom clocks vars first second k }) 4
+unfoldable pub joined_atoms : ℕ → ℕ → List Atom → List Atom → List Atom
+joined_atoms clocks vars first second = list_below (λ k. (joined_atom clocks vars first second k)) 4
 
 -- ---- updates with their order, and resets
 -- counter i: the first's counters, then the second's
@@ -58,8 +55,8 @@ abbrev pub joined_update : ℕ → Edge → Edge → ℕ → Update
 joined_update vars e f i = cond (ltb i vars) (update_at e i) (shifted_update vars (update_at f (i - vars)))
 
 -- the updates of two edges
-unfoldable pub joined_updates : ℕ → Edge → Edge → List UpdateSlot
-joined_updates vars e f = list_below (λ i. record { update = joined_update vars e f i }) 4
+unfoldable pub joined_updates : ℕ → Edge → Edge → List Update
+joined_updates vars e f = list_below (λ i. (joined_update vars e f i)) 4
 
 -- slot k of the order: the counters that the first edge sets, in its order, then those that the second sets, in its order; the others are 0
 abbrev pub joined_place : ℕ → Edge → Edge → ℕ → ℕ
@@ -75,8 +72,8 @@ abbrev pub joined_reset : ℕ → Edge → Edge → ℕ → ClockUpdate
 joined_reset clocks e f i = cond (ltb i clocks) (reset_at e i) (shifted_reset clocks (reset_at f (i - clocks)))
 
 -- the clock updates of two edges
-unfoldable pub joined_resets : ℕ → Edge → Edge → List ClockSlot
-joined_resets clocks e f = list_below (λ i. record { update = joined_reset clocks e f i }) 4
+unfoldable pub joined_resets : ℕ → Edge → Edge → List ClockUpdate
+joined_resets clocks e f = list_below (λ i. (joined_reset clocks e f i)) 4
 
 -- ---- edges
 -- standing still in a location: from it to itself, with no guard, no update and no reset

@@ -1,6 +1,6 @@
 -- A step of the composed model and the steps of its two parts.
 use Rattle.std.specs.Prelude.{ℕ, ◌+◌, ◌-◌, min, not, ◌&&◌, cond, List, [], ◌∷◌, ◌++◌, leb}
-use Rattle.std.proofs.Math.Option.{Option, none, some, map}
+use Rattle.std.specs.Prelude.{Option, None, Some, option_map}
 use Rattle.model.specs.declared.Model.{Model}
 use Rattle.model.specs.Indexed.{maybe}
 use Rattle.model.specs.Automaton.{ceiling, choices}
@@ -14,24 +14,24 @@ use Rattle.compose.specs.Composed.{fits, composed}
 
 -- ---- which edge of a part a move takes, if any
 abbrev pub first_edge : Move → Option ℕ
-first_edge (FirstAlone e j) = some e
-first_edge (SecondAlone f i) = none
-first_edge (Together e f) = some e
+first_edge (FirstAlone e j) = Some e
+first_edge (SecondAlone f i) = None
+first_edge (Together e f) = Some e
 
 abbrev pub second_edge : Move → Option ℕ
-second_edge (FirstAlone e j) = none
-second_edge (SecondAlone f i) = some f
-second_edge (Together e f) = some f
+second_edge (FirstAlone e j) = None
+second_edge (SecondAlone f i) = Some f
+second_edge (Together e f) = Some f
 
 -- ---- what a step byte of the composed model is in a part
 -- the step byte of an edge, under a ceiling
 abbrev pub edge_byte : ℕ → Option ℕ → Option ℕ
-edge_byte top e = map (λ n. top + 1 + n) e
+edge_byte top e = option_map (λ n. top + 1 + n) e
 
 -- a delay is cut to the part's own ceiling; an edge of the part has its own byte there; none where the part stands still
 abbrev pub part_step : (Move → Option ℕ) → Model → Model → Model → ℕ → Option ℕ
 part_step edge part a b n =
-    cond (leb n (ceiling (composed a b))) (some (min n (ceiling part)))
+    cond (leb n (ceiling (composed a b))) (Some (min n (ceiling part)))
     (edge_byte (ceiling part) (edge (move_at a b (n - (ceiling (composed a b) + 1)))))
 
 unfoldable pub first_step : Model → Model → ℕ → Option ℕ

@@ -12,7 +12,6 @@ use Rattle.model.specs.declared.Update.TheVariants.{Constant, Sum, Keep as KeepI
 use Rattle.model.specs.declared.ClockUpdate.{ClockUpdate}
 use Rattle.model.specs.declared.ClockUpdate.TheVariants.{Unchanged, Reset, Copy}
 use Rattle.model.specs.declared.Edge.{Edge}
-use Rattle.model.specs.declared.AtomSlot.{AtomSlot}
 use Rattle.model.specs.Indexed.{each}
 use Rattle.model.specs.Record.{atom_at, update_at, reset_at}
 use native.Mathlib.Omega.{arith}
@@ -114,7 +113,7 @@ module _ (b : GroupTable) (h : Bounded b) (o : ℕ) where
   atom_most x (OnClock y relation constant) = exclude_most x (1 + b.vars + y) relation constant
   atom_most x (OnCounter y relation constant) = exclude_most x (1 + y) relation constant
 
-  pub atoms_most : (x : ℕ) (atoms : List AtomSlot) (n : ℕ) → n ≤ 4 → Most (each n (atom_piece b o x atoms)) 128 384
+  pub atoms_most : (x : ℕ) (atoms : List Atom) (n : ℕ) → n ≤ 4 → Most (each n (atom_piece b o x atoms)) 128 384
   atoms_most x atoms n l = most_few (atom_piece b o x atoms) 32 96 n 4 l (λ k p. atom_most x (atom_at atoms k))
 
   pub edge_parts_most : (x : ℕ) (e : Edge) (n : ℕ) → n ≤ 14 → Most (each n (edge_piece x b e o)) 448 1792

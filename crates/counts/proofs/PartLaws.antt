@@ -3,7 +3,7 @@ use mathlib.Core.Path.{◌≡◌, refl, sym, ap, ap₂, ◌∙◌}
 use mathlib.Core.Bool.{Bool, true, false, true≢false, cond, not}
 use mathlib.Core.List.{List, [], ◌∷◌, map}
 use mathlib.Core.Logic.{⊎_elim}
-use mathlib.Core.Option.{Option, none, some}
+use Rattle.std.specs.Prelude.{Option, None, Some}
 use Prim.Native.Nat.{ℕ, zero, suc, ◌+◌, ◌-◌, ◌*◌, ◌≤◌, ◌<◌, min}
 use native.Mathlib.Omega.{arith}
 use lib.Dec.{eqb, ltb, leb}
@@ -59,8 +59,8 @@ rule_words_lem x y z v (Rise d top) = refl
 rule_words_lem x y z v (Shift offset greatest) = by (shifted offset greatest v)
   where
     by : (u : Option ℕ) → length (words_of (one (negated x ∷ negated y ∷ map (λ w. bare (z + w)) (to_list u)))) ≡ 3 + length (to_list u)
-    by none = refl
-    by (some w) = refl
+    by None = refl
+    by (Some w) = refl
 rule_words_lem x y z v (Set u) = refl
 rule_words_lem x y z v Forbid = refl
 
@@ -79,8 +79,8 @@ counted_part x p h k = record { clauses_are = h ∙ sym (part_count_lem x p); wo
 
 -- ---- at most a clause of three literals for each value
 one_or_none : (x : Option ℕ) → length (to_list x) ≤ 1
-one_or_none none = omega arith
-one_or_none (some a) = omega arith
+one_or_none None = omega arith
+one_or_none (Some a) = omega arith
 
 unless : (b : Bool) (n : ℕ) → cond b 0 n ≤ n
 unless true n = omega arith
@@ -172,12 +172,12 @@ exclude_words relation k =
 
 -- ---- whether a counter plus an offset lies in range
 pub length_some : (x : Option ℕ) → is_some x ≡ true → length (to_list x) ≡ 1
-length_some none e = absurd (true≢false (sym e))
-length_some (some v) e = refl
+length_some None e = absurd (true≢false (sym e))
+length_some (Some v) e = refl
 
 pub length_none : (x : Option ℕ) → is_some x ≡ false → length (to_list x) ≡ 0
-length_none none e = refl
-length_none (some v) e = absurd (true≢false e)
+length_none None e = refl
+length_none (Some v) e = absurd (true≢false e)
 
 some_if : {A : Type 0} (b : Bool) (x : A) → is_some (only_if b x) ≡ b
 some_if true x = refl
@@ -188,10 +188,10 @@ module _ (v a g : ℕ) where
   moved_up = some_if (leb (v + a) g) (v + a)
 
   moved_down : leb a v ≡ true → is_some (moved v true a g) ≡ leb (v - a) g
-  moved_down e = ap (λ (b : Bool). is_some (cond b (in_range g (v - a)) none)) e ∙ some_if (leb (v - a) g) (v - a)
+  moved_down e = ap (λ (b : Bool). is_some (cond b (in_range g (v - a)) None)) e ∙ some_if (leb (v - a) g) (v - a)
 
   moved_past : leb a v ≡ false → is_some (moved v true a g) ≡ false
-  moved_past e = ap (λ (b : Bool). is_some (cond b (in_range g (v - a)) none)) e
+  moved_past e = ap (λ (b : Bool). is_some (cond b (in_range g (v - a)) None)) e
 
 -- z is negative or not, and a is its size
 module _ (z : ℤ) (g v : ℕ) {a : ℕ} (size : a ≡ nat_abs z) where

@@ -3,7 +3,7 @@ use mathlib.Core.Path.{◌≡◌, refl, sym, ap, ◌∙◌}
 use mathlib.Core.Logic.{◌↔◌}
 use mathlib.Core.Bool.{Bool, true, false, cond}
 use mathlib.Core.List.{List, [], ◌∷◌, ◌++◌}
-use mathlib.Core.Option.{none, some}
+use Rattle.std.specs.Prelude.{None, Some}
 use Prim.Native.Nat.{ℕ, suc, ◌+◌, ◌*◌, ◌-◌, ◌≤◌, ◌<◌}
 use native.Mathlib.Nat.{mul-le-mul_right, zero-add}
 use native.Mathlib.Numerals.{add-one}
@@ -26,7 +26,7 @@ use Rattle.list.specs.Clauses.{one_hot_width}
 use Rattle.decode.specs.DecodeCall.{first_wrong_byte}
 
 -- ---- the first byte that is not 0 or 1, from index i on
-pub wrong_none : (i : ℕ) → first_wrong_byte i [] ≡ none
+pub wrong_none : (i : ℕ) → first_wrong_byte i [] ≡ None
 unfolding first_wrong_byte
 wrong_none i = refl
 
@@ -34,7 +34,7 @@ module _ (a : List ℕ) (i : ℕ) (l : i < length a) where
   left : drop i a ≡ get_or a i 0 ∷ drop (i + 1) a
   left = drop-cons a i 0 l ∙ ap (λ (n : ℕ). get_or a i 0 ∷ drop n a) (sym (add-one i))
 
-  pub wrong_here : ltb 1 (get_or a i 0) ≡ true → first_wrong_byte i (drop i a) ≡ some i
+  pub wrong_here : ltb 1 (get_or a i 0) ≡ true → first_wrong_byte i (drop i a) ≡ Some i
   unfolding first_wrong_byte
   wrong_here h = ap (first_wrong_byte i) left ∙ rw h
 
@@ -43,13 +43,13 @@ module _ (a : List ℕ) (i : ℕ) (l : i < length a) where
   wrong_later h = ap (first_wrong_byte i) left ∙ rw h
 
 -- there is none exactly if each byte is 0 or 1
-pub wrong_iff : (a : List ℕ) (i : ℕ) → (first_wrong_byte i a ≡ none) ↔ Binary a
+pub wrong_iff : (a : List ℕ) (i : ℕ) → (first_wrong_byte i a ≡ None) ↔ Binary a
 unfolding first_wrong_byte
 wrong_iff [] i = (λ h. tt, λ h. refl)
 wrong_iff (x ∷ a) i = go (ltb 1 x) refl (wrong_iff a (i + 1))
   where
-    go : (b : Bool) → ltb 1 x ≡ b → (first_wrong_byte (i + 1) a ≡ none) ↔ Binary a
-        → (cond b (some i) (first_wrong_byte (i + 1) a) ≡ none) ↔ ((x < 2) × Binary a)
+    go : (b : Bool) → ltb 1 x ≡ b → (first_wrong_byte (i + 1) a ≡ None) ↔ Binary a
+        → (cond b (Some i) (first_wrong_byte (i + 1) a) ≡ None) ↔ ((x < 2) × Binary a)
     go true e ih = ((λ h. absurd (some_none (sym h))), λ h. absurd (omega (arith, ltb-true 1 x e, h.0)))
     go false e ih = ((λ h. (omega (arith, ltb-false 1 x e), ih.0 h)), λ h. ih.1 h.1)
 

@@ -3,7 +3,7 @@ use mathlib.Core.Path.{◌≡◌, refl, sym, ap, subst, ◌∙◌}
 use mathlib.Core.Logic.{◌↔◌}
 use mathlib.Core.Bool.{Bool, true, false, not, cond}
 use mathlib.Core.List.{List, ◌++◌}
-use mathlib.Core.Option.{Option, none, some}
+use Rattle.std.specs.Prelude.{Option, None, Some}
 use Prim.Native.Nat.{ℕ, ◌≤◌}
 use native.Mathlib.Omega.{arith}
 use lib.Dec.{T, ltb, eqb}
@@ -39,21 +39,21 @@ module _ (m : Model) (k : ℕ) (a : List ℕ) (n : ℕ) where
       report_23 l = rw (w, b, l)
 
       module _ (l : eqb (length a) (variables m k) ≡ true) where
-        pub report_24 : {i : ℕ} → first_wrong_byte 0 a ≡ some i → decode_report m k a n ≡ refusal 24 i
+        pub report_24 : {i : ℕ} → first_wrong_byte 0 a ≡ Some i → decode_report m k a n ≡ refusal 24 i
         unfolding decode_report
         report_24 h = rw (w, b, l, h)
 
-        module _ (h : first_wrong_byte 0 a ≡ none) where
+        module _ (h : first_wrong_byte 0 a ≡ None) where
           pub report_25 : ltb n k ≡ true → decode_report m k a n ≡ refusal 25 0
           unfolding decode_report
           report_25 s = rw (w, b, l, h, s)
 
           module _ (s : ltb n k ≡ false) where
-            pub report_26 : {i : ℕ} → first_false a (clauses m k) ≡ some i → decode_report m k a n ≡ refusal 26 i
+            pub report_26 : {i : ℕ} → first_false a (clauses m k) ≡ Some i → decode_report m k a n ≡ refusal 26 i
             unfolding decode_report
             report_26 f = rw (w, b, l, h, s, f)
 
-            pub report_0 : first_false a (clauses m k) ≡ none → decode_report m k a n ≡ accepted
+            pub report_0 : first_false a (clauses m k) ≡ None → decode_report m k a n ≡ accepted
             unfolding decode_report
             report_0 f = rw (w, b, l, h, s, f)
 
@@ -101,10 +101,10 @@ decode_accepts m k a n = (to, of)
         go false b l x s f p q r t u h = absurd (refuses (λ z. omega arith) h)
         go true true l x s f p q r t u h = absurd (refuses (λ z. omega arith) h)
         go true false false x s f p q r t u h = absurd (refuses (λ z. omega arith) h)
-        go true false true (some i) s f p q r t u h = absurd (refuses (λ z. omega arith) h)
-        go true false true none true f p q r t u h = absurd (refuses (λ z. omega arith) h)
-        go true false true none false (some i) p q r t u h = absurd (refuses (λ z. omega arith) h)
-        go true false true none false none p q r t u h = (
+        go true false true (Some i) s f p q r t u h = absurd (refuses (λ z. omega arith) h)
+        go true false true None true f p q r t u h = absurd (refuses (λ z. omega arith) h)
+        go true false true None false (Some i) p q r t u h = absurd (refuses (λ z. omega arith) h)
+        go true false true None false None p q r t u h = (
           tt,
           ltb-false 64 k p,
           ltb-false n k t,

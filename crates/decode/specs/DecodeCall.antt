@@ -1,6 +1,6 @@
 -- What the call from an assignment to its run answers, and what it leaves in the run buffer.
 use Rattle.std.specs.Prelude.{◌≡◌, List, [], ◌∷◌, ◌++◌, not, cond, ℕ, ◌+◌, ◌≤◌, ltb, eqb, length, drop}
-use Rattle.std.proofs.Math.Option.{Option, none, some}
+use Rattle.std.specs.Prelude.{Option, None, Some}
 use Rattle.model.specs.declared.Model.{Model}
 use Rattle.model.specs.Indexed.{maybe}
 use Rattle.model.specs.Automaton.{variables}
@@ -13,8 +13,8 @@ use Rattle.decode.specs.declared.DecodeAnswer.TheVariants.{Written, NotWellForme
 
 -- The index of the first byte that is not 0 or 1 (refusal 24), where the bytes are counted from i.
 unfoldable pub first_wrong_byte : ℕ → List ℕ → Option ℕ
-first_wrong_byte i [] = none
-first_wrong_byte i (x ∷ a) = cond (ltb 1 x) (some i) (first_wrong_byte (i + 1) a)
+first_wrong_byte i [] = None
+first_wrong_byte i (x ∷ a) = cond (ltb 1 x) (Some i) (first_wrong_byte (i + 1) a)
 
 -- 20, then 21 bound above 64, then 23 length isn't N, then 24 a byte not 0 or 1, with the first one's index from 0, then 25 run buffer shorter than k,
 -- where `room` is its length, then 26 a clause is false, with the first one's index from 0.

@@ -9,7 +9,6 @@ use lib.Dec.{leb}
 use lib.IntN.{ℤ}
 use lib.ListN.{get_or}
 use Rattle.model.specs.declared.Atom.{Atom}
-use Rattle.model.specs.declared.AtomSlot.{AtomSlot}
 use Rattle.model.specs.declared.Atom.TheVariants.{Blank, OnClock, OnCounter}
 use Rattle.model.specs.declared.Update.{Update}
 use Rattle.model.specs.declared.Update.TheVariants.{Constant, Sum, Keep as KeepIt}
@@ -76,7 +75,7 @@ module _ {b : GroupTable} {first size : List ℕ} (l : Lent b first size) (o : �
   atom_fits_by atom f = record { named = named_by atom f.named; fits = fits_as (atom_by atom) f.fits }
 
   -- four slots ask the same by both
-  pub atoms_by : (x : ℕ) (atoms : List AtomSlot) → each 4 (atom_piece b o x atoms) ≡ each 4 (atom_piece (atom_table b.vars first size) o x atoms)
+  pub atoms_by : (x : ℕ) (atoms : List Atom) → each 4 (atom_piece b o x atoms) ≡ each 4 (atom_piece (atom_table b.vars first size) o x atoms)
   atoms_by x atoms =
       each_cong 4 (atom_piece b o x atoms) (atom_piece (atom_table b.vars first size) o x atoms)
       (λ k h. ap (part_clauses x) (atom_by (atom_at atoms k)))

@@ -2,7 +2,7 @@
 use mathlib.Core.Path.{◌≡◌, refl, sym, ap, ◌∙◌}
 use mathlib.Core.Bool.{true, false, cond}
 use mathlib.Core.List.{List, [], ◌∷◌, map}
-use mathlib.Core.Option.{Option, none, some}
+use Rattle.std.specs.Prelude.{Option, None, Some}
 use Prim.Native.Nat.{ℕ, ◌+◌, ◌≤◌, ◌<◌}
 use native.Mathlib.Omega.{arith}
 use borrow.Author.Tests.{le-leb, lt-leb}
@@ -33,12 +33,12 @@ joint_is x y after u v e = ap (λ (n : ℕ). one (negated x ∷ negated y ∷ ba
 -- ---- Shift
 -- the value that the code answered
 abbrev answered : NewValue → Option ℕ
-answered OutOfRange = none
-answered (Value v) = some v
+answered OutOfRange = None
+answered (Value v) = Some v
 
 answered_is : (r : Option ℕ) → answered (new_value r) ≡ r
-answered_is none = refl
-answered_is (some v) = refl
+answered_is None = refl
+answered_is (Some v) = refl
 
 shifted_is : {new told : NewValue} (r : Option ℕ) → new ≡ new_value r → new ≡ told → r ≡ answered told
 shifted_is r e f = sym (answered_is r) ∙ ap answered (sym e ∙ f)

@@ -1,7 +1,6 @@
 -- What the writers ask of the table and of what is written by it. Variables are counted from 0.
 use Rattle.std.specs.Prelude.{◌≡◌, List, [], ℕ, ◌+◌, ◌-◌, ◌<◌, ◌≤◌, length, get_or}
 use Rattle.model.specs.declared.Atom.{Atom}
-use Rattle.model.specs.declared.AtomSlot.{AtomSlot}
 use Rattle.model.specs.declared.Update.{Update}
 use Rattle.model.specs.declared.ClockUpdate.{ClockUpdate}
 use Rattle.model.specs.declared.Invariant.{Invariant}
@@ -60,7 +59,7 @@ pub record EdgesFit (b : GroupTable) (edges : List Edge) (o n : ℕ) : Type 0 wh
   pub fit : (e : ℕ) → e < n → EdgeFits b o (get_or edges e past_edge)
 
 -- The atoms of the invariant of location l.
-abbrev pub atoms_of : List Invariant → ℕ → List AtomSlot
+abbrev pub atoms_of : List Invariant → ℕ → List Atom
 atoms_of invariants l = (get_or invariants l past_invariant).atoms
 
 -- The invariant of location l.

@@ -1,7 +1,7 @@
 -- The bytes of a state, of a step and of a run, part after part.
 use mathlib.Core.Path.{◌≡◌, refl, sym, ap, ◌∙◌}
 use mathlib.Core.List.{List, [], ◌∷◌, ◌++◌, append_assoc, append-nil}
-use mathlib.Core.Option.{Option, none, some}
+use Rattle.std.specs.Prelude.{Option, None, Some}
 use Prim.Native.Nat.{ℕ, ◌+◌, ◌<◌}
 use native.Mathlib.Numerals.{add-one}
 use lib.ListN.{length, take, drop, get_or, take-append-drop}
@@ -37,12 +37,12 @@ steps_none m s = refl
 
 module _ (m : Model) where
   -- a step, and the steps after it
-  steps_cons : (s t : State) (b : ℕ) (r : List ℕ) → step m s b ≡ some t → steps_bytes one_hot m s (b ∷ r) ≡ step_bytes m b t ++ steps_bytes one_hot m t r
+  steps_cons : (s t : State) (b : ℕ) (r : List ℕ) → step m s b ≡ Some t → steps_bytes one_hot m s (b ∷ r) ≡ step_bytes m b t ++ steps_bytes one_hot m t r
   unfolding steps_bytes step_bytes
   steps_cons s t b r h = rw (h, append_assoc)
 
   -- a walk, and the steps after it
-  steps_append : (r q : List ℕ) (s e : State) → walk m s r ≡ some e → steps_bytes one_hot m s (r ++ q) ≡ steps_bytes one_hot m s r ++ steps_bytes one_hot m e q
+  steps_append : (r q : List ℕ) (s e : State) → walk m s r ≡ Some e → steps_bytes one_hot m s (r ++ q) ≡ steps_bytes one_hot m s r ++ steps_bytes one_hot m e q
   steps_append [] q s e h =
       ap (λ (x : State). steps_bytes one_hot m x q) ((walk_nil m s e).0 h) ∙ ap (λ (l : List ℕ). l ++ steps_bytes one_hot m e q) (sym (steps_none m s))
   steps_append (b ∷ r) q s e h =
@@ -53,27 +53,27 @@ module _ (m : Model) where
       ap (λ (l : List ℕ). l ++ steps_bytes one_hot m e q) (sym (steps_cons s x.0 b r x.1))
 
   -- ---- a turn of the loop over the run: s is reached after t steps
-  module _ (first : State) (run : List ℕ) (t : ℕ) (s : State) (l : t < length run) (reached : walk m first (take t run) ≡ some s) where
+  module _ (first : State) (run : List ℕ) (t : ℕ) (s : State) (l : t < length run) (reached : walk m first (take t run) ≡ Some s) where
     rest : drop t run ≡ get_or run t 0 ∷ drop (t + 1) run
     rest = drop-cons run t 0 l ∙ ap (λ (n : ℕ). get_or run t 0 ∷ drop n run) (sym (add-one t))
 
     more : take (t + 1) run ≡ take t run ++ (get_or run t 0 ∷ [])
     more = ap (λ (n : ℕ). take n run) (add-one t) ∙ take-suc run t 0 l
 
-    advanced : (o : Option State) (a : Stepped) → a ≡ stepped s o → (u : State) → o ≡ some u → o ≡ some a.state
-    advanced none a e u h = absurd (some_none h)
-    advanced (some v) a e u h = rw e
+    advanced : (o : Option State) (a : Stepped) → a ≡ stepped s o → (u : State) → o ≡ Some u → o ≡ Some a.state
+    advanced None a e u h = absurd (some_none h)
+    advanced (Some v) a e u h = rw e
 
     -- the walk goes on, so the next step is taken
-    pub taken : Walks m first run → (a : Stepped) → a ≡ stepped s (step m s (get_or run t 0)) → step m s (get_or run t 0) ≡ some a.state
+    pub taken : Walks m first run → (a : Stepped) → a ≡ stepped s (step m s (get_or run t 0)) → step m s (get_or run t 0) ≡ Some a.state
     taken w a e =
-        let whole : walk m s (get_or run t 0 ∷ drop (t + 1) run) ≡ some w.end = ap (walk m s) (sym rest)
+        let whole : walk m s (get_or run t 0 ∷ drop (t + 1) run) ≡ Some w.end = ap (walk m s) (sym rest)
         ∙ sym (walk_app m (take t run) (drop t run) first s reached) ∙ ap (walk m first) (take-append-drop t run) ∙ w.ends in
         let x = (walk_cons m s w.end (get_or run t 0) (drop (t + 1) run)).0 whole in
         advanced (step m s (get_or run t 0)) a e x.0 x.1
 
-    module _ (u : State) (h : step m s (get_or run t 0) ≡ some u) where
-      pub reached_more : walk m first (take (t + 1) run) ≡ some u
+    module _ (u : State) (h : step m s (get_or run t 0) ≡ Some u) where
+      pub reached_more : walk m first (take (t + 1) run) ≡ Some u
       reached_more =
           ap (walk m first) more ∙ walk_app m (take t run) (get_or run t 0 ∷ []) first s reached ∙ walk_step m s u (get_or run t 0) [] h
           ∙ (walk_nil m u u).1 refl

@@ -1,6 +1,6 @@
 -- The parts of an assignment that one function each writes, and the runs that can be walked.
 use Rattle.std.specs.Prelude.{◌≡◌, List, ◌++◌, ℕ, ◌+◌, get_or}
-use Rattle.std.proofs.Math.Option.{some}
+use Rattle.std.specs.Prelude.{Some}
 use Rattle.model.specs.declared.Counter.{Counter}
 use Rattle.model.specs.declared.Model.{Model}
 use Rattle.model.specs.declared.State.{State}
@@ -24,4 +24,4 @@ step_bytes m b next = one_hot (choices m) b ++ state_bytes one_hot m next
 -- Each step byte can be taken, from the state s on.
 pub record Walks (m : Model) (s : State) (r : List ℕ) : Type 0 where
   pub end : State
-  pub ends : walk m s r ≡ some end
+  pub ends : walk m s r ≡ Some end

@@ -4,7 +4,7 @@ use mathlib.Core.Path.{◌≡◌, sym}
 use mathlib.Core.Bool.{Bool, not, ◌&&◌, cond}
 use mathlib.Core.List.{List}
 use lib.Dec.{ltb, leb, eqb}
-use Rattle.model.specs.declared.AtomSlot.{AtomSlot}
+use Rattle.model.specs.declared.Atom.{Atom}
 use Rattle.model.specs.declared.Edge.{Edge}
 use Rattle.model.specs.declared.Model.{Model}
 use Rattle.model.specs.declared.State.{State}
@@ -14,7 +14,7 @@ use Rattle.model.specs.Form.{each_formed, filled_from_first, atoms_formed, edge_
 use Rattle.model.specs.Form.{head_formed, counters_formed, invariants_formed}
 use Rattle.model.specs.Form.{edges_formed, well_formed, counters_in_group, clocks_in_group, state_formed}
 
-pub atoms_is : (clocks vars : ℕ) (l : List AtomSlot) {a b : Bool} → each_formed clocks vars l ≡ a → filled_from_first l ≡ b
+pub atoms_is : (clocks vars : ℕ) (l : List Atom) {a b : Bool} → each_formed clocks vars l ≡ a → filled_from_first l ≡ b
     → a && b ≡ atoms_formed clocks vars l
 unfolding atoms_formed
 atoms_is clocks vars l p q = λ i. (sym p) i && (sym q) i

@@ -2,7 +2,7 @@
 use mathlib.Core.Path.{◌≡◌, refl, sym, ap, subst, ◌∙◌}
 use mathlib.Core.Logic.{◌↔◌}
 use mathlib.Core.List.{List, [], ◌∷◌, ◌++◌, flat_map, append_assoc}
-use mathlib.Core.Option.{Option, none, some}
+use Rattle.std.specs.Prelude.{Option, None, Some}
 use Prim.Native.Nat.{ℕ, zero, suc, ◌+◌, ◌*◌, ◌<◌}
 use native.Mathlib.Nat.{zero-add}
 use native.Mathlib.Omega.{arith}
@@ -58,13 +58,13 @@ module _ (Y : Layout) (m : Model) where
     where
       go : (o : Option State) → ((t : State) → Binary (steps_bytes Y.bytes m t r))
           → Binary (maybe o [] (λ t. Y.bytes (choices m) b ++ (state_bytes Y.bytes m t ++ steps_bytes Y.bytes m t r)))
-      go none f = tt
-      go (some t) f = binary_app (Y.bytes (choices m) b) _ (Y.bytes_binary (choices m) b) (binary_app (state_bytes Y.bytes m t) _ (state_binary t) (f t))
+      go None f = tt
+      go (Some t) f = binary_app (Y.bytes (choices m) b) _ (Y.bytes_binary (choices m) b) (binary_app (state_bytes Y.bytes m t) _ (state_binary t) (f t))
 
   pub encoded_binary : (r : List ℕ) → Binary (encoded r)
   encoded_binary r = binary_app (state_bytes Y.bytes m (initial_state m)) _ (state_binary (initial_state m)) (steps_binary r (initial_state m))
 
-  steps_length : (r : List ℕ) (s e : State) → walk m s r ≡ some e
+  steps_length : (r : List ℕ) (s e : State) → walk m s r ≡ Some e
       → length (steps_bytes Y.bytes m s r) ≡ length r * (state_width Y.width m + choice_width Y.width m)
   unfolding steps_bytes
   steps_length [] s e h = omega arith
@@ -80,7 +80,7 @@ module _ (Y : Layout) (m : Model) where
             x.0 e x.2,
       ) (omega arith)
 
-  pub encoded_length : (r : List ℕ) (e : State) → walk m (initial_state m) r ≡ some e → length (encoded r) ≡ width_for (length r)
+  pub encoded_length : (r : List ℕ) (e : State) → walk m (initial_state m) r ≡ Some e → length (encoded r) ≡ width_for (length r)
   encoded_length r e h = rw (length-append, state_length Y m (initial_state m), steps_length r (initial_state m) e h)
 
   module _ (ok : WellFormed m) where
@@ -95,11 +95,11 @@ module _ (Y : Layout) (m : Model) where
     )
 
     -- the blocks of the encoding of a walk show it
-    pub encoding_shows : (r : List ℕ) (e : State) → walk m (initial_state m) r ≡ some e
+    pub encoding_shows : (r : List ℕ) (e : State) → walk m (initial_state m) r ≡ Some e
         → ShowsState Y.width m (Y.truth (encoded r)) 0 (initial_state m) × ShowsWalk Y.width m (Y.truth (encoded r)) ok 0 (initial_state m) r e
     encoding_shows r e h = bytes_walk Y m (encoded r) ok r 0 (initial_state m) e (shaped_initial m ok) (range_initial m ok) refl h
 
-    pub decoded_encoded : (r : List ℕ) (e : State) → walk m (initial_state m) r ≡ some e → decoded (length r) (encoded r) ≡ r
+    pub decoded_encoded : (r : List ℕ) (e : State) → walk m (initial_state m) r ≡ Some e → decoded (length r) (encoded r) ≡ r
     decoded_encoded r e h = decoded_walk (encoded r) r 0 (initial_state m) e (encoding_shows r e h).1
 
     shows_run : (k : ℕ) (a r : List ℕ) (e : State) → Binary a → length a ≡ width_for k → ShowsRun Y.width m (Y.truth a) ok k r e
@@ -142,7 +142,7 @@ module _ (Y : Layout) (m : Model) where
 regroup : (a b c d : List ℕ) → a ++ (b ++ (c ++ d)) ≡ a ++ (b ++ c) ++ d
 regroup a b c d = simp append_assoc
 
-steps_bytes_app : (Y : Layout) (m : Model) (r q : List ℕ) (s e : State) → walk m s r ≡ some e
+steps_bytes_app : (Y : Layout) (m : Model) (r q : List ℕ) (s e : State) → walk m s r ≡ Some e
     → steps_bytes Y.bytes m s (r ++ q) ≡ steps_bytes Y.bytes m s r ++ steps_bytes Y.bytes m e q
 unfolding steps_bytes
 steps_bytes_app Y m [] q s e h = ap (λ (x : State). steps_bytes Y.bytes m x q) ((walk_nil m s e).0 h)
@@ -177,10 +177,10 @@ module _ (Y : Layout) (m : Model) where
 
 module _ (Y : Layout) (m : Model) (ok : WellFormed m) where
   -- the encoding of a walk that goes on begins with its encoding
-  pub encoded_app : (r q : List ℕ) (e : State) → walk m (initial_state m) r ≡ some e → encoded Y m (r ++ q) ≡ encoded Y m r ++ steps_bytes Y.bytes m e q
+  pub encoded_app : (r q : List ℕ) (e : State) → walk m (initial_state m) r ≡ Some e → encoded Y m (r ++ q) ≡ encoded Y m r ++ steps_bytes Y.bytes m e q
   encoded_app r q e h = rw (steps_bytes_app Y m r q (initial_state m) e h, append_assoc)
 
-  pub encoded_cut : (r q : List ℕ) (e : State) → walk m (initial_state m) r ≡ some e → take (width_for Y m (length r)) (encoded Y m (r ++ q)) ≡ encoded Y m r
+  pub encoded_cut : (r q : List ℕ) (e : State) → walk m (initial_state m) r ≡ Some e → take (width_for Y m (length r)) (encoded Y m (r ++ q)) ≡ encoded Y m r
   encoded_cut r q e h = rw (encoded_app r q e h) (take_at (encoded Y m r) (steps_bytes Y.bytes m e q) (width_for Y m (length r)) (encoded_length Y m r e h))
 
   -- an assignment that satisfies the list for j goes on to one that satisfies the list for j + p: its run goes on by p delays of 0
@@ -196,7 +196,7 @@ module _ (Y : Layout) (m : Model) (ok : WellFormed m) where
       go r e n g q =
           let k = walk_keeps m ok r (initial_state m) e g.walks (shaped_initial m ok) (range_initial m ok) g.allowed in
           let z : List ℕ = r ++ replicate p 0 in
-          let wz : walk m (initial_state m) z ≡ some e = walk_app m r (replicate p 0) (initial_state m) e g.walks ∙ rest_walk m ok p e k.0 k.1 k.2 in
+          let wz : walk m (initial_state m) z ≡ Some e = walk_app m r (replicate p 0) (initial_state m) e g.walks ∙ rest_walk m ok p e k.0 k.1 k.2 in
           let lz : length z ≡ j + p = length-append r (replicate p 0) ∙ rw (n, length-replicate) in (
             encoded Y m z,
             encoded_binary Y m z,
@@ -206,7 +206,7 @@ module _ (Y : Layout) (m : Model) (ok : WellFormed m) where
           )
 
   -- the encoding of a walk satisfies the list exactly if the walk is a run
-  pub walk_satisfies : (r : List ℕ) (d : State) → walk m (initial_state m) r ≡ some d → T (satisfied (encoded Y m r) (list_for Y m (length r))) ↔ T (is_run m r)
+  pub walk_satisfies : (r : List ℕ) (d : State) → walk m (initial_state m) r ≡ Some d → T (satisfied (encoded Y m r) (list_for Y m (length r))) ↔ T (is_run m r)
   walk_satisfies r d h = (
     (λ t. rw (decoded_encoded Y m ok r d h) at (satisfying_decodes Y m ok (length r) (encoded Y m r) (encoded_binary Y m r)
         (encoded_length Y m r d h) t).1),
@@ -215,7 +215,7 @@ module _ (Y : Layout) (m : Model) (ok : WellFormed m) where
 
   -- cut after step j's state, a satisfying assignment is the encoding of the first j bytes of its run, which are a walk
   pub cut_is : (j p : ℕ) (a : List ℕ) → Binary a → length a ≡ width_for Y m (j + p) → T (satisfied a (list_for Y m (j + p)))
-      → (d : State) × (length (take j (decoded Y m (j + p) a)) ≡ j) × (walk m (initial_state m) (take j (decoded Y m (j + p) a)) ≡ some d) × (take
+      → (d : State) × (length (take j (decoded Y m (j + p) a)) ≡ j) × (walk m (initial_state m) (take j (decoded Y m (j + p) a)) ≡ Some d) × (take
       (width_for Y m j) a ≡ encoded Y m (take j (decoded Y m (j + p) a)))
   cut_is j p a c l h =
       let x = satisfying_decodes Y m ok (j + p) a c l h in
@@ -223,7 +223,7 @@ module _ (Y : Layout) (m : Model) (ok : WellFormed m) where
       go (decoded Y m (j + p) a) y.0 x.0 y.1 x.2
     where
       go : (r : List ℕ) (e : State) → length r ≡ j + p → Run m r e → a ≡ encoded Y m r
-          → (d : State) × (length (take j r) ≡ j) × (walk m (initial_state m) (take j r) ≡ some d) × (take (width_for Y m j) a ≡ encoded Y m (take j r))
+          → (d : State) × (length (take j r) ≡ j) × (walk m (initial_state m) (take j r) ≡ Some d) × (take (width_for Y m j) a ≡ encoded Y m (take j r))
       go r e n g q =
           let s : take j r ++ drop j r ≡ r = take-append-drop j r in
           let lj : length (take j r) ≡ j = length-take-le j r (omega arith) in

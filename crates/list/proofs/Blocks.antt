@@ -3,7 +3,7 @@ use mathlib.Core.Path.{◌≡◌, refl, ap}
 use mathlib.Core.Logic.{◌↔◌}
 use mathlib.Core.Bool.{Bool, true, false, cond}
 use mathlib.Core.List.{List, [], ◌∷◌, ◌++◌}
-use mathlib.Core.Option.{none}
+use Rattle.std.specs.Prelude.{None}
 use Prim.Native.Nat.{ℕ, zero, suc, ◌+◌, ◌<◌}
 use native.Mathlib.Nat.{not-suc-le-zero}
 use native.Mathlib.Omega.{arith}
@@ -12,7 +12,6 @@ use lib.ListN.{length, get_or}
 use Rattle.model.specs.declared.Relation.{Relation}
 use Rattle.model.specs.declared.Atom.{Atom}
 use Rattle.model.specs.declared.Atom.TheVariants.{Blank, OnClock, OnCounter}
-use Rattle.model.specs.declared.AtomSlot.{AtomSlot}
 use Rattle.model.specs.declared.Model.{Model}
 use Rattle.model.specs.declared.State.{State}
 use Rattle.model.specs.Indexed.{each}
@@ -77,7 +76,7 @@ module _ (width : ℕ → ℕ) (m : Model) (truth : Member → Bool) where
         → All (λ y. T (truth y)) ms → T (meets rel (value s x) b)
     values_to x h rel b k n = go (meets rel (value s x) b) ((all_each (Holds truth) (group_size m x) _).0 k (value s x) (q.shown x h).below)
       where
-        go : (t : Bool) → All (Holds truth) (cond t [] (rule (ms ++ (state_member width m o x (value s x) ∷ [])) none ∷ [])) → T t
+        go : (t : Bool) → All (Holds truth) (cond t [] (rule (ms ++ (state_member width m o x (value s x) ∷ [])) None ∷ [])) → T t
         go true t = tt
         go false t = absurd (t.0 ((all_app (λ y. T (truth y)) ms _).1 (n, ((q.shown x h).is_true, tt))))
 
@@ -86,7 +85,7 @@ module _ (width : ℕ → ℕ) (m : Model) (truth : Member → Bool) where
     values_of x h rel b k = (all_each (Holds truth) (group_size m x) _).1 (λ v l. go v (meets rel v b) (λ n t. let e = (q.shown x h).only v l t in rw e (k n)))
       where
         go : (v : ℕ) (t : Bool) → (All (λ y. T (truth y)) ms → T (truth (state_member width m o x v)) → T t)
-            → All (Holds truth) (cond t [] (rule (ms ++ (state_member width m o x v ∷ [])) none ∷ []))
+            → All (Holds truth) (cond t [] (rule (ms ++ (state_member width m o x v ∷ [])) None ∷ []))
         go v true f = tt
         go v false f = (λ t. let g = (all_app (λ y. T (truth y)) ms (state_member width m o x v ∷ [])).0 t in f g.0 g.1.0, tt)
 
@@ -100,12 +99,12 @@ module _ (width : ℕ → ℕ) (m : Model) (truth : Member → Bool) where
     atom_of_lem (OnClock x rel b) h k = values_of (clock x) h rel b k
     atom_of_lem (OnCounter x rel b) h k = values_of (counter x) h rel b k
 
-    pub atoms_to : (atoms : List AtomSlot) → ((k : ℕ) → k < 4 → DeclaredAtom m (atom_at atoms k))
+    pub atoms_to : (atoms : List Atom) → ((k : ℕ) → k < 4 → DeclaredAtom m (atom_at atoms k))
         → All (Holds truth) (exclude_all_failing width m o ms atoms) → All (λ y. T (truth y)) ms
         → (k : ℕ) → k < 4 → T (atom_holds s (atom_at atoms k))
     atoms_to atoms h g n k l = atom_to (atom_at atoms k) (h k l) ((all_each (Holds truth) 4 _).0 g k l) n
 
-    pub atoms_of_lem : (atoms : List AtomSlot) → ((k : ℕ) → k < 4 → DeclaredAtom m (atom_at atoms k))
+    pub atoms_of_lem : (atoms : List Atom) → ((k : ℕ) → k < 4 → DeclaredAtom m (atom_at atoms k))
         → (All (λ y. T (truth y)) ms → (k : ℕ) → k < 4 → T (atom_holds s (atom_at atoms k)))
         → All (Holds truth) (exclude_all_failing width m o ms atoms)
     atoms_of_lem atoms h g = (all_each (Holds truth) 4 _).1 (λ k l. atom_of_lem (atom_at atoms k) (h k l) (λ n. g n k l))

@@ -3,7 +3,7 @@ use mathlib.Core.Path.{◌≡◌}
 use mathlib.Core.Logic.{◌↔◌, ⊎_elim}
 use mathlib.Core.Bool.{Bool, true, false, ◌||◌, not}
 use mathlib.Core.List.{List, [], ◌∷◌, ◌++◌, map, flat_map}
-use mathlib.Core.Option.{Option, none, some}
+use Rattle.std.specs.Prelude.{Option, None, Some}
 use Prim.Native.Nat.{ℕ, ◌+◌, ◌-◌, ◌<◌}
 use native.Mathlib.Omega.{arith}
 use lib.Dec.{T}
@@ -41,8 +41,8 @@ module _ (a : List ℕ) where
   or-false false = (λ h. h, λ h. h)
 
   conclusion_iff : (x : Option Member) → T (any_of (literal_true a) (map (λ x. bare (variable_of x)) (to_list x))) ↔ Then (member_true a) x
-  conclusion_iff none = (λ h. h, λ h. h)
-  conclusion_iff (some x) = or-false (member_true a x)
+  conclusion_iff None = (λ h. h, λ h. h)
+  conclusion_iff (Some x) = or-false (member_true a x)
 
   one_iff : (c : Clause) → AllTrue a (one c) ↔ T (clause_true a c)
   unfolding one

@@ -3,7 +3,7 @@ use mathlib.Core.Path.{◌≡◌, refl, sym, ap, subst, ◌∙◌}
 use mathlib.Core.Logic.{◌↔◌}
 use mathlib.Core.Bool.{Bool}
 use mathlib.Core.List.{List, [], ◌∷◌, ◌++◌, flat_map, append_cancel_left}
-use mathlib.Core.Option.{some}
+use Rattle.std.specs.Prelude.{Some}
 use Prim.Native.Nat.{ℕ, zero, suc, ◌+◌, ◌*◌, ◌≤◌, ◌<◌}
 use native.Mathlib.Nat.{not-suc-le-zero, add-zero, mul-le-mul_right}
 use native.Mathlib.Omega.{arith}
@@ -145,7 +145,7 @@ module _ (Y : Layout) (m : Model) where
             (λ i p. rw (place_c i) (h (clock i) p)),
       )
 
-pub bytes_step : (Y : Layout) (m : Model) (s t : State) (b : ℕ) (r : List ℕ) → step m s b ≡ some t
+pub bytes_step : (Y : Layout) (m : Model) (s t : State) (b : ℕ) (r : List ℕ) → step m s b ≡ Some t
     → steps_bytes Y.bytes m s (b ∷ r) ≡ Y.bytes (choices m) b ++ (state_bytes Y.bytes m t ++ steps_bytes Y.bytes m t r)
 unfolding steps_bytes
 bytes_step Y m s t b r h = rw h
@@ -187,7 +187,7 @@ module _ (Y : Layout) (m : Model) where
         )
 
     pub bytes_walk : (ok : WellFormed m) (r : List ℕ) (o : ℕ) (s e : State) → Shaped m s → InRange m s
-        → drop o a ≡ state_bytes Y.bytes m s ++ steps_bytes Y.bytes m s r → walk m s r ≡ some e
+        → drop o a ≡ state_bytes Y.bytes m s ++ steps_bytes Y.bytes m s r → walk m s r ≡ Some e
         → ShowsState Y.width m (Y.truth a) o s × ShowsWalk Y.width m (Y.truth a) ok o s r e
     bytes_walk ok [] o s e p q h k = (
       bytes_show p q (drop_holds a o (state_bytes Y.bytes m s) _ (state_width Y.width m)

@@ -3,11 +3,11 @@
 use mathlib.Core.Path.{◌≡◌, refl, sym, ap, subst, ◌∙◌}
 use mathlib.Core.Bool.{Bool, true, false, ◌&&◌, cond}
 use mathlib.Core.List.{List, ◌++◌}
-use mathlib.Core.Option.{Option}
+use Rattle.std.specs.Prelude.{Option}
 use Prim.Native.Nat.{ℕ, zero, suc, ◌+◌, ◌<◌, max}
 use native.Mathlib.Omega.{arith}
 use lib.Dec.{T, ltb, leb, eqb}
-use Rattle.model.specs.declared.ClockSlot.{ClockSlot}
+use Rattle.model.specs.declared.ClockUpdate.{ClockUpdate}
 use Rattle.model.specs.declared.Counter.{Counter}
 use Rattle.model.specs.declared.Edge.{Edge}
 use Rattle.model.specs.declared.Model.{Model}
@@ -26,7 +26,7 @@ use Rattle.list.proofs.ListLaws.{list_cong}
 use Rattle.list.proofs.OtherEdgesLaws.{items_same, steps_same}
 
 -- ---- one edge
-module _ (e : Edge) (label : ℕ) (resets : List ClockSlot) where
+module _ (e : Edge) (label : ℕ) (resets : List ClockUpdate) where
   abbrev other : Edge
   other = edge_with e label resets
 

@@ -2,7 +2,7 @@
 use mathlib.Core.Path.{◌≡◌, refl, ap, ◌∙◌}
 use mathlib.Core.Bool.{Bool}
 use mathlib.Core.List.{[], ◌∷◌}
-use mathlib.Core.Option.{Option, none, some, map}
+use Rattle.std.specs.Prelude.{Option, None, Some, option_map}
 use Prim.Native.Nat.{ℕ, ◌<◌}
 use lib.Dec.{T}
 use Rattle.model.specs.Indexed.{each}
@@ -18,8 +18,8 @@ module _ (truth : Member → Bool) where
     pub only : (v : ℕ) → v < n → T (truth (member b n v)) → v ≡ d
 
   abbrev pub Then : Option Member → Type 0
-  Then none = ⊥
-  Then (some x) = T (truth x)
+  Then None = ⊥
+  Then (Some x) = T (truth x)
 
   -- the item holds
   abbrev pub Holds : Item → Type 0
@@ -34,25 +34,25 @@ module _ (truth : Member → Bool) where
 
   -- one choice leads each value of a group to a value of a group, or excludes it
   module _ {bc nc k b n d b' n' d' : ℕ} (c : ℕ) (pc : Shows bc nc k) (p : Shows b n d) (p' : Shows b' n' d') (f : ℕ → Option ℕ) (hc : c < nc) where
-    pub leads_to : ((v u : ℕ) → v < n → f v ≡ some u → u < n')
-        → All Holds (each n (λ v. rule (member bc nc c ∷ member b n v ∷ []) (map (member b' n') (f v)) ∷ [])) → c ≡ k → f d ≡ some d'
+    pub leads_to : ((v u : ℕ) → v < n → f v ≡ Some u → u < n')
+        → All Holds (each n (λ v. rule (member bc nc c ∷ member b n v ∷ []) (option_map (member b' n') (f v)) ∷ [])) → c ≡ k → f d ≡ Some d'
     leads_to ok h e = go (f d) refl (((all_each Holds n _).0 h d p.below).0 (shows_true pc e, (p.is_true, tt)))
       where
-        go : (x : Option ℕ) → f d ≡ x → Then (map (member b' n') x) → f d ≡ some d'
-        go none e t = absurd t
-        go (some u) e t = e ∙ ap some (p'.only u (ok d u p.below e) t)
+        go : (x : Option ℕ) → f d ≡ x → Then (option_map (member b' n') x) → f d ≡ Some d'
+        go None e t = absurd t
+        go (Some u) e t = e ∙ ap Some (p'.only u (ok d u p.below e) t)
 
-    pub leads_of : (c ≡ k → f d ≡ some d') → All Holds (each n (λ v. rule (member bc nc c ∷ member b n v ∷ []) (map (member b' n') (f v)) ∷ []))
+    pub leads_of : (c ≡ k → f d ≡ Some d') → All Holds (each n (λ v. rule (member bc nc c ∷ member b n v ∷ []) (option_map (member b' n') (f v)) ∷ []))
     leads_of h = (all_each Holds n _).1 (λ v q. (λ t. rw (p.only v q t.1.0, h (pc.only c hc t.0)) p'.is_true, tt))
 
   -- one choice sets a group to a value, or is excluded
   module _ {bc nc k b' n' d' : ℕ} (c : ℕ) (pc : Shows bc nc k) (p' : Shows b' n' d') (y : Option ℕ) (hc : c < nc) where
-    pub sets_to_lem : ((u : ℕ) → y ≡ some u → u < n') → Holds (rule (member bc nc c ∷ []) (map (member b' n') y)) → c ≡ k → y ≡ some d'
+    pub sets_to_lem : ((u : ℕ) → y ≡ Some u → u < n') → Holds (rule (member bc nc c ∷ []) (option_map (member b' n') y)) → c ≡ k → y ≡ Some d'
     sets_to_lem ok h e = go y refl (h (shows_true pc e, tt))
       where
-        go : (x : Option ℕ) → y ≡ x → Then (map (member b' n') x) → y ≡ some d'
-        go none e t = absurd t
-        go (some u) e t = e ∙ ap some (p'.only u (ok u e) t)
+        go : (x : Option ℕ) → y ≡ x → Then (option_map (member b' n') x) → y ≡ Some d'
+        go None e t = absurd t
+        go (Some u) e t = e ∙ ap Some (p'.only u (ok u e) t)
 
-    pub sets_of : (c ≡ k → y ≡ some d') → Holds (rule (member bc nc c ∷ []) (map (member b' n') y))
+    pub sets_of : (c ≡ k → y ≡ Some d') → Holds (rule (member bc nc c ∷ []) (option_map (member b' n') y))
     sets_of h t = rw (h (pc.only c hc t.0)) p'.is_true

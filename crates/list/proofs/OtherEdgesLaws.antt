@@ -3,7 +3,7 @@
 use mathlib.Core.Path.{◌≡◌, refl, sym, ap, ap₂, subst, ◌∙◌}
 use mathlib.Core.Bool.{Bool, true, false, cond}
 use mathlib.Core.List.{List, [], ◌∷◌, ◌++◌}
-use mathlib.Core.Option.{none}
+use Rattle.std.specs.Prelude.{None}
 use Prim.Native.Nat.{ℕ, ◌+◌, ◌-◌, ◌<◌}
 use native.Mathlib.Omega.{arith}
 use lib.Dec.{T, leb, ltb, ltb→lt}
@@ -15,7 +15,6 @@ use Rattle.model.specs.declared.Update.{Update}
 use Rattle.model.specs.declared.Update.TheVariants.{Keep, Constant, Sum}
 use Rattle.model.specs.declared.ClockUpdate.{ClockUpdate}
 use Rattle.model.specs.declared.ClockUpdate.TheVariants.{Unchanged, Reset, Copy}
-use Rattle.model.specs.declared.AtomSlot.{AtomSlot}
 use Rattle.model.specs.declared.Edge.{Edge}
 use Rattle.model.specs.declared.Model.{Model}
 use Rattle.model.specs.declared.State.{State}
@@ -48,7 +47,7 @@ module _ (width : ℕ → ℕ) (m : Model) (es : List Edge) (top : ceiling (with
   exclude_same o ms (OnClock x relation constant) = rw top (each_cong (ceiling m + 1) _ _ (λ v l. rw top refl))
   exclude_same o ms (OnCounter x relation constant) = refl
 
-  pub atoms_same : (o : ℕ) (ms : List Member) (atoms : List AtomSlot)
+  pub atoms_same : (o : ℕ) (ms : List Member) (atoms : List Atom)
       → exclude_all_failing width (with_edges m es) o ms atoms ≡ exclude_all_failing width m o ms atoms
   atoms_same o ms atoms = each_cong 4 _ _ (λ k l. exclude_same o ms (atom_at atoms k))
 
@@ -135,8 +134,8 @@ module _ (m : Model) (es : List Edge) (top : ceiling (with_edges m es) ≡ ceili
       e = b - (ceiling m + 1)
 
       by : (low below : Bool) → leb b (ceiling m) ≡ low → ltb b (choices m) ≡ below
-          → cond low (delay_step (with_edges m es) (ceiling m) b s) (cond below (edge_step (with_edges m es) (get_or es e past_edge) s) none)
-          ≡ cond low (delay_step m (ceiling m) b s) (cond below (edge_step m (edge_at m e) s) none)
+          → cond low (delay_step (with_edges m es) (ceiling m) b s) (cond below (edge_step (with_edges m es) (get_or es e past_edge) s) None)
+          ≡ cond low (delay_step m (ceiling m) b s) (cond below (edge_step m (edge_at m e) s) None)
       by true below p q = delay_step_same b s
       by false false p q = refl
       by false true p q =

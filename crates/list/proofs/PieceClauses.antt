@@ -2,12 +2,11 @@
 use mathlib.Core.Path.{◌≡◌, refl, ap, ◌∙◌}
 use mathlib.Core.Bool.{Bool, true, false, cond}
 use mathlib.Core.List.{List, [], ◌∷◌, ◌++◌, map, flat_map}
-use mathlib.Core.Option
-use mathlib.Core.Option.{Option, none, some}
+use Rattle.std.specs.Prelude.{option_map, Option, None, Some}
 use Prim.Native.Nat.{ℕ, ◌+◌}
 use native.Mathlib.Omega.{arith}
 use Rattle.model.specs.declared.Relation.{Relation}
-use Rattle.model.specs.declared.AtomSlot.{AtomSlot}
+use Rattle.model.specs.declared.Atom.{Atom}
 use Rattle.model.specs.declared.Edge.{Edge}
 use Rattle.model.specs.declared.Model.{Model}
 use Rattle.model.specs.Indexed.{each}
@@ -49,9 +48,9 @@ over_one m f = flat_over m expand (λ x. f x ∷ []) ∙ over_cong m (λ x. flat
 
 -- the literal of a member that may be missing
 pub conclusion : {A : Type 0} (f : A → Member) (y : Option A)
-    → map (λ x. bare (variable_of x)) (to_list (Option.map f y)) ≡ map (λ u. bare (variable_of (f u))) (to_list y)
-conclusion f none = refl
-conclusion f (some u) = refl
+    → map (λ x. bare (variable_of x)) (to_list (option_map f y)) ≡ map (λ u. bare (variable_of (f u))) (to_list y)
+conclusion f None = refl
+conclusion f (Some u) = refl
 
 module _ (m : Model) where
   abbrev S : ℕ
@@ -92,7 +91,7 @@ module _ (m : Model) where
 
   pub initial_piece_lem : clauses_of (initial_items one_hot_width m) ≡ over_components m (λ x. one (bare (0 + at x + initial_value m x) ∷ []))
   unfolding initial_items
-  initial_piece_lem = over_one m (λ x. rule [] (some (state_member one_hot_width m 0 x (initial_value m x))))
+  initial_piece_lem = over_one m (λ x. rule [] (Some (state_member one_hot_width m 0 x (initial_value m x))))
 
   pub state_piece_lem : (o : ℕ)
       → clauses_of (state_items one_hot_width m o) ≡ clauses_of (group_items one_hot_width m o) ++ clauses_of (invariant_items one_hot_width m o)
@@ -107,7 +106,7 @@ module _ (m : Model) where
   unfolding invariant_items
   invariants_piece o = flat_each expand m.locations (invariant_of one_hot_width m o)
 
-  pub atoms_piece : (o : ℕ) (ms : List Member) (atoms : List AtomSlot)
+  pub atoms_piece : (o : ℕ) (ms : List Member) (atoms : List Atom)
       → clauses_of (exclude_all_failing one_hot_width m o ms atoms) ≡ each 4 (λ k. clauses_of (exclude_failing one_hot_width m o ms (atom_at atoms k)))
   atoms_piece o ms atoms = flat_each expand 4 (λ k. exclude_failing one_hot_width m o ms (atom_at atoms k))
 
@@ -121,7 +120,7 @@ module _ (m : Model) where
       (λ v p. go v (meets rel v b))
     where
       item : ℕ → Item
-      item v = rule (y ∷ state_member one_hot_width m o x v ∷ []) none
+      item v = rule (y ∷ state_member one_hot_width m o x v ∷ []) None
 
       go : (v : ℕ) (t : Bool) → clauses_of (cond t [] (item v ∷ [])) ≡ cond t [] (expand (item v))
       go v true = flat_none expand
@@ -154,7 +153,7 @@ module _ (m : Model) where
     where
       item : ℕ → Item
       item v = rule (choice_member one_hot_width m o c ∷ state_member one_hot_width m before x v ∷ [])
-          (Option.map (state_member one_hot_width m (after o) y) (f v))
+          (option_map (state_member one_hot_width m (after o) y) (f v))
 
   -- choice c sets a component to a value
   pub sets_piece : (o c : ℕ) (y : Component) (v : Option ℕ)
@@ -173,10 +172,10 @@ module _ (m : Model) where
       flat_over m expand D ∙
       over_cong m (λ x. clauses_of (D x)) (λ x. each (group_size m x) (λ v. one
       (negated (o + S + d) ∷ negated (o + at x + v) ∷ bare (after o + at x + delayed_value m d x v) ∷ [])))
-      (λ x. leads_piece o o d x x (λ v. some (delayed_value m d x v)))
+      (λ x. leads_piece o o d x x (λ v. Some (delayed_value m d x v)))
     where
       D : Component → List Item
-      D x = leads one_hot_width m o o d x x (λ v. some (delayed_value m d x v))
+      D x = leads one_hot_width m o o d x x (λ v. Some (delayed_value m d x v))
 
   pub edges_piece : (o : ℕ) → clauses_of (edges_items one_hot_width m o) ≡ each m.used (λ e. clauses_of (edge_of one_hot_width m o e))
   unfolding edges_items

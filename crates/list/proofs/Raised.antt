@@ -3,15 +3,13 @@
 use mathlib.Core.Path.{◌≡◌, refl, sym, ap, ap₂, ◌∙◌}
 use mathlib.Core.Bool.{Bool, true, false, cond}
 use mathlib.Core.List.{List, [], ◌∷◌, ◌++◌, map, flat_map, map-append}
-use mathlib.Core.Option
-use mathlib.Core.Option.{Option, none, some}
+use Rattle.std.specs.Prelude.{option_map, Option, None, Some}
 use Prim.Native.Nat.{ℕ, zero, suc, ◌+◌, ◌-◌}
 use native.Mathlib.Nat.{zero-add, add_assoc}
 use native.Mathlib.Omega.{arith}
 use Rattle.model.specs.declared.Relation.{Relation}
 use Rattle.model.specs.declared.Atom.{Atom}
 use Rattle.model.specs.declared.Atom.TheVariants.{Blank, OnClock, OnCounter}
-use Rattle.model.specs.declared.AtomSlot.{AtomSlot}
 use Rattle.model.specs.declared.Update.{Update}
 use Rattle.model.specs.declared.Update.TheVariants.{Keep, Constant, Sum}
 use Rattle.model.specs.declared.ClockUpdate.{ClockUpdate}
@@ -127,7 +125,7 @@ module _ (d : ℕ) where
   -- The same of all members of an item.
   abbrev raise_item : Item → Item
   raise_item (group b n) = group (d + b) n
-  raise_item (rule ms x) = rule (map raise_member ms) (Option.map raise_member x)
+  raise_item (rule ms x) = rule (map raise_member ms) (option_map raise_member x)
 
   -- The literals of raised members on the left of a rule.
   negated_raised : (ms : List Member) → map (λ x. negated (variable_of x)) (map raise_member ms) ≡ map (raise d) (map (λ x. negated (variable_of x)) ms)
@@ -136,9 +134,9 @@ module _ (d : ℕ) where
 
   -- The literal of a raised member on the right of a rule, if there is one.
   bare_raised : (x : Option Member)
-      → map (λ x. bare (variable_of x)) (to_list (Option.map raise_member x)) ≡ map (raise d) (map (λ x. bare (variable_of x)) (to_list x))
-  bare_raised none = refl
-  bare_raised (some x) = ap (λ (i : ℕ). bare i ∷ []) (add_assoc d x.base x.place)
+      → map (λ x. bare (variable_of x)) (to_list (option_map raise_member x)) ≡ map (raise d) (map (λ x. bare (variable_of x)) (to_list x))
+  bare_raised None = refl
+  bare_raised (Some x) = ap (λ (i : ℕ). bare i ∷ []) (add_assoc d x.base x.place)
 
   -- The clauses of a raised item are those of the item, raised.
   item_raised : (i : Item) → expand (raise_item i) ≡ raised d (expand i)
@@ -178,11 +176,11 @@ module _ (width : ℕ → ℕ) (m : Model) (d : ℕ) where
 
   -- A value after the step, which may be missing.
   after_up : (o : ℕ) (y : Component) (v : Option ℕ)
-      → Option.map (state_member width m (after (d + o)) y) v ≡ Option.map (raise_member d) (Option.map (state_member width m (after o) y) v)
-  after_up o y none = refl
-  after_up o y (some u) =
+      → option_map (state_member width m (after (d + o)) y) v ≡ option_map (raise_member d) (option_map (state_member width m (after o) y) v)
+  after_up o y None = refl
+  after_up o y (Some u) =
       let e : after (d + o) ≡ d + after o = omega arith in
-      ap (λ (b : ℕ). some (state_member width m b y u)) e ∙ ap (λ (x : Member). some x) (state_up (after o) y u)
+      ap (λ (b : ℕ). Some (state_member width m b y u)) e ∙ ap (λ (x : Member). Some x) (state_up (after o) y u)
 
   -- ---- a state block
   -- Each value failing a comparison.
@@ -190,13 +188,13 @@ module _ (width : ℕ → ℕ) (m : Model) (d : ℕ) where
       → exclude_values width m (d + o) (map (raise_member d) ms) x rel b ≡ up (exclude_values width m o ms x rel b)
   values_up o ms x rel b = maps_each (raise_item d) (group_size m x) _ _ (λ v. go v (meets rel v b))
     where
-      go : (v : ℕ) (t : Bool) → cond t [] (rule (map (raise_member d) ms ++ (state_member width m (d + o) x v ∷ [])) none ∷ [])
-          ≡ up (cond t [] (rule (ms ++ (state_member width m o x v ∷ [])) none ∷ []))
+      go : (v : ℕ) (t : Bool) → cond t [] (rule (map (raise_member d) ms ++ (state_member width m (d + o) x v ∷ [])) None ∷ [])
+          ≡ up (cond t [] (rule (ms ++ (state_member width m o x v ∷ [])) None ∷ []))
       go v true = refl
       go v false =
           let failing = state_member width m o x v ∷ [] in
           let same = ap (λ (y : Member). y ∷ []) (state_up o x v) in
-          ap (λ (l : List Member). rule l none ∷ []) (map_two (raise_member d) ms failing refl same)
+          ap (λ (l : List Member). rule l None ∷ []) (map_two (raise_member d) ms failing refl same)
 
   -- An atom.
   atom_up : (o : ℕ) (ms : List Member) (t : Atom) → exclude_failing width m (d + o) (map (raise_member d) ms) t ≡ up (exclude_failing width m o ms t)
@@ -205,7 +203,7 @@ module _ (width : ℕ → ℕ) (m : Model) (d : ℕ) where
   atom_up o ms (OnCounter x rel b) = values_up o ms (counter x) rel b
 
   -- The atoms of an invariant or a guard, beside the location or the choice that they belong to.
-  atoms_up : (o : ℕ) {y : Member} (x : Member) (atoms : List AtomSlot) → y ≡ raise_member d x
+  atoms_up : (o : ℕ) {y : Member} (x : Member) (atoms : List Atom) → y ≡ raise_member d x
       → exclude_all_failing width m (d + o) (y ∷ []) atoms ≡ up (exclude_all_failing width m o (x ∷ []) atoms)
   atoms_up o x atoms e =
       ap (λ (y : Member). exclude_all_failing width m (d + o) (y ∷ []) atoms) e
@@ -236,8 +234,8 @@ module _ (width : ℕ → ℕ) (m : Model) (d : ℕ) where
   delay_up : (o t : ℕ) → delay_items width m (d + o) t ≡ up (delay_items width m o t)
   unfolding delay_items
   delay_up o t =
-      let D : ℕ → Component → List Item = λ o x. leads width m o o t x x (λ v. some (delayed_value m t x v)) in
-      maps_over (raise_item d) m (D (d + o)) (D o) (λ x. leads_up o o t x x (λ v. some (delayed_value m t x v)))
+      let D : ℕ → Component → List Item = λ o x. leads width m o o t x x (λ v. Some (delayed_value m t x v)) in
+      maps_over (raise_item d) m (D (d + o)) (D o) (λ x. leads_up o o t x x (λ v. Some (delayed_value m t x v)))
 
   -- The state block in which an update reads its source.
   read_up : (after : Bool) (o : ℕ) → cond after (next_block width m (d + o)) (d + o) ≡ d + cond after (next_block width m o) o
@@ -246,7 +244,7 @@ module _ (width : ℕ → ℕ) (m : Model) (d : ℕ) where
 
   -- A counter's update.
   update_up : (o c : ℕ) (order : List ℕ) (i : ℕ) (u : Update) → update_items width m (d + o) c order i u ≡ up (update_items width m o c order i u)
-  update_up o c order i Keep = leads_up o o c (counter i) (counter i) some
+  update_up o c order i Keep = leads_up o o c (counter i) (counter i) Some
   update_up o c order i (Constant n) = sets_up o c (counter i) (in_range (counter_at m i).greatest n)
   update_up o c order i (Sum w z) =
       let to : ℕ → Option ℕ = shifted z (counter_at m i).greatest in
@@ -255,9 +253,9 @@ module _ (width : ℕ → ℕ) (m : Model) (d : ℕ) where
 
   -- A clock's update.
   reset_up : (o c i : ℕ) (u : ClockUpdate) → reset_items width m (d + o) c i u ≡ up (reset_items width m o c i u)
-  reset_up o c i Unchanged = leads_up o o c (clock i) (clock i) some
-  reset_up o c i Reset = sets_up o c (clock i) (some 0)
-  reset_up o c i (Copy w) = leads_up o o c (clock w) (clock i) some
+  reset_up o c i Unchanged = leads_up o o c (clock i) (clock i) Some
+  reset_up o c i Reset = sets_up o c (clock i) (Some 0)
+  reset_up o c i (Copy w) = leads_up o o c (clock w) (clock i) Some
 
   -- An edge.
   edge_up : (o c : ℕ) (e : Edge) → edge_items width m (d + o) c e ≡ up (edge_items width m o c e)
@@ -273,8 +271,8 @@ module _ (width : ℕ → ℕ) (m : Model) (d : ℕ) where
       map_two R (source ++ target ++ guard) updates (
       map_two R (source ++ target) guard (
       map_two R source target
-      (ap₂ (λ (a b : Member). rule (a ∷ []) (some b) ∷ []) (choice_up o c) (state_up o loc e.source))
-      (sets_up o c loc (some e.target)))
+      (ap₂ (λ (a b : Member). rule (a ∷ []) (Some b) ∷ []) (choice_up o c) (state_up o loc e.source))
+      (sets_up o c loc (Some e.target)))
       (atoms_up o (choice_member width m o c) e.guard (choice_up o c)))
       (maps_each R m.vars _ _ (λ i. update_up o c e.order i (update_at e i))))
       (maps_each R m.clocks _ _ (λ i. reset_up o c i (reset_at e i)))
@@ -304,4 +302,4 @@ module _ (m : Model) where
   end_raised k =
       let d : ℕ = block_at one_hot_width m k in
       let e : d + 0 ≡ d + (block_at one_hot_width m 0 + 0) = omega arith in
-      items_raised d _ (ap (λ (b : ℕ). rule [] (some (member b m.locations m.target)) ∷ []) e)
+      items_raised d _ (ap (λ (b : ℕ). rule [] (Some (member b m.locations m.target)) ∷ []) e)

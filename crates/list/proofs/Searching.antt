@@ -3,7 +3,7 @@ use mathlib.Core.Path.{◌≡◌, refl, sym, subst}
 use mathlib.Core.Logic.{◌↔◌}
 use mathlib.Core.Bool.{Bool, true, false, ◌&&◌, cond}
 use mathlib.Core.List.{List, [], ◌∷◌}
-use mathlib.Core.Option.{none, some}
+use Rattle.std.specs.Prelude.{None, Some}
 use Prim.Native.Nat.{ℕ, suc, ◌+◌, ◌≤◌, ◌<◌}
 use native.Mathlib.Numerals.{add-one}
 use native.Mathlib.Omega.{arith}
@@ -36,11 +36,11 @@ module _ (a : List ℕ) where
       go true ih = (λ h. ih.0 (omega arith), λ h. let e = ih.1 h in omega arith)
       go false ih = (λ h. omega arith, λ h. absurd h)
 
-  pub first_false_none : (cs : List Clause) → (first_false a cs ≡ none) ↔ T (satisfied a cs)
+  pub first_false_none : (cs : List Clause) → (first_false a cs ≡ None) ↔ T (satisfied a cs)
   unfolding first_false
   first_false_none cs = go (ltb (true_before a cs) (length cs)) refl
     where
-      go : (b : Bool) → ltb (true_before a cs) (length cs) ≡ b → (only_if b (true_before a cs) ≡ none) ↔ T (satisfied a cs)
+      go : (b : Bool) → ltb (true_before a cs) (length cs) ≡ b → (only_if b (true_before a cs) ≡ None) ↔ T (satisfied a cs)
       go true e = (
         (λ h. absurd (some_none (sym h))),
         λ h. let l = ltb→lt (true_before a cs) (length cs)
@@ -66,7 +66,7 @@ module _ (a : List ℕ) where
       go true e ih l = let x = ih (omega arith) in rw (add-one (true_before a cs)) (rw e x.0, x.1)
       go false e ih l = (tt, λ t. subst T e t)
 
-  pub first_false_some : (cs : List Clause) (i : ℕ) → first_false a cs ≡ some i
+  pub first_false_some : (cs : List Clause) (i : ℕ) → first_false a cs ≡ Some i
       → (i < length cs) × T (satisfied a (take i cs)) × (T (clause_true a (get_or cs i [])) → ⊥)
   unfolding first_false
   first_false_some cs i h =

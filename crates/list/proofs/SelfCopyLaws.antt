@@ -8,7 +8,6 @@ use lib.Dec.{T, ltb, eqb}
 use borrow.Author.Tests.{eq-eqb}
 use Rattle.model.specs.declared.ClockUpdate.{ClockUpdate}
 use Rattle.model.specs.declared.ClockUpdate.TheVariants.{Unchanged, Reset, Copy}
-use Rattle.model.specs.declared.ClockSlot.{ClockSlot}
 use Rattle.model.specs.declared.Edge.{Edge}
 use Rattle.model.specs.declared.Model.{Model}
 use Rattle.model.specs.declared.State.{State}
@@ -54,7 +53,7 @@ same_slot clocks i (Copy w) h = by (eqb w i)
 module _ (e : Edge) where
   reset_is : (i : ℕ) → i < 4 → reset_at (self_edge e) i ≡ self_unchanged i (reset_at e i)
   unfolding self_edge
-  reset_is i l = ap (λ (x : ClockSlot). x.update) (get_d_list blank_reset (self_slot e) 4 i l)
+  reset_is i l = (get_d_list blank_reset (self_slot e) 4 i l)
 
   step_of : (m : Model) (s : State) → edge_step m (self_edge e) s ≡ edge_step m e s
   unfolding self_edge

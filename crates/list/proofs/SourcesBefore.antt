@@ -3,7 +3,7 @@
 use mathlib.Core.Path.{◌≡◌, refl, ap}
 use mathlib.Core.Bool.{Bool, false, cond}
 use mathlib.Core.List.{List, ◌++◌}
-use mathlib.Core.Option.{some}
+use Rattle.std.specs.Prelude.{Some}
 use Prim.Native.Nat.{ℕ}
 use lib.IntN.{ℤ}
 use Rattle.model.specs.declared.Update.{Update}
@@ -20,7 +20,7 @@ use Rattle.list.proofs.ListLaws.{each_cong}
 module _ (width : ℕ → ℕ) (m : Model) (o c : ℕ) where
   -- An update that reads the values from before the edge: for w plus offset, each value of w: not edge, not value before, result after.
   abbrev pub items_from_before : ℕ → Update → List Item
-  items_from_before i Keep = leads width m o o c (counter i) (counter i) some
+  items_from_before i Keep = leads width m o o c (counter i) (counter i) Some
   items_from_before i (Constant n) = sets_to width m o c (counter i) (in_range (counter_at m i).greatest n)
   items_from_before i (Sum w z) = leads width m o o c (counter w) (counter i) (shifted z (counter_at m i).greatest)
 

@@ -4,7 +4,7 @@ use mathlib.Core.Path.{◌≡◌, sym, ap}
 use mathlib.Core.Logic.{◌↔◌}
 use mathlib.Core.Bool.{Bool, true, false, cond}
 use mathlib.Core.List.{List, [], ◌∷◌}
-use mathlib.Core.Option.{some}
+use Rattle.std.specs.Prelude.{Some}
 use Prim.Native.Nat.{ℕ, ◌+◌, ◌<◌}
 use native.Mathlib.Omega.{arith}
 use lib.Dec.{T}
@@ -41,17 +41,17 @@ module _ (width : ℕ → ℕ) (m : Model) (truth : Member → Bool) {o : ℕ} {
       → value t x ≡ delayed_value m d x (value s x)
   unfolding delay_items
   delay_to d l h e x p =
-      let D : Component → List Item = λ x. leads width m o o d x x (λ v. some (delayed_value m d x v)) in
-      sym (some_inj (leads_to truth d pk (q.shown x p) (q'.shown x p) (λ v. some (delayed_value m d x v)) (delay_lt m d l)
+      let D : Component → List Item = λ x. leads width m o o d x x (λ v. Some (delayed_value m d x v)) in
+      sym (some_inj (leads_to truth d pk (q.shown x p) (q'.shown x p) (λ v. Some (delayed_value m d x v)) (delay_lt m d l)
       (λ v u a b. rw (← some_inj b) (delayed_lt m d x v a)) ((over_components_lem m (Holds truth) D).0 h x p) e))
 
   pub delay_of : (d : ℕ) → d < ceiling m + 1 → (d ≡ k → (x : Component) → Declared m x → value t x ≡ delayed_value m d x (value s x))
       → All (Holds truth) (delay_items width m o d)
   unfolding delay_items
   delay_of d l h =
-      let D : Component → List Item = λ x. leads width m o o d x x (λ v. some (delayed_value m d x v)) in
-      (over_components_lem m (Holds truth) D).1 (λ x p. leads_of truth d pk (q.shown x p) (q'.shown x p) (λ v. some (delayed_value m d x v))
-      (delay_lt m d l) (λ e. ap some (sym (h e x p))))
+      let D : Component → List Item = λ x. leads width m o o d x x (λ v. Some (delayed_value m d x v)) in
+      (over_components_lem m (Holds truth) D).1 (λ x p. leads_of truth d pk (q.shown x p) (q'.shown x p) (λ v. Some (delayed_value m d x v))
+      (delay_lt m d l) (λ e. ap Some (sym (h e x p))))
 
   -- an edge
   module _ (c : ℕ) (hc : c < choices m) where
@@ -63,8 +63,8 @@ module _ (width : ℕ → ℕ) (m : Model) (truth : Member → Bool) {o : ℕ} {
     read_shown false w p = q.shown (counter w) p
 
     update_to : (e : Edge) (i : ℕ) → i < m.vars → (u : Update) → DeclaredUpdate m u → All (Holds truth) (update_items width m o c e.order i u) → c ≡ k
-        → new_counter (read_by e s t i) (counter_at m i).greatest (value s (counter i)) u ≡ some (value t (counter i))
-    update_to e i p Keep a h g = leads_to truth c pk (q.shown (counter i) p) (q'.shown (counter i) p) some hc (λ v u a b. rw (← some_inj b) a) h g
+        → new_counter (read_by e s t i) (counter_at m i).greatest (value s (counter i)) u ≡ Some (value t (counter i))
+    update_to e i p Keep a h g = leads_to truth c pk (q.shown (counter i) p) (q'.shown (counter i) p) Some hc (λ v u a b. rw (← some_inj b) a) h g
     update_to e i p (Constant n) a h g = sets_to_lem truth c pk (q'.shown (counter i) p) (in_range (counter_at m i).greatest n) hc
         (in_range_lt (counter_at m i).greatest n) h.0 g
     update_to e i p (Sum w z) a h g =
@@ -72,30 +72,30 @@ module _ (width : ℕ → ℕ) (m : Model) (truth : Member → Bool) {o : ℕ} {
         (λ v u a b. shifted_lt z (counter_at m i).greatest v u b) h g
 
     update_of : (e : Edge) (i : ℕ) → i < m.vars → (u : Update) → DeclaredUpdate m u
-        → (c ≡ k → new_counter (read_by e s t i) (counter_at m i).greatest (value s (counter i)) u ≡ some (value t (counter i)))
+        → (c ≡ k → new_counter (read_by e s t i) (counter_at m i).greatest (value s (counter i)) u ≡ Some (value t (counter i)))
         → All (Holds truth) (update_items width m o c e.order i u)
-    update_of e i p Keep a h = leads_of truth c pk (q.shown (counter i) p) (q'.shown (counter i) p) some hc h
+    update_of e i p Keep a h = leads_of truth c pk (q.shown (counter i) p) (q'.shown (counter i) p) Some hc h
     update_of e i p (Constant n) a h = (sets_of truth c pk (q'.shown (counter i) p) (in_range (counter_at m i).greatest n) hc h, tt)
     update_of e i p (Sum w z) a h =
         leads_of truth c pk (read_shown (set_earlier e.order w i) w a) (q'.shown (counter i) p) (shifted z (counter_at m i).greatest) hc h
 
     reset_to : (i : ℕ) → i < m.clocks → (u : ClockUpdate) → DeclaredReset m u → All (Holds truth) (reset_items width m o c i u) → c ≡ k
         → new_clock (λ x. value s (clock x)) (value s (clock i)) u ≡ value t (clock i)
-    reset_to i p Unchanged d h e = some_inj (leads_to truth c pk (q.shown (clock i) p) (q'.shown (clock i) p) some hc (λ v u a b. rw (← some_inj b) a) h e)
-    reset_to i p Reset d h e = some_inj (sets_to_lem truth c pk (q'.shown (clock i) p) (some 0) hc (λ u a. rw (← some_inj a) (omega arith)) h.0 e)
-    reset_to i p (Copy w) d h e = some_inj (leads_to truth c pk (q.shown (clock w) d) (q'.shown (clock i) p) some hc (λ v u a b. rw (← some_inj b) a) h e)
+    reset_to i p Unchanged d h e = some_inj (leads_to truth c pk (q.shown (clock i) p) (q'.shown (clock i) p) Some hc (λ v u a b. rw (← some_inj b) a) h e)
+    reset_to i p Reset d h e = some_inj (sets_to_lem truth c pk (q'.shown (clock i) p) (Some 0) hc (λ u a. rw (← some_inj a) (omega arith)) h.0 e)
+    reset_to i p (Copy w) d h e = some_inj (leads_to truth c pk (q.shown (clock w) d) (q'.shown (clock i) p) Some hc (λ v u a b. rw (← some_inj b) a) h e)
 
     reset_of_lem : (i : ℕ) → i < m.clocks → (u : ClockUpdate) → DeclaredReset m u
         → (c ≡ k → new_clock (λ x. value s (clock x)) (value s (clock i)) u ≡ value t (clock i))
         → All (Holds truth) (reset_items width m o c i u)
-    reset_of_lem i p Unchanged d h = leads_of truth c pk (q.shown (clock i) p) (q'.shown (clock i) p) some hc (λ e. ap some (h e))
-    reset_of_lem i p Reset d h = (sets_of truth c pk (q'.shown (clock i) p) (some 0) hc (λ e. ap some (h e)), tt)
-    reset_of_lem i p (Copy w) d h = leads_of truth c pk (q.shown (clock w) d) (q'.shown (clock i) p) some hc (λ e. ap some (h e))
+    reset_of_lem i p Unchanged d h = leads_of truth c pk (q.shown (clock i) p) (q'.shown (clock i) p) Some hc (λ e. ap Some (h e))
+    reset_of_lem i p Reset d h = (sets_of truth c pk (q'.shown (clock i) p) (Some 0) hc (λ e. ap Some (h e)), tt)
+    reset_of_lem i p (Copy w) d h = leads_of truth c pk (q.shown (clock w) d) (q'.shown (clock i) p) Some hc (λ e. ap Some (h e))
 
     -- what the items of an edge ask, part by part
     record EdgeAsks (e : Edge) : Type 0 where
-      source : Holds truth (rule (choice_member width m o c ∷ []) (some (state_member width m o loc e.source)))
-      target : Holds truth (rule (choice_member width m o c ∷ []) (some (state_member width m (next_block width m o) loc e.target)))
+      source : Holds truth (rule (choice_member width m o c ∷ []) (Some (state_member width m o loc e.source)))
+      target : Holds truth (rule (choice_member width m o c ∷ []) (Some (state_member width m (next_block width m o) loc e.target)))
       guard : All (Holds truth) (exclude_all_failing width m o (choice_member width m o c ∷ []) e.guard)
       updates : (i : ℕ) → i < m.vars → All (Holds truth) (update_items width m o c e.order i (update_at e i))
       resets : (i : ℕ) → i < m.clocks → All (Holds truth) (reset_items width m o c i (reset_at e i))

@@ -3,7 +3,7 @@ use mathlib.Core.Path.{◌≡◌, refl, sym, ap, subst, ◌∙◌}
 use mathlib.Core.Logic.{◌↔◌, ◌⊎◌, inl, inr}
 use mathlib.Core.Bool.{Bool}
 use mathlib.Core.List.{List, [], ◌∷◌}
-use mathlib.Core.Option.{some}
+use Rattle.std.specs.Prelude.{Some}
 use Prim.Native.Nat.{ℕ, zero, suc, ◌+◌, ◌*◌, ◌<◌}
 use native.Mathlib.Nat.{not-suc-le-zero, zero-add}
 use native.Mathlib.Omega.{arith}
@@ -53,7 +53,7 @@ module _ (width : ℕ → ℕ) (m : Model) (truth : Member → Bool) (ok : WellF
 
   -- the step's items hold: there is a choice and a next state, and the step leads there
   pub step_to : {o : ℕ} {s : State} → ShowsState width m truth o s → All (Holds truth) (step_items width m o)
-      → (b : ℕ) × (t : State) × (step m s b ≡ some t) × Shows truth (o + state_width width m) (choices m) b × ShowsState width m truth (next_block width m o) t
+      → (b : ℕ) × (t : State) × (step m s b ≡ Some t) × Shows truth (o + state_width width m) (choices m) b × ShowsState width m truth (next_block width m o) t
   step_to {o} {s} q h =
       let g = (step_parts o).0 h in
       let c = g.choice in
@@ -62,7 +62,7 @@ module _ (width : ℕ → ℕ) (m : Model) (truth : Member → Bool) (ok : WellF
     where
       go : (b : ℕ) (t : State) → Shows truth (o + state_width width m) (choices m) b → ShowsState width m truth (next_block width m o) t
           → T (invariant_holds m t) → StepAsks o
-          → (b < ceiling m + 1) ⊎ ((e : ℕ) × (e < m.used) × (b ≡ ceiling m + 1 + e)) → step m s b ≡ some t
+          → (b < ceiling m + 1) ⊎ ((e : ℕ) × (e < m.used) × (b ≡ ceiling m + 1 + e)) → step m s b ≡ Some t
       go b t pk q' i g (inl l) = (step_delay m ok s t q.shape b l).1 (record {
         shape = q'.shape;
         values = delay_to width m truth q pk q' b l
@@ -74,7 +74,7 @@ module _ (width : ℕ → ℕ) (m : Model) (truth : Member → Bool) (ok : WellF
 
   pub step_of : {o : ℕ} {s t : State} {b : ℕ} → ShowsState width m truth o s → Shows truth (o + state_width width m) (choices m) b
       → ShowsState width m truth (next_block width m o) t
-      → step m s b ≡ some t → All (Holds truth) (step_items width m o)
+      → step m s b ≡ Some t → All (Holds truth) (step_items width m o)
   step_of {o} {s} {t} {b} q pk q' h = (step_parts o).1 (record {
     choice = (b, pk);
     delays = λ d l. delay_of width m truth q pk q' d l (λ e. ((step_delay m ok s t q.shape d l).0 (rw e h)).values);
@@ -86,10 +86,10 @@ module _ (width : ℕ → ℕ) (m : Model) (truth : Member → Bool) (ok : WellF
   -- ---- the start
   start_parts : All (Holds truth) (start_items width m)
       ↔ (All (Holds truth) (state_items width m 0) × ((x : Component) → Declared m x → Holds truth
-      (rule [] (some (state_member width m 0 x (initial_value m x))))))
+      (rule [] (Some (state_member width m 0 x (initial_value m x))))))
   unfolding start_items initial_items
   start_parts =
-      let I : Component → List Item = λ x. rule [] (some (state_member width m 0 x (initial_value m x))) ∷ [] in
+      let I : Component → List Item = λ x. rule [] (Some (state_member width m 0 x (initial_value m x))) ∷ [] in
       let a = all_app (Holds truth) (state_items width m 0) (over_components m I) in (
         λ h. ((a.0 h).0, λ x p. ((over_components_lem m (Holds truth) I).0 (a.0 h).1 x p).0),
         λ h. a.1
@@ -111,7 +111,7 @@ module _ (width : ℕ → ℕ) (m : Model) (truth : Member → Bool) (ok : WellF
   -- the blocks show the states of a walk, and its bytes
   abbrev pub ShowsWalk : ℕ → State → List ℕ → State → Type 0
   ShowsWalk o s [] e = s ≡ e
-  ShowsWalk o s (b ∷ r) e = (t : State) × (step m s b ≡ some t) × Shows truth (o + state_width width m) (choices m) b × ShowsState width m truth
+  ShowsWalk o s (b ∷ r) e = (t : State) × (step m s b ≡ Some t) × Shows truth (o + state_width width m) (choices m) b × ShowsState width m truth
       (next_block width m o) t × ShowsWalk (next_block width m o) t r e
 
   abbrev StepsHold : ℕ → ℕ → Type 0
@@ -158,7 +158,7 @@ module _ (width : ℕ → ℕ) (m : Model) (truth : Member → Bool) (ok : WellF
       hold h (suc i) l = subst (λ (i : ℕ). All (Holds truth) (step_items width m i)) (sym (later_block o (state_width width m) (choice_width width m) i))
           (h i (omega arith))
 
-  pub shows_walk : (r : List ℕ) (o : ℕ) (s e : State) → ShowsWalk o s r e → walk m s r ≡ some e
+  pub shows_walk : (r : List ℕ) (o : ℕ) (s e : State) → ShowsWalk o s r e → walk m s r ≡ Some e
   shows_walk [] o s e t = (walk_nil m s e).1 t
   shows_walk (b ∷ r) o s e t = (walk_cons m s e b r).1 (t.0, t.1, shows_walk r (next_block width m o) t.0 e t.4)
 
@@ -173,7 +173,7 @@ module _ (width : ℕ → ℕ) (m : Model) (truth : Member → Bool) (ok : WellF
   record ListAsks (k : ℕ) : Type 0 where
     start : All (Holds truth) (start_items width m)
     steps : StepsHold 0 k
-    end : Holds truth (rule [] (some (state_member width m (block_at width m k) loc m.target)))
+    end : Holds truth (rule [] (Some (state_member width m (block_at width m k) loc m.target)))
 
   list_parts : (k : ℕ) → All (Holds truth) (items width m k) ↔ ListAsks k
   unfolding items body_items end_items

@@ -2,8 +2,7 @@
 use mathlib.Core.Path.{◌≡◌, refl}
 use mathlib.Core.Bool.{Bool, true, false, cond}
 use mathlib.Core.List.{List, [], ◌∷◌, ◌++◌, map}
-use mathlib.Core.Option
-use mathlib.Core.Option.{Option, none, some}
+use Rattle.std.specs.Prelude.{option_map, Option, None, Some}
 use Prim.Native.Nat.{ℕ, ◌+◌, ◌-◌, ◌≤◌, ◌<◌}
 use native.Mathlib.Nat.{mul-le-mul_right}
 use native.Mathlib.Omega.{arith}
@@ -11,7 +10,6 @@ use lib.Dec.{T}
 use Rattle.model.specs.declared.Relation.{Relation}
 use Rattle.model.specs.declared.Atom.{Atom}
 use Rattle.model.specs.declared.Atom.TheVariants.{Blank, OnClock, OnCounter}
-use Rattle.model.specs.declared.AtomSlot.{AtomSlot}
 use Rattle.model.specs.declared.Update.{Update}
 use Rattle.model.specs.declared.Update.TheVariants.{Keep, Constant, Sum}
 use Rattle.model.specs.declared.ClockUpdate.{ClockUpdate}
@@ -110,7 +108,7 @@ module _ (m : Model) where
           → All (ItemInside N) (exclude_values one_hot_width m o ms x rel b)
       values_inside ms g x p rel b = (all_each (ItemInside N) (group_size m x) _).1 (λ v l. go v l (meets rel v b))
         where
-          go : (v : ℕ) → v < group_size m x → (t : Bool) → All (ItemInside N) (cond t [] (rule (ms ++ (state_member one_hot_width m o x v ∷ [])) none ∷ []))
+          go : (v : ℕ) → v < group_size m x → (t : Bool) → All (ItemInside N) (cond t [] (rule (ms ++ (state_member one_hot_width m o x v ∷ [])) None ∷ []))
           go v l true = tt
           go v l false =
               let failing = state_member one_hot_width m o x v ∷ [] in
@@ -121,7 +119,7 @@ module _ (m : Model) where
       atom_inside ms g (OnClock x rel b) p = values_inside ms g (clock x) p rel b
       atom_inside ms g (OnCounter x rel b) p = values_inside ms g (counter x) p rel b
 
-      atoms_inside : (ms : List Member) → All (Inside N) ms → (atoms : List AtomSlot) → ((k : ℕ) → k < 4 → DeclaredAtom m (atom_at atoms k))
+      atoms_inside : (ms : List Member) → All (Inside N) ms → (atoms : List Atom) → ((k : ℕ) → k < 4 → DeclaredAtom m (atom_at atoms k))
           → All (ItemInside N) (exclude_all_failing one_hot_width m o ms atoms)
       atoms_inside ms g atoms p = (all_each (ItemInside N) 4 _).1 (λ k l. atom_inside ms g (atom_at atoms k) (p k l))
 
@@ -148,19 +146,19 @@ module _ (m : Model) where
       abbrev next : ℕ
       next = next_block one_hot_width m o
 
-      after_inside : (y : Component) → Declared m y → (v : Option ℕ) → ((u : ℕ) → v ≡ some u → u < group_size m y)
-          → All (Inside N) (to_list (Option.map (state_member one_hot_width m next y) v))
-      after_inside y p none f = tt
-      after_inside y p (some u) f = (state_inside next h y p u (f u refl), tt)
+      after_inside : (y : Component) → Declared m y → (v : Option ℕ) → ((u : ℕ) → v ≡ Some u → u < group_size m y)
+          → All (Inside N) (to_list (option_map (state_member one_hot_width m next y) v))
+      after_inside y p None f = tt
+      after_inside y p (Some u) f = (state_inside next h y p u (f u refl), tt)
 
       module _ (c : ℕ) (hc : c < choices m) where
         leads_inside : (before : ℕ) → before + S ≤ N → (x y : Component) → Declared m x → Declared m y → (f : ℕ → Option ℕ)
-            → ((v u : ℕ) → v < group_size m x → f v ≡ some u → u < group_size m y)
+            → ((v u : ℕ) → v < group_size m x → f v ≡ Some u → u < group_size m y)
             → All (ItemInside N) (leads one_hot_width m before o c x y f)
         leads_inside before b x y p q f g = (all_each (ItemInside N) (group_size m x) _).1 (λ v l.
             (((choice_inside c hc, (state_inside before b x p v l, tt)), after_inside y q (f v) (λ u e. g v u l e)), tt))
 
-        sets_inside : (y : Component) → Declared m y → (v : Option ℕ) → ((u : ℕ) → v ≡ some u → u < group_size m y)
+        sets_inside : (y : Component) → Declared m y → (v : Option ℕ) → ((u : ℕ) → v ≡ Some u → u < group_size m y)
             → All (ItemInside N) (sets_to one_hot_width m o c y v)
         sets_inside y q v g = (((choice_inside c hc, tt), after_inside y q v g), tt)
 
@@ -171,7 +169,7 @@ module _ (m : Model) where
 
         update_inside : (order : List ℕ) (i : ℕ) → i < m.vars → (u : Update) → DeclaredUpdate m u
             → All (ItemInside N) (update_items one_hot_width m o c order i u)
-        update_inside order i p Keep q = leads_inside o here (counter i) (counter i) p p some (λ v u a b. rw (← some_inj b) a)
+        update_inside order i p Keep q = leads_inside o here (counter i) (counter i) p p Some (λ v u a b. rw (← some_inj b) a)
         update_inside order i p (Constant n) q =
             let greatest = (counter_at m i).greatest in
             sets_inside (counter i) p (in_range greatest n) (in_range_lt greatest n)
@@ -181,9 +179,9 @@ module _ (m : Model) where
             leads_inside b (read_inside (set_earlier order w i)) (counter w) (counter i) q p (shifted z greatest) (λ v u a b. shifted_lt z greatest v u b)
 
         reset_inside : (i : ℕ) → i < m.clocks → (u : ClockUpdate) → DeclaredReset m u → All (ItemInside N) (reset_items one_hot_width m o c i u)
-        reset_inside i p Unchanged d = leads_inside o here (clock i) (clock i) p p some (λ v u a b. rw (← some_inj b) a)
-        reset_inside i p Reset d = sets_inside (clock i) p (some 0) (λ u e. rw (← some_inj e) (omega arith))
-        reset_inside i p (Copy w) d = leads_inside o here (clock w) (clock i) d p some (λ v u a b. rw (← some_inj b) a)
+        reset_inside i p Unchanged d = leads_inside o here (clock i) (clock i) p p Some (λ v u a b. rw (← some_inj b) a)
+        reset_inside i p Reset d = sets_inside (clock i) p (Some 0) (λ u e. rw (← some_inj e) (omega arith))
+        reset_inside i p (Copy w) d = leads_inside o here (clock w) (clock i) d p Some (λ v u a b. rw (← some_inj b) a)
 
         edge_inside : (e : Edge) → WellFormedEdge m e → All (ItemInside N) (edge_items one_hot_width m o c e)
         unfolding edge_items source_items target_items guard_items updates_items resets_items
@@ -206,9 +204,9 @@ module _ (m : Model) where
       delay_inside : (d : ℕ) → d < ceiling m + 1 → All (ItemInside N) (delay_items one_hot_width m o d)
       unfolding delay_items
       delay_inside d l =
-          let D : Component → List Item = λ x. leads one_hot_width m o o d x x (λ v. some (delayed_value m d x v)) in
+          let D : Component → List Item = λ x. leads one_hot_width m o o d x x (λ v. Some (delayed_value m d x v)) in
           (over_components_lem m (ItemInside N) D).1 (λ x p.
-          let to : ℕ → Option ℕ = λ v. some (delayed_value m d x v) in
+          let to : ℕ → Option ℕ = λ v. Some (delayed_value m d x v) in
           leads_inside d (delay_lt m d l) o here x x p p to (λ v u a b. rw (← some_inj b) (delayed_lt m d x v a)))
 
       step_inside : All (ItemInside N) (step_items one_hot_width m o)
@@ -229,7 +227,7 @@ module _ (m : Model) where
     unfolding start_items initial_items
     start_inside h =
         let z : 0 + S ≤ N = omega arith in
-        let I : Component → List Item = λ x. rule [] (some (state_member one_hot_width m 0 x (initial_value m x))) ∷ [] in
+        let I : Component → List Item = λ x. rule [] (Some (state_member one_hot_width m 0 x (initial_value m x))) ∷ [] in
         (all_app (ItemInside N) (state_items one_hot_width m 0) (over_components m I)).1 (
           state_items_inside 0 z,
           (over_components_lem m (ItemInside N) I).1

@@ -1,7 +1,7 @@
 -- Assignments: N bytes of 0 or 1, the first for variable 1. Which clauses one makes true, the run of an assignment, the assignment of a run.
 use Rattle.std.specs.Prelude.{Bool, not, cond, ℕ, zero, suc, ◌+◌, ◌<◌, eqb, ltb, length, get_or, take}
 use mathlib.Core.List.{List, [], ◌∷◌, ◌++◌, IsPrefix}
-use Rattle.std.proofs.Math.Option.{Option}
+use Rattle.std.specs.Prelude.{Option}
 use Rattle.model.specs.declared.Model.{Model}
 use Rattle.model.specs.declared.State.{State}
 use Rattle.model.specs.Indexed.{list_below, only_if, maybe}

@@ -1,7 +1,7 @@
 -- Numbering and clause order: the clause list as a list of items. An item says what is asked of groups of solver variables; a layout
 -- (specs/Clauses.antt has the first) gives a group its variables and an item its clauses.
 use Rattle.std.specs.Prelude.{cond, List, [], ◌∷◌, ◌++◌, ℕ, ◌+◌, ◌*◌}
-use Rattle.std.proofs.Math.Option.{Option, none, some, map}
+use Rattle.std.specs.Prelude.{Option, None, Some, option_map}
 use Rattle.model.specs.declared.Relation.{Relation}
 use Rattle.model.specs.declared.Atom.{Atom}
 use Rattle.model.specs.declared.Atom.TheVariants.{Blank, OnClock, OnCounter}
@@ -9,7 +9,6 @@ use Rattle.model.specs.declared.Update.{Update}
 use Rattle.model.specs.declared.Update.TheVariants.{Keep, Constant, Sum}
 use Rattle.model.specs.declared.ClockUpdate.{ClockUpdate}
 use Rattle.model.specs.declared.ClockUpdate.TheVariants.{Unchanged, Reset, Copy}
-use Rattle.model.specs.declared.AtomSlot.{AtomSlot}
 use Rattle.model.specs.declared.Edge.{Edge}
 use Rattle.model.specs.declared.Model.{Model}
 use Rattle.model.specs.Indexed.{each, sum_below}
@@ -73,7 +72,7 @@ module _ (width : ℕ → ℕ) (m : Model) where
   -- ---- state clauses
   -- One value v of component x: where it fails the comparison, not the members ms, not that value.
   abbrev pub exclude_value : ℕ → List Member → Component → Relation → ℕ → ℕ → List Item
-  exclude_value o ms x relation constant v = cond (meets relation v constant) [] (rule (ms ++ (state_member o x v ∷ [])) none ∷ [])
+  exclude_value o ms x relation constant v = cond (meets relation v constant) [] (rule (ms ++ (state_member o x v ∷ [])) None ∷ [])
 
   -- Each value failing the comparison; values rise.
   abbrev pub exclude_values : ℕ → List Member → Component → Relation → ℕ → List Item
@@ -86,7 +85,7 @@ module _ (width : ℕ → ℕ) (m : Model) where
   exclude_failing o ms (OnCounter x relation constant) = exclude_values o ms (counter x) relation constant
 
   -- The atoms of an invariant or a guard, in order of the slots.
-  abbrev pub exclude_all_failing : ℕ → List Member → List AtomSlot → List Item
+  abbrev pub exclude_all_failing : ℕ → List Member → List Atom → List Item
   exclude_all_failing o ms atoms = each 4 (λ k. exclude_failing o ms (atom_at atoms k))
 
   -- State clauses, first part: the group clauses of each group.
@@ -108,7 +107,7 @@ module _ (width : ℕ → ℕ) (m : Model) where
   -- ---- start
   -- Start, second part: one clause each for the initial location, each counter's initial value, each clock at 0.
   unfoldable pub initial_items : List Item
-  initial_items = over_components m (λ x. rule [] (some (state_member 0 x (initial_value m x))) ∷ [])
+  initial_items = over_components m (λ x. rule [] (Some (state_member 0 x (initial_value m x))) ∷ [])
 
   -- Start: state clauses of state 0; then one clause each for the initial values.
   unfoldable pub start_items : List Item
@@ -122,15 +121,15 @@ module _ (width : ℕ → ℕ) (m : Model) where
   -- Each value v of component x in the state block at `before`: not choice c, not that value, f v of component y in the state after; without
   -- the last literal where f v is out of range.
   abbrev pub leads : ℕ → ℕ → ℕ → Component → Component → (ℕ → Option ℕ) → List Item
-  leads before o c x y f = each (group_size m x) (λ v. rule (choice_member o c ∷ state_member before x v ∷ []) (map (state_member (next_block o) y) (f v)) ∷ [])
+  leads before o c x y f = each (group_size m x) (λ v. rule (choice_member o c ∷ state_member before x v ∷ []) (option_map (state_member (next_block o) y) (f v)) ∷ [])
 
   -- Not choice c, a value of component y in the state after; or not choice c alone, where the value is out of range.
   abbrev pub sets_to : ℕ → ℕ → Component → Option ℕ → List Item
-  sets_to o c y v = rule (choice_member o c ∷ []) (map (state_member (next_block o) y) v) ∷ []
+  sets_to o c y v = rule (choice_member o c ∷ []) (option_map (state_member (next_block o) y) v) ∷ []
 
   -- Delay d: for each member of the state before in block order: not delay, not member, its successor in the state after.
   unfoldable pub delay_items : ℕ → ℕ → List Item
-  delay_items o d = over_components m (λ x. leads o o d x x (λ v. some (delayed_value m d x v)))
+  delay_items o d = over_components m (λ x. leads o o d x x (λ v. Some (delayed_value m d x v)))
 
   -- Each delay, 0 to M.
   unfoldable pub delays_items : ℕ → List Item
@@ -138,11 +137,11 @@ module _ (width : ℕ → ℕ) (m : Model) where
 
   -- An edge, which is choice c: not edge, source before.
   unfoldable pub source_items : ℕ → ℕ → Edge → List Item
-  source_items o c e = rule (choice_member o c ∷ []) (some (state_member o loc e.source)) ∷ []
+  source_items o c e = rule (choice_member o c ∷ []) (Some (state_member o loc e.source)) ∷ []
 
   -- An edge: not edge, target after.
   unfoldable pub target_items : ℕ → ℕ → Edge → List Item
-  target_items o c e = rule (choice_member o c ∷ []) (some (state_member (next_block o) loc e.target)) ∷ []
+  target_items o c e = rule (choice_member o c ∷ []) (Some (state_member (next_block o) loc e.target)) ∷ []
 
   -- An edge, per guard atom and failing value: not edge, not value before.
   unfoldable pub guard_items : ℕ → ℕ → Edge → List Item
@@ -156,7 +155,7 @@ module _ (width : ℕ → ℕ) (m : Model) where
   -- alone if it is out of range; for w plus offset, each value of w: not edge, not value before (after, if w is set earlier), result after, or
   -- without the last literal if it is out of range.
   abbrev pub update_items : ℕ → ℕ → List ℕ → ℕ → Update → List Item
-  update_items o c order i Keep = leads o o c (counter i) (counter i) some
+  update_items o c order i Keep = leads o o c (counter i) (counter i) Some
   update_items o c order i (Constant n) = sets_to o c (counter i) (in_range (counter_at m i).greatest n)
   update_items o c order i (Sum w z) = leads (read_block o order w i) o c (counter w) (counter i) (shifted z (counter_at m i).greatest)
 
@@ -167,9 +166,9 @@ module _ (width : ℕ → ℕ) (m : Model) where
   -- An edge, per clock: unchanged, each value is kept like a counter's; reset gives not edge, 0 after; a copy of w gives, for each value: not edge,
   -- not w's value before, the same value after.
   abbrev pub reset_items : ℕ → ℕ → ℕ → ClockUpdate → List Item
-  reset_items o c i Unchanged = leads o o c (clock i) (clock i) some
-  reset_items o c i Reset = sets_to o c (clock i) (some 0)
-  reset_items o c i (Copy w) = leads o o c (clock w) (clock i) some
+  reset_items o c i Unchanged = leads o o c (clock i) (clock i) Some
+  reset_items o c i Reset = sets_to o c (clock i) (Some 0)
+  reset_items o c i (Copy w) = leads o o c (clock w) (clock i) Some
 
   -- An edge: each clock.
   unfoldable pub resets_items : ℕ → ℕ → Edge → List Item
@@ -194,7 +193,7 @@ module _ (width : ℕ → ℕ) (m : Model) where
   -- ---- the whole list
   -- End: the target location in state k.
   unfoldable pub end_items : ℕ → List Item
-  end_items k = rule [] (some (state_member (block_at k) loc m.target)) ∷ []
+  end_items k = rule [] (Some (state_member (block_at k) loc m.target)) ∷ []
 
   -- The list for k less its last clause: start, then step 1 to step k.
   unfoldable pub body_items : ℕ → List Item

@@ -1,6 +1,6 @@
 -- What holds of every element of a list or of some element, and what may be missing as a list.
 use Rattle.std.specs.Prelude.{Bool, true, false, ◌&&◌, ◌||◌, List, [], ◌∷◌}
-use Rattle.std.proofs.Math.Option.{Option, none, some}
+use Rattle.std.specs.Prelude.{Option, None, Some}
 
 module _ {ℓ} {A : Type ℓ} where
   -- the test passes on every element
@@ -15,8 +15,8 @@ module _ {ℓ} {A : Type ℓ} where
 
   -- the list of a value that may be missing
   abbrev pub to_list : Option A → List A
-  to_list none = []
-  to_list (some x) = x ∷ []
+  to_list None = []
+  to_list (Some x) = x ∷ []
 
 module _ {A : Type 0} where
   -- every element has the property

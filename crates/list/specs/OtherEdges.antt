@@ -1,13 +1,13 @@
 -- Records and edges that differ in a part.
 use Rattle.std.specs.Prelude.{List, ℕ}
-use Rattle.model.specs.declared.ClockSlot.{ClockSlot}
+use Rattle.model.specs.declared.ClockUpdate.{ClockUpdate}
 use Rattle.model.specs.declared.Edge.{Edge}
 use Rattle.model.specs.declared.Model.{Model}
 use Rattle.model.specs.Indexed.{list_below}
 use Rattle.model.specs.Record.{edge_at}
 
 -- The edge e with the label and the clocks' updates given in place of its own; all else stays.
-abbrev pub edge_with : Edge → ℕ → List ClockSlot → Edge
+abbrev pub edge_with : Edge → ℕ → List ClockUpdate → Edge
 edge_with e label resets = record {
   source = e.source;
   target = e.target;

@@ -2,7 +2,6 @@
 use Rattle.std.specs.Prelude.{◌≡◌, cond, ℕ, ◌<◌, T, eqb}
 use Rattle.model.specs.declared.ClockUpdate.{ClockUpdate}
 use Rattle.model.specs.declared.ClockUpdate.TheVariants.{Unchanged, Reset, Copy}
-use Rattle.model.specs.declared.ClockSlot.{ClockSlot}
 use Rattle.model.specs.declared.Edge.{Edge}
 use Rattle.model.specs.declared.Model.{Model}
 use Rattle.model.specs.declared.State.{State}
@@ -21,8 +20,8 @@ self_unchanged i Reset = Reset
 self_unchanged i (Copy w) = cond (eqb w i) Unchanged (Copy w)
 
 -- The slot of clock i of an edge, with its update so changed.
-abbrev pub self_slot : Edge → ℕ → ClockSlot
-self_slot e i = record { update = self_unchanged i (reset_at e i) }
+abbrev pub self_slot : Edge → ℕ → ClockUpdate
+self_slot e i = self_unchanged i (reset_at e i)
 
 -- The edge with every slot so changed.
 unfoldable pub self_edge : Edge → Edge

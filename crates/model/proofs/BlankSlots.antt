@@ -11,7 +11,6 @@ use Rattle.model.specs.declared.Atom.{Atom}
 use Rattle.model.specs.declared.Atom.TheVariants.{Blank, OnClock, OnCounter}
 use Rattle.model.specs.declared.Update.TheVariants.{Keep}
 use Rattle.model.specs.declared.ClockUpdate.TheVariants.{Unchanged}
-use Rattle.model.specs.declared.AtomSlot.{AtomSlot}
 use Rattle.model.specs.declared.Counter.{Counter}
 use Rattle.model.specs.declared.Edge.{Edge}
 use Rattle.model.specs.declared.Model.{Model}
@@ -25,7 +24,7 @@ use Rattle.model.proofs.IndexedLaws.{and_T, eq_T, cond_F, not_lt, all_below_lem,
 use Rattle.model.proofs.FormLaws.{atoms_at, edge_parts, keep_is, hold_is, and₃, and₄, no}
 
 -- every slot holds no atom
-abbrev pub NoAtom : List AtomSlot → Type 0
+abbrev pub NoAtom : List Atom → Type 0
 NoAtom atoms = (k : ℕ) → k < 4 → atom_at atoms k ≡ Blank
 
 -- an edge slot is blank: location 0 twice, label 0, no atom, keep, a blank order, clocks unchanged
@@ -58,7 +57,7 @@ either : (b : Bool) → T (cond b true true)
 either true = tt
 either false = tt
 
-pub blank_atoms : (atoms : List AtomSlot) → T (atoms_formed 0 0 atoms) ↔ NoAtom atoms
+pub blank_atoms : (atoms : List Atom) → T (atoms_formed 0 0 atoms) ↔ NoAtom atoms
 unfolding atoms_formed each_formed filled_from_first
 blank_atoms atoms = (
   λ h k l. nothing_declared (atom_at atoms k) (atoms_at 0 0 atoms h k l),

@@ -13,7 +13,6 @@ use Rattle.model.specs.declared.Update.{Update}
 use Rattle.model.specs.declared.Update.TheVariants.{Keep, Constant, Sum}
 use Rattle.model.specs.declared.ClockUpdate.{ClockUpdate}
 use Rattle.model.specs.declared.ClockUpdate.TheVariants.{Unchanged, Reset, Copy}
-use Rattle.model.specs.declared.AtomSlot.{AtomSlot}
 use Rattle.model.specs.declared.Edge.{Edge}
 use Rattle.model.specs.declared.Model.{Model}
 use Rattle.model.specs.declared.Totals.{Totals}
@@ -123,12 +122,12 @@ atom_constant clocks vars Blank h = omega arith
 atom_constant clocks vars (OnClock c r b) h = leb→le b 30 (and₃ (ltb c clocks) (leb b 30) (not (is_not_equal r)) h).1
 atom_constant clocks vars (OnCounter c r b) h = omega arith
 
-pub atoms_at : (clocks vars : ℕ) (atoms : List AtomSlot) → T (atoms_formed clocks vars atoms) → (k : ℕ) → k < 4 → T (atom_formed clocks vars (atom_at atoms k))
+pub atoms_at : (clocks vars : ℕ) (atoms : List Atom) → T (atoms_formed clocks vars atoms) → (k : ℕ) → k < 4 → T (atom_formed clocks vars (atom_at atoms k))
 unfolding atoms_formed each_formed
 atoms_at clocks vars atoms h =
     (all_below_lem (λ k. atom_formed clocks vars (atom_at atoms k)) 4).0 ((and_T (each_formed clocks vars atoms) (filled_from_first atoms)).0 h).0
 
-atoms_constant : (clocks vars : ℕ) (atoms : List AtomSlot) → T (atoms_formed clocks vars atoms) → greatest_constant atoms ≤ 30
+atoms_constant : (clocks vars : ℕ) (atoms : List Atom) → T (atoms_formed clocks vars atoms) → greatest_constant atoms ≤ 30
 unfolding greatest_constant
 atoms_constant clocks vars atoms h = max_below_lem _ 4 30 (λ k l. atom_constant clocks vars (atom_at atoms k) (atoms_at clocks vars atoms h k l))
 
@@ -187,7 +186,7 @@ edge_formed_lem m le le' e h =
           λ i p l. hold_is (reset_at e i) (no i m.clocks (clock_update_formed m.clocks (reset_at e i)) (is_unchanged (reset_at e i)) (g.6 i l) p);
     }
 
-invariant_slot_constant : (b : Bool) (c : ℕ) (atoms : List AtomSlot) → T (cond b (atoms_formed c 0 atoms) (atoms_formed 0 0 atoms))
+invariant_slot_constant : (b : Bool) (c : ℕ) (atoms : List Atom) → T (cond b (atoms_formed c 0 atoms) (atoms_formed 0 0 atoms))
     → greatest_constant atoms ≤ 30
 invariant_slot_constant true c atoms h = atoms_constant c 0 atoms h
 invariant_slot_constant false c atoms h = atoms_constant 0 0 atoms h
@@ -252,7 +251,7 @@ pub ceiling_ge : (m : Model) → 1 ≤ ceiling m
 unfolding ceiling
 ceiling_ge m = omega arith
 
-constant_le : (atoms : List AtomSlot) (k : ℕ) → k < 4 → clock_constant (atom_at atoms k) ≤ greatest_constant atoms
+constant_le : (atoms : List Atom) (k : ℕ) → k < 4 → clock_constant (atom_at atoms k) ≤ greatest_constant atoms
 unfolding greatest_constant
 constant_le atoms k l = max_at (λ k. clock_constant (atom_at atoms k)) 4 k l
 

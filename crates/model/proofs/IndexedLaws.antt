@@ -3,7 +3,7 @@ use mathlib.Core.Path.{◌≡◌, refl, sym, ap, subst, ◌∙◌}
 use mathlib.Core.Logic.{◌↔◌, ◌⊎◌, inl, inr, ⊎_elim}
 use mathlib.Core.Bool.{Bool, true, false, ◌&&◌, not, cond, and-false}
 use mathlib.Core.List.{List, [], ◌∷◌, ◌++◌}
-use mathlib.Core.Option.{Option, none, some}
+use Rattle.std.specs.Prelude.{Option, None, Some}
 use Prim.Native.Nat.{ℕ, zero, suc, ◌+◌, ◌*◌, ◌≤◌, ◌<◌, max}
 use native.Mathlib.Nat.{eq-or-lt_of_le, le_of_suc-le-suc, not-suc-le-zero}
 use native.Mathlib.Omega.{arith}
@@ -53,23 +53,23 @@ pub not_lt : (a b : ℕ) → b ≤ a → T (not (ltb a b))
 not_lt a b h = not_T (ltb a b) (λ t. omega (arith, ltb→lt a b t))
 
 -- ---- what may be missing
-pub some_inj : {A : Type 0} {x y : A} → some x ≡ some y → x ≡ y
+pub some_inj : {A : Type 0} {x y : A} → Some x ≡ Some y → x ≡ y
 some_inj {x} {y} e = cc
 
-pub some_none : {A : Type 0} {x : A} → ◌≡◌ {A = Option A} none (some x) → ⊥
+pub some_none : {A : Type 0} {x : A} → ◌≡◌ {A = Option A} None (Some x) → ⊥
 some_none e = let z : ◌≡◌ {A = ℕ} 0 1 = cc in omega arith
 
-pub only_if_lem : {A : Type 0} (b : Bool) (x y : A) → (only_if b x ≡ some y) ↔ (T b × (x ≡ y))
-only_if_lem true x y = (λ e. (tt, some_inj e), λ h. ap some h.1)
+pub only_if_lem : {A : Type 0} (b : Bool) (x y : A) → (only_if b x ≡ Some y) ↔ (T b × (x ≡ y))
+only_if_lem true x y = (λ e. (tt, some_inj e), λ h. ap Some h.1)
 only_if_lem false x y = (λ e. absurd (some_none e), λ h. absurd h.0)
 
-pub cond_some : {A : Type 0} (b : Bool) (x : Option A) (y : A) → (cond b x none ≡ some y) ↔ (T b × (x ≡ some y))
+pub cond_some : {A : Type 0} (b : Bool) (x : Option A) (y : A) → (cond b x None ≡ Some y) ↔ (T b × (x ≡ Some y))
 cond_some true x y = (λ e. (tt, e), λ h. h.1)
 cond_some false x y = (λ e. absurd (some_none e), λ h. absurd h.0)
 
-pub then_iff : {A B : Type 0} (x : Option A) (f : A → Option B) (y : B) → (and_then x f ≡ some y) ↔ ((a : A) × (x ≡ some a) × (f a ≡ some y))
-then_iff none f y = (λ e. absurd (some_none e), λ h. absurd (some_none h.1))
-then_iff (some a) f y = (λ e. (a, refl, e), λ h. rw (some_inj h.1) h.2)
+pub then_iff : {A B : Type 0} (x : Option A) (f : A → Option B) (y : B) → (and_then x f ≡ Some y) ↔ ((a : A) × (x ≡ Some a) × (f a ≡ Some y))
+then_iff None f y = (λ e. absurd (some_none e), λ h. absurd (some_none h.1))
+then_iff (Some a) f y = (λ e. (a, refl, e), λ h. rw (some_inj h.1) h.2)
 
 -- ---- over an index
 -- the last index of a range, or one before it

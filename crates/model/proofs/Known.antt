@@ -23,3 +23,6 @@ lengths m vs g = record {
 
 pub updates_long : (e : Edge) (vs : List Val) → Is EdgeT.the_row e vs → length e.updates ≡ 4
 updates_long e vs g = g.1.1.1.1.1.1.0.1.0.1
+
+pub order_long : (e : Edge) (vs : List Val) → Is EdgeT.the_row e vs → length e.order ≡ 4
+order_long e vs g = g.1.1.1.1.1.1.1.0.1.0.1

@@ -7,5 +7,5 @@ pub mod StepLaws
 pub mod RunLaws
 pub mod NewValues
 pub mod Filled
-pub mod Answers
+pub mod ByIndex
 pub mod Known

@@ -3,7 +3,7 @@ use mathlib.Core.Path.{◌≡◌, refl, sym, ap, subst, ◌∙◌}
 use mathlib.Core.Logic.{◌≢◌, ◌⊎◌, inl, inr, ⊎_elim}
 use mathlib.Core.Bool.{Bool, true, false, not, cond}
 use mathlib.Core.List.{List, [], ◌∷◌, foldl, foldl-append}
-use mathlib.Core.Option.{Option, none, some, map}
+use Rattle.std.specs.Prelude.{Option, None, Some, option_map}
 use Prim.Native.Nat.{ℕ, zero, suc, ◌+◌, ◌≤◌, ◌<◌}
 use native.Mathlib.Nat.{not-suc-le-zero}
 use native.Mathlib.Omega.{arith}
@@ -59,9 +59,9 @@ new_same f g greatest own Keep h = refl
 new_same f g greatest own (Constant c) h = refl
 new_same f g greatest own (Sum w z) h = ap (shifted z greatest) (h w)
 
-map_iff : (x : Option ℕ) (f : ℕ → List ℕ) (l : List ℕ) → map f x ≡ some l → (y : ℕ) × (x ≡ some y) × (f y ≡ l)
-map_iff none f l h = absurd (some_none h)
-map_iff (some y) f l h = (y, refl, some_inj h)
+map_iff : (x : Option ℕ) (f : ℕ → List ℕ) (l : List ℕ) → option_map f x ≡ Some l → (y : ℕ) × (x ≡ Some y) × (f y ≡ l)
+map_iff None f l h = absurd (some_none h)
+map_iff (Some y) f l h = (y, refl, some_inj h)
 
 -- ---- the order of an edge
 module _ (e : Edge) (ok : Ordered e) where
@@ -83,15 +83,15 @@ module _ (e : Edge) (ok : Ordered e) where
         one_if_lem (ltb (place x) (suc k)) (lt→ltb (place x) (suc k) (omega arith)),
         elsewhere (λ z. omega (arith, z)),
       ))
-      (λ p. let none = zero_if (ltb (place x) k) (not_lt (place x) k p) in ⊎_elim
+      (λ p. let None = zero_if (ltb (place x) k) (not_lt (place x) k p) in ⊎_elim
       (λ q. let here : place x ≡ k = omega arith in
       omega (
         arith,
-        none,
+        None,
         one_if_lem (ltb (place x) (suc k)) (lt→ltb (place x) (suc k) q),
         one_if_lem (eqb x (slot k)) ((eq_T x (slot k)).1 (sym (place_at e.order x (omega (arith, listed_le e))) ∙ ap slot here)),
       ))
-      (λ q. omega (arith, none, zero_if (ltb (place x) (suc k)) (not_lt (place x) (suc k) q), elsewhere (λ z. omega (arith, z))))
+      (λ q. omega (arith, None, zero_if (ltb (place x) (suc k)) (not_lt (place x) (suc k) q), elsewhere (λ z. omega (arith, z))))
       (lt_or_le (place x) (suc k)))
       (lt_or_le (place x) k)
     where
@@ -149,7 +149,7 @@ module _ (e : Edge) (ok : Ordered e) where
       pub long : length new ≡ length vs
       pub kept : (i : ℕ) → n ≤ place i → get_or new i 0 ≡ get_or vs i 0
       pub sets : (k : ℕ) → k < n
-          → new_counter (read_at_place k vs new) (greatest (slot k)) (get_or vs (slot k) 0) (update_at e (slot k)) ≡ some (get_or new (slot k) 0)
+          → new_counter (read_at_place k vs new) (greatest (slot k)) (get_or vs (slot k) 0) (update_at e (slot k)) ≡ Some (get_or new (slot k) 0)
 
     -- the counter at place n stands at no other place
     apart : (n i : ℕ) → n < listed e → place i ≢ n → i ≢ slot n
@@ -171,7 +171,7 @@ module _ (e : Edge) (ok : Ordered e) where
         (λ q. cond_F (ltb (place w) n) (get_or now w 0) (get_or vs w 0) (not_lt (place w) n q) ∙ sym (h.kept w q))
         (lt_or_le (place w) n)
 
-    updates_more : (n : ℕ) (vs now : List ℕ) (y : ℕ) → n < listed e → length vs ≡ 4 → Updates n vs now → next_counter counters e now (slot n) ≡ some y
+    updates_more : (n : ℕ) (vs now : List ℕ) (y : ℕ) → n < listed e → length vs ≡ 4 → Updates n vs now → next_counter counters e now (slot n) ≡ Some y
         → Updates (suc n) vs (set now (slot n) y)
     updates_more n vs now y l four h t = record {
       long = length-set now (slot n) y ∙ h.long;
@@ -181,23 +181,23 @@ module _ (e : Edge) (ok : Ordered e) where
       where
         last : {k : ℕ} → k ≡ n
             → new_counter (read_at_place k vs (set now (slot n) y)) (greatest (slot k)) (get_or vs (slot k) 0) (update_at e (slot k))
-            ≡ some (get_or (set now (slot n) y) (slot k) 0)
+            ≡ Some (get_or (set now (slot n) y) (slot k) 0)
         last q = rw q (
             new_same (read_at_place n vs (set now (slot n) y)) (λ w. get_or now w 0) (greatest (slot n)) (get_or vs (slot n) 0) (update_at e (slot n))
             (λ w. read_same n n vs now y w (omega arith) l ∙ read_left n vs now h w) ∙
             ap (λ (own : ℕ). new_counter (λ w. get_or now w 0) (greatest (slot n)) own (update_at e (slot n)))
             (sym (h.kept (slot n) (omega (arith, ok.slot_first n l)))) ∙
-            t ∙ ap some (sym (get_or-set_same now (slot n) y 0 (omega (arith, ok.slot_lt n l, h.long)))))
+            t ∙ ap Some (sym (get_or-set_same now (slot n) y 0 (omega (arith, ok.slot_lt n l, h.long)))))
 
         earlier : {k : ℕ} → k < n
             → new_counter (read_at_place k vs (set now (slot n) y)) (greatest (slot k)) (get_or vs (slot k) 0) (update_at e (slot k))
-            ≡ some (get_or (set now (slot n) y) (slot k) 0)
+            ≡ Some (get_or (set now (slot n) y) (slot k) 0)
         earlier {k} p =
             new_same (read_at_place k vs (set now (slot n) y)) (read_at_place k vs now) (greatest (slot k)) (get_or vs (slot k) 0) (update_at e (slot k))
             (λ w. read_same k n vs now y w (omega arith) l) ∙
-            h.sets k p ∙ ap some (sym (get_or-set_other now (slot n) (slot k) y 0 (apart n (slot k) l (λ z. omega (arith, z, ok.slot_first k (omega arith))))))
+            h.sets k p ∙ ap Some (sym (get_or-set_other now (slot n) (slot k) y 0 (apart n (slot k) l (λ z. omega (arith, z, ok.slot_first k (omega arith))))))
 
-    pub updated_to : (n : ℕ) (vs new : List ℕ) → n ≤ listed e → length vs ≡ 4 → updated counters e vs n ≡ some new → Updates n vs new
+    pub updated_to : (n : ℕ) (vs new : List ℕ) → n ≤ listed e → length vs ≡ 4 → updated counters e vs n ≡ Some new → Updates n vs new
     unfolding updated applied
     updated_to zero vs new l four h =
         record {
@@ -210,12 +210,12 @@ module _ (e : Edge) (ok : Ordered e) where
         let y = map_iff (next_counter counters e now.0 (slot n)) (set now.0 (slot n)) new now.2 in
         subst (Updates (suc n) vs) y.2 (updates_more n vs now.0 y.0 (omega arith) four (updated_to n vs now.0 (omega arith) four now.1) y.1)
 
-    pub updated_of : (n : ℕ) (vs new : List ℕ) → n ≤ listed e → length vs ≡ 4 → Updates n vs new → updated counters e vs n ≡ some new
+    pub updated_of : (n : ℕ) (vs new : List ℕ) → n ≤ listed e → length vs ≡ 4 → Updates n vs new → updated counters e vs n ≡ Some new
     unfolding updated applied
-    updated_of zero vs new l four h = ap some (ext_get_or 0 vs new (sym h.long) (λ i p. sym (h.kept i (omega arith))))
+    updated_of zero vs new l four h = ap Some (ext_get_or 0 vs new (sym h.long) (λ i p. sym (h.kept i (omega arith))))
     updated_of (suc n) vs new l four h =
         (then_iff (updated counters e vs n) (λ now. applied counters e now (slot n)) new).1
-        (before, updated_of n vs before (omega arith) four back, ap (map (set before (slot n))) next ∙ ap some again)
+        (before, updated_of n vs before (omega arith) four back, ap (option_map (set before (slot n))) next ∙ ap Some again)
       where
         -- the counters before the last update
         before : List ℕ
@@ -235,14 +235,14 @@ module _ (e : Edge) (ok : Ordered e) where
               new_same (read_at_place k vs before) (read_at_place k vs new) (greatest (slot k)) (get_or vs (slot k) 0) (update_at e (slot k))
               (λ w. read_same k n vs new (get_or vs (slot n) 0) w (omega arith) l) ∙
               h.sets k (omega arith)
-              ∙ ap some (sym (get_or-set_other new (slot n) (slot k) (get_or vs (slot n) 0) 0
+              ∙ ap Some (sym (get_or-set_other new (slot n) (slot k) (get_or vs (slot n) 0) 0
               (apart n (slot k) l (λ z. omega (arith, z, ok.slot_first k (omega arith))))));
         }
           where
             after : (i : ℕ) → n ≤ place i → (suc n ≤ place i) ⊎ (place i ≡ n)
             after i p = ⊎_elim (λ q. inl q) (λ q. inr (omega arith)) (lt_or_le n (place i))
 
-        next : next_counter counters e before (slot n) ≡ some (get_or new (slot n) 0)
+        next : next_counter counters e before (slot n) ≡ Some (get_or new (slot n) 0)
         next =
             ap (λ (own : ℕ). new_counter (λ w. get_or before w 0) (greatest (slot n)) own (update_at e (slot n))) own ∙
             sym (new_same (read_at_place n vs new) (λ w. get_or before w 0) (greatest (slot n)) (get_or vs (slot n) 0) (update_at e (slot n))
@@ -270,13 +270,13 @@ abbrev pub then_update : List Counter → Edge → Option (List ℕ) → ℕ →
 then_update counters e vs i = and_then vs (λ now. applied counters e now i)
 
 fold_below : (counters : List Counter) (e : Edge) (vs : List ℕ) (n : ℕ)
-    → updated counters e vs n ≡ foldl (then_update counters e) (some vs) (list_below (counter_in e.order) n)
+    → updated counters e vs n ≡ foldl (then_update counters e) (Some vs) (list_below (counter_in e.order) n)
 unfolding updated list_below
 fold_below counters e vs zero = refl
 fold_below counters e vs (suc n) =
     ap (λ (x : Option (List ℕ)). then_update counters e x (counter_in e.order n)) (fold_below counters e vs n)
-    ∙ sym (foldl-append (then_update counters e) (some vs) (list_below (counter_in e.order) n) (counter_in e.order n ∷ []))
+    ∙ sym (foldl-append (then_update counters e) (Some vs) (list_below (counter_in e.order) n) (counter_in e.order n ∷ []))
 
 -- the counters after the listed updates are the fold of the single updates over the written list
-pub updated_fold : (counters : List Counter) (e : Edge) (vs : List ℕ) → updated counters e vs (listed e) ≡ foldl (then_update counters e) (some vs) (written e)
+pub updated_fold : (counters : List Counter) (e : Edge) (vs : List ℕ) → updated counters e vs (listed e) ≡ foldl (then_update counters e) (Some vs) (written e)
 updated_fold counters e vs = fold_below counters e vs (listed e)

@@ -3,7 +3,7 @@ use mathlib.Core.Path.{◌≡◌, refl, sym, ap, subst, ◌∙◌}
 use mathlib.Core.Logic.{◌↔◌, ◌⊎◌, inl, inr, ⊎_elim}
 use mathlib.Core.Bool.{Bool, true, false, not, ◌&&◌, cond}
 use mathlib.Core.List.{List}
-use mathlib.Core.Option.{Option, none, some}
+use Rattle.std.specs.Prelude.{Option, None, Some}
 use Prim.Native.Nat.{ℕ, ◌+◌, ◌-◌, ◌≤◌, ◌<◌, min}
 use native.Mathlib.Nat.{add-sub_cancel_left}
 use native.Mathlib.Omega.{arith}
@@ -16,7 +16,7 @@ use Rattle.model.specs.declared.Update.{Update}
 use Rattle.model.specs.declared.Update.TheVariants.{Keep, Constant, Sum}
 use Rattle.model.specs.declared.ClockUpdate.{ClockUpdate}
 use Rattle.model.specs.declared.ClockUpdate.TheVariants.{Unchanged, Reset, Copy}
-use Rattle.model.specs.declared.AtomSlot.{AtomSlot}
+use Rattle.model.specs.declared.Atom.{Atom}
 use Rattle.model.specs.declared.Edge.{Edge}
 use Rattle.model.specs.declared.Model.{Model}
 use Rattle.model.specs.declared.State.{State}
@@ -80,7 +80,7 @@ state_from m ok l vs cs p q = (
 )
 
 -- ---- tests
-pub hold_iff : (s : State) (atoms : List AtomSlot) → T (all_hold s atoms) ↔ ((k : ℕ) → k < 4 → T (atom_holds s (atom_at atoms k)))
+pub hold_iff : (s : State) (atoms : List Atom) → T (all_hold s atoms) ↔ ((k : ℕ) → k < 4 → T (atom_holds s (atom_at atoms k)))
 unfolding all_hold
 hold_iff s atoms = all_below_lem (λ k. atom_holds s (atom_at atoms k)) 4
 
@@ -151,14 +151,14 @@ pub record DelayedTo (m : Model) (d : ℕ) (s t : State) : Type 0 where
   pub allowed : T (invariant_holds m t)
 
 module _ (m : Model) (ok : WellFormed m) (s t : State) (q : Shaped m s) where
-  delay_iff : (d : ℕ) → (delay_step m (ceiling m) d s ≡ some t) ↔ DelayedTo m d s t
+  delay_iff : (d : ℕ) → (delay_step m (ceiling m) d s ≡ Some t) ↔ DelayedTo m d s t
   unfolding delay_step
   delay_iff d = (to, of)
     where
       D : State
       D = delayed m.clocks (ceiling m) d s
 
-      to : only_if (invariant_holds m D) D ≡ some t → DelayedTo m d s t
+      to : only_if (invariant_holds m D) D ≡ Some t → DelayedTo m d s t
       to h =
           let g = (only_if_lem (invariant_holds m D) D t).0 h in
           record {
@@ -167,12 +167,12 @@ module _ (m : Model) (ok : WellFormed m) (s t : State) (q : Shaped m s) where
             allowed = subst (λ (x : State). T (invariant_holds m x)) g.1 g.0;
           }
 
-      of : DelayedTo m d s t → only_if (invariant_holds m D) D ≡ some t
+      of : DelayedTo m d s t → only_if (invariant_holds m D) D ≡ Some t
       of h =
           let e : D ≡ t = state_ext m (shaped_delayed m ok d s q) h.shape (λ c p. value_delayed m ok d s q c p ∙ sym (h.values c p)) in
           (only_if_lem (invariant_holds m D) D t).1 (subst (λ (x : State). T (invariant_holds m x)) (sym e) h.allowed, e)
 
-  pub step_delay : (b : ℕ) → b < ceiling m + 1 → (step m s b ≡ some t) ↔ DelayedTo m b s t
+  pub step_delay : (b : ℕ) → b < ceiling m + 1 → (step m s b ≡ Some t) ↔ DelayedTo m b s t
   unfolding step
   step_delay b l = rw (le-leb b (ceiling m) (omega arith)) (delay_iff b)
 
@@ -182,7 +182,7 @@ pub record EdgeBy (read : ℕ → ℕ → ℕ) (m : Model) (e : Edge) (s t : Sta
   pub shape : Shaped m t
   pub leaves : s.location ≡ e.source
   pub guard : (k : ℕ) → k < 4 → T (atom_holds s (atom_at e.guard k))
-  pub sets : (i : ℕ) → i < m.vars → new_counter (read i) (counter_at m i).greatest (value s (counter i)) (update_at e i) ≡ some (value t (counter i))
+  pub sets : (i : ℕ) → i < m.vars → new_counter (read i) (counter_at m i).greatest (value s (counter i)) (update_at e i) ≡ Some (value t (counter i))
   pub resets : (i : ℕ) → i < m.clocks → new_clock (λ w. value s (clock w)) (value s (clock i)) (reset_at e i) ≡ value t (clock i)
   pub lands : t.location ≡ e.target
   pub allowed : T (invariant_holds m t)
@@ -212,9 +212,9 @@ module _ (m : Model) (ok : WellFormed m) (e : Edge) (eo : WellFormedEdge m e) (s
 
   -- counter by counter, what an update reads said by places
   abbrev Sets : ℕ → Type 0
-  Sets i = new_counter (read_by e s t i) (counter_at m i).greatest (value s (counter i)) (update_at e i) ≡ some (value t (counter i))
+  Sets i = new_counter (read_by e s t i) (counter_at m i).greatest (value s (counter i)) (update_at e i) ≡ Some (value t (counter i))
 
-  keep_new : (f : ℕ → ℕ) (greatest own : ℕ) (u : Update) → T (is_keep u) → new_counter f greatest own u ≡ some own
+  keep_new : (f : ℕ → ℕ) (greatest own : ℕ) (u : Update) → T (is_keep u) → new_counter f greatest own u ≡ Some own
   keep_new f greatest own Keep h = refl
   keep_new f greatest own (Constant c) h = absurd h
   keep_new f greatest own (Sum w z) h = absurd h
@@ -223,11 +223,11 @@ module _ (m : Model) (ok : WellFormed m) (e : Edge) (eo : WellFormedEdge m e) (s
   updates_to : Updates e order_ok m.counters (listed e) s.counters t.counters → (i : ℕ) → i < m.vars → Sets i
   unfolding set_earlier
   updates_to h i l = ⊎_elim
-      (λ k. keep_new (read_by e s t i) (counter_at m i).greatest (value s (counter i)) (update_at e i) k ∙ ap some (sym (h.kept i (kept_place e order_ok i k))))
+      (λ k. keep_new (read_by e s t i) (counter_at m i).greatest (value s (counter i)) (update_at e i) k ∙ ap Some (sym (h.kept i (kept_place e order_ok i k))))
       (λ k. let p = set_place e order_ok i (omega (arith, ok.vars_le)) k in
       let here = place_at e.order i (omega (arith, p, listed_le e)) in
       subst (λ (x : ℕ). new_counter (read_at_place e order_ok m.counters (place_in e.order i) s.counters t.counters) (counter_at m x).greatest
-      (value s (counter x)) (update_at e x) ≡ some (value t (counter x))) here (h.sets (place_in e.order i) p))
+      (value s (counter x)) (update_at e x) ≡ Some (value t (counter x))) here (h.sets (place_in e.order i) p))
       (split (is_keep (update_at e i)))
 
   updates_of : Shaped m t → ((i : ℕ) → i < m.vars → Sets i) → Updates e order_ok m.counters (listed e) s.counters t.counters
@@ -249,11 +249,11 @@ module _ (m : Model) (ok : WellFormed m) (e : Edge) (eo : WellFormedEdge m e) (s
       by_place : (k : ℕ) → k < listed e →
           let i = counter_in e.order k in
           new_counter (read_at_place e order_ok m.counters k s.counters t.counters) (counter_at m i).greatest (value s (counter i)) (update_at e i)
-          ≡ some (value t (counter i))
+          ≡ Some (value t (counter i))
       by_place k l =
           let i = counter_in e.order k in
           subst (λ (p : ℕ). new_counter (read_at_place e order_ok m.counters p s.counters t.counters) (counter_at m i).greatest (value s (counter i))
-          (update_at e i) ≡ some (value t (counter i))) (order_ok.slot_first k l) (h i (declared i (order_ok.slot_lt k l) (order_ok.slot_set k l)))
+          (update_at e i) ≡ Some (value t (counter i))) (order_ok.slot_first k l) (h i (declared i (order_ok.slot_lt k l) (order_ok.slot_set k l)))
         where
           declared : (i : ℕ) → i < 4 → T (not (is_keep (update_at e i))) → i < m.vars
           declared i l k = ⊎_elim (λ p. p) (λ p. absurd (rw (eo.sets_rest i p l) at k)) (lt_or_le i m.vars)
@@ -264,7 +264,7 @@ unfolding after_edge
 clock_after e s vs i l = get_d_list 0 (next_clock e s) 4 i l
 
 -- a clock's new value comes from the values before the edge
-pub clock_stepped : (m : Model) (e : Edge) (s t : State) → edge_step m e s ≡ some t → (i : ℕ) → i < 4 → value t (clock i) ≡ next_clock e s i
+pub clock_stepped : (m : Model) (e : Edge) (s t : State) → edge_step m e s ≡ Some t → (i : ℕ) → i < 4 → value t (clock i) ≡ next_clock e s i
 unfolding edge_step
 clock_stepped m e s t h i l =
     let n = (then_iff (updated m.counters e s.counters (listed e)) (λ vs. only_if (edge_allowed m e s vs) (after_edge e s vs)) t).0 h in
@@ -296,14 +296,14 @@ module _ (m : Model) (ok : WellFormed m) (e : Edge) (eo : WellFormedEdge m e) (s
     clocks_rest = λ i p l. clock_after e s vs i l ∙ held i p l;
   }
 
-  pub edge_iff : (t : State) → (edge_step m e s ≡ some t) ↔ EdgeTo m e s t
+  pub edge_iff : (t : State) → (edge_step m e s ≡ Some t) ↔ EdgeTo m e s t
   unfolding edge_step
   edge_iff t = (to, of)
     where
       after : List ℕ → Option State
       after vs = only_if (edge_allowed m e s vs) (after_edge e s vs)
 
-      to : and_then (updated m.counters e s.counters (listed e)) after ≡ some t → EdgeTo m e s t
+      to : and_then (updated m.counters e s.counters (listed e)) after ≡ Some t → EdgeTo m e s t
       to h =
           let n = (then_iff (updated m.counters e s.counters (listed e)) after t).0 h in
           let vs = n.0 in
@@ -321,7 +321,7 @@ module _ (m : Model) (ok : WellFormed m) (e : Edge) (eo : WellFormedEdge m e) (s
             allowed = subst (λ (x : State). T (invariant_holds m x)) g.1 a.2;
           }
 
-      of : EdgeTo m e s t → and_then (updated m.counters e s.counters (listed e)) after ≡ some t
+      of : EdgeTo m e s t → and_then (updated m.counters e s.counters (listed e)) after ≡ Some t
       of h =
           let vs = t.counters in
           let u = updates_of m ok e eo s t q h.shape h.sets in
@@ -344,7 +344,7 @@ NoneEarlier m e = (i w : ℕ) (z : ℤ) → i < m.vars → update_at e i ≡ Sum
 
 -- it steps as if all updates read the values from before the edge
 pub no_earlier_steps : (m : Model) → WellFormed m → (e : Edge) → WellFormedEdge m e → (s t : State) → Shaped m s → NoneEarlier m e
-    → (edge_step m e s ≡ some t) ↔ EdgeBy (λ i w. value s (counter w)) m e s t
+    → (edge_step m e s ≡ Some t) ↔ EdgeBy (λ i w. value s (counter w)) m e s t
 no_earlier_steps m ok e eo s t q free = (
   λ h. let g = (edge_iff m ok e eo s q t).0 h in
       record {
@@ -376,7 +376,7 @@ no_earlier_steps m ok e eo s t q free = (
         ap (λ (b : Bool). shifted z (counter_at m i).greatest (cond b (value t (counter w)) (value s (counter w)))) (free i w z l h)
 
 module _ (m : Model) (ok : WellFormed m) (s t : State) (q : Shaped m s) where
-  pub step_edge : (e : ℕ) → e < m.used → (step m s (ceiling m + 1 + e) ≡ some t) ↔ EdgeTo m (edge_at m e) s t
+  pub step_edge : (e : ℕ) → e < m.used → (step m s (ceiling m + 1 + e) ≡ Some t) ↔ EdgeTo m (edge_at m e) s t
   unfolding step choices
   step_edge e l =
       rw (lt-leb (ceiling m + 1 + e) (ceiling m) (omega arith), lt-ltb (ceiling m + 1 + e) (ceiling m + 1 + m.used) (omega arith), add-sub_cancel_left)
@@ -394,17 +394,17 @@ unfolding step choices
 step_is_edge m s b l u = rw (lt-leb b (ceiling m) l, lt-ltb b (ceiling m + 1 + m.used) (omega arith))
 
 -- a byte of H or more is no choice
-pub step_is_none : (m : Model) (s : State) (b : ℕ) → choices m ≤ b → step m s b ≡ none
+pub step_is_none : (m : Model) (s : State) (b : ℕ) → choices m ≤ b → step m s b ≡ None
 unfolding step choices
 step_is_none m s b l = rw (lt-leb b (ceiling m) (omega arith), le-ltb b (ceiling m + 1 + m.used) l)
 
 -- ---- choices
-pub step_lt : (m : Model) (s t : State) (b : ℕ) → step m s b ≡ some t → b < choices m
+pub step_lt : (m : Model) (s t : State) (b : ℕ) → step m s b ≡ Some t → b < choices m
 unfolding step
 step_lt m s t b h = go (leb b (ceiling m)) (ltb b (choices m)) refl refl h
   where
     go : (x y : Bool) → leb b (ceiling m) ≡ x → ltb b (choices m) ≡ y
-        → cond x (delay_step m (ceiling m) b s) (cond y (edge_step m (edge_at m (b - (ceiling m + 1))) s) none) ≡ some t → b < choices m
+        → cond x (delay_step m (ceiling m) b s) (cond y (edge_step m (edge_at m (b - (ceiling m + 1))) s) None) ≡ Some t → b < choices m
     go true y p q h = unfold choices in omega (arith, leb→le b (ceiling m) (subst T (sym p) tt))
     go false true p q h = ltb→lt b (choices m) (subst T (sym q) tt)
     go false false p q h = absurd (some_none h)
@@ -414,21 +414,21 @@ unfolding choices
 delay_or_edge m b h = ⊎_elim (λ l. inl l) (λ g. inr (b - (ceiling m + 1), omega arith, omega arith)) (lt_or_le b (ceiling m + 1))
 
 -- ---- what a step keeps
-fit_lt : (g x u : ℕ) → in_range g x ≡ some u → u < g + 1
+fit_lt : (g x u : ℕ) → in_range g x ≡ Some u → u < g + 1
 fit_lt g x u e = let h = (only_if_lem (leb x g) x u).0 e in omega (arith, leb→le x g h.0, h.1)
 
-moved_lt : (v : ℕ) (b : Bool) (n g u : ℕ) → moved v b n g ≡ some u → u < g + 1
+moved_lt : (v : ℕ) (b : Bool) (n g u : ℕ) → moved v b n g ≡ Some u → u < g + 1
 moved_lt v false n g u h = fit_lt g (v + n) u h
 moved_lt v true n g u h = fit_lt g (v - n) u ((cond_some (leb n v) (in_range g (v - n)) u).0 h).1
 
 -- the new values are in their ranges
-pub in_range_lt : (g x u : ℕ) → in_range g x ≡ some u → u < g + 1
+pub in_range_lt : (g x u : ℕ) → in_range g x ≡ Some u → u < g + 1
 in_range_lt = fit_lt
 
-pub shifted_lt : (z : ℤ) (g v u : ℕ) → shifted z g v ≡ some u → u < g + 1
+pub shifted_lt : (z : ℤ) (g v u : ℕ) → shifted z g v ≡ Some u → u < g + 1
 shifted_lt z g v u h = moved_lt v (is_negative z) (nat_abs z) g u h
 
-new_counter_lt : (look : ℕ → ℕ) (g x : ℕ) (u : Update) (y : ℕ) → x < g + 1 → new_counter look g x u ≡ some y → y < g + 1
+new_counter_lt : (look : ℕ → ℕ) (g x : ℕ) (u : Update) (y : ℕ) → x < g + 1 → new_counter look g x u ≡ Some y → y < g + 1
 new_counter_lt look g x Keep y p h = rw (← some_inj h) p
 new_counter_lt look g x (Constant n) y p h = fit_lt g n y h
 new_counter_lt look g x (Sum w z) y p h = shifted_lt z g (look w) y h
@@ -439,7 +439,7 @@ new_clock_lt m look x Unchanged n p z f d = p
 new_clock_lt m look x Reset n p z f d = z
 new_clock_lt m look x (Copy w) n p z f d = f w d
 
-module _ (m : Model) (ok : WellFormed m) (s t : State) (b : ℕ) (q : Shaped m s) (h : step m s b ≡ some t) where
+module _ (m : Model) (ok : WellFormed m) (s t : State) (b : ℕ) (q : Shaped m s) (h : step m s b ≡ Some t) where
   kind : DelayedTo m b s t ⊎ ((e : ℕ) × (e < m.used) × EdgeTo m (edge_at m e) s t)
   kind = go (delay_or_edge m b (step_lt m s t b h))
     where
@@ -468,7 +468,7 @@ module _ (m : Model) (ok : WellFormed m) (s t : State) (b : ℕ) (q : Shaped m s
           (λ w l. g (clock w) l) ((ok.edge_ok e l).resets_ok i j))
 
 -- delay 0 changes nothing
-pub step_zero : (m : Model) (ok : WellFormed m) (s : State) → Shaped m s → InRange m s → T (invariant_holds m s) → step m s 0 ≡ some s
+pub step_zero : (m : Model) (ok : WellFormed m) (s : State) → Shaped m s → InRange m s → T (invariant_holds m s) → step m s 0 ≡ Some s
 step_zero m ok s p q i =
     (step_delay m ok s s p 0 (omega arith)).1 (record { shape = p; values = λ r h. sym (delayed_zero m r (value s r) (q r h)); allowed = i })
 

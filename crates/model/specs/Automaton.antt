@@ -1,6 +1,6 @@
 -- The automaton: its ceiling, its states, and what a delay and an edge do.
 use Rattle.std.specs.Prelude.{ℕ, zero, suc, ◌+◌, ◌-◌, ◌*◌, ◌<◌, max, min, List, Bool, true, false, not, ◌&&◌, cond, get_or, set, ltb, leb, eqb}
-use Rattle.std.proofs.Math.Option.{Option, none, some, map}
+use Rattle.std.specs.Prelude.{Option, None, Some, option_map}
 use Rattle.model.specs.declared.Relation.{Relation}
 use Rattle.model.specs.declared.Relation.TheVariants.{Less, LessEqual, Equal, GreaterEqual, Greater, NotEqual}
 use Rattle.model.specs.declared.Atom.{Atom}
@@ -9,15 +9,12 @@ use Rattle.model.specs.declared.Update.{Update}
 use Rattle.model.specs.declared.Update.TheVariants.{Keep, Constant, Sum}
 use Rattle.model.specs.declared.ClockUpdate.{ClockUpdate}
 use Rattle.model.specs.declared.ClockUpdate.TheVariants.{Unchanged, Reset, Copy}
-use Rattle.model.specs.declared.AtomSlot.{AtomSlot}
 use Rattle.model.specs.declared.Counter.{Counter}
 use Rattle.model.specs.declared.Edge.{Edge}
 use Rattle.model.specs.declared.Model.{Model}
 use Rattle.model.specs.declared.State.{State}
-use Rattle.model.specs.declared.Stepped.{Stepped}
-use Rattle.model.specs.declared.Updated.{Updated}
 use Rattle.model.specs.declared.Totals.{Totals}
-pub use Rattle.new_values.specs.NewValues.{in_range, moved, is_negative, shifted, new_value}
+pub use Rattle.new_values.specs.NewValues.{in_range, moved, is_negative, shifted}
 use Rattle.model.specs.Indexed.{list_below, all_below, max_below, sum_below, first_below, only_if, and_then}
 use Rattle.model.specs.Record.{blank_counter, atom_at, update_at, counter_in, reset_at, counter_at, invariant_at, edge_at}
 
@@ -29,7 +26,7 @@ clock_constant (OnClock x r c) = c
 clock_constant (OnCounter v r c) = 0
 
 -- the greatest clock constant of an invariant or a guard
-unfoldable pub greatest_constant : List AtomSlot → ℕ
+unfoldable pub greatest_constant : List Atom → ℕ
 greatest_constant atoms = max_below (λ k. clock_constant (atom_at atoms k)) 4
 
 -- the ceiling M: 1 plus the greatest clock constant in the model, or 1 if it has none
@@ -78,7 +75,7 @@ atom_holds s (OnClock x r c) = meets r (value s (clock x)) c
 atom_holds s (OnCounter v r c) = meets r (value s (counter v)) c
 
 -- all atoms of an invariant or a guard must hold
-unfoldable pub all_hold : State → List AtomSlot → Bool
+unfoldable pub all_hold : State → List Atom → Bool
 all_hold s atoms = all_below (λ k. atom_holds s (atom_at atoms k)) 4
 
 -- the invariant of the location in which the state stands
@@ -118,7 +115,7 @@ delayed_value m d (clock i) v = min (v + d) (ceiling m)
 -- ---- updates: keep, a constant, or another counter plus an offset
 -- the new value of a counter, if it lies in its range; `read` gives the values that the update reads
 abbrev pub new_counter : (ℕ → ℕ) → ℕ → ℕ → Update → Option ℕ
-new_counter read greatest own Keep = some own
+new_counter read greatest own Keep = Some own
 new_counter read greatest own (Constant c) = in_range greatest c
 new_counter read greatest own (Sum w offset) = shifted offset greatest (read w)
 
@@ -146,11 +143,11 @@ next_counter counters e vs i = new_counter (λ w. get_or vs w 0) (get_or counter
 
 -- the counters after the update of counter i alone
 unfoldable pub applied : List Counter → Edge → List ℕ → ℕ → Option (List ℕ)
-applied counters e vs i = map (set vs i) (next_counter counters e vs i)
+applied counters e vs i = option_map (set vs i) (next_counter counters e vs i)
 
 -- the counters after the first n listed updates, in their listed order; each reads what those before it left, and none may leave its range
 unfoldable pub updated : List Counter → Edge → List ℕ → ℕ → Option (List ℕ)
-updated counters e vs zero = some vs
+updated counters e vs zero = Some vs
 updated counters e vs (suc n) = and_then (updated counters e vs n) (λ now. applied counters e now (counter_in e.order n))
 
 -- the first place of counter x in an order, and 4 where it has none
@@ -188,7 +185,7 @@ choices m = ceiling m + 1 + m.used
 
 -- d for delay d, M + 1 + e for edge e: the new state, if the step is allowed
 unfoldable pub step : Model → State → ℕ → Option State
-step m s b = cond (leb b (ceiling m)) (delay_step m (ceiling m) b s) (cond (ltb b (choices m)) (edge_step m (edge_at m (b - (ceiling m + 1))) s) none)
+step m s b = cond (leb b (ceiling m)) (delay_step m (ceiling m) b s) (cond (ltb b (choices m)) (edge_step m (edge_at m (b - (ceiling m + 1))) s) None)
 
 -- ---- numbering
 -- S, the length of a state block: the locations, each counter (greatest + 1), each clock (M + 1)
@@ -200,16 +197,6 @@ unfoldable pub variables : Model → ℕ → ℕ
 variables m k = state_size m + k * (state_size m + choices m)
 
 -- ---- what the code answers
--- the new state, or the given one where there is none
-abbrev pub stepped : State → Option State → Stepped
-stepped s none = record { allowed = false; state = s }
-stepped s (some t) = record { allowed = true; state = t }
-
--- the new counters, or the given ones where an update leaves its range
-abbrev pub updated_from : List ℕ → Option (List ℕ) → Updated
-updated_from vs none = record { allowed = false; values = vs }
-updated_from vs (some now) = record { allowed = true; values = now }
-
 -- M, S and H
 unfoldable pub totals : Model → Totals
 totals m = record { ceiling = ceiling m; state = state_size m; choices = choices m }

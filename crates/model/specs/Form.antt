@@ -8,9 +8,6 @@ use Rattle.model.specs.declared.Update.{Update}
 use Rattle.model.specs.declared.Update.TheVariants.{Keep, Constant, Sum}
 use Rattle.model.specs.declared.ClockUpdate.{ClockUpdate}
 use Rattle.model.specs.declared.ClockUpdate.TheVariants.{Unchanged, Reset, Copy}
-use Rattle.model.specs.declared.AtomSlot.{AtomSlot}
-use Rattle.model.specs.declared.UpdateSlot.{UpdateSlot}
-use Rattle.model.specs.declared.ClockSlot.{ClockSlot}
 use Rattle.model.specs.declared.Counter.{Counter}
 use Rattle.model.specs.declared.Edge.{Edge}
 use Rattle.model.specs.declared.Model.{Model}
@@ -46,15 +43,15 @@ abbrev pub no_gap : Atom → Atom → Bool
 no_gap before after = cond (is_blank before) (is_blank after) true
 
 -- every slot holds a formed atom or none
-unfoldable pub each_formed : ℕ → ℕ → List AtomSlot → Bool
+unfoldable pub each_formed : ℕ → ℕ → List Atom → Bool
 each_formed clocks vars atoms = all_below (λ k. atom_formed clocks vars (atom_at atoms k)) 4
 
 -- slots are filled from the first
-unfoldable pub filled_from_first : List AtomSlot → Bool
+unfoldable pub filled_from_first : List Atom → Bool
 filled_from_first atoms = all_below (λ k. no_gap (atom_at atoms k) (atom_at atoms (k + 1))) 3
 
 -- the atoms of an invariant or a guard, where so many clocks and counters are declared
-unfoldable pub atoms_formed : ℕ → ℕ → List AtomSlot → Bool
+unfoldable pub atoms_formed : ℕ → ℕ → List Atom → Bool
 atoms_formed clocks vars atoms = each_formed clocks vars atoms && filled_from_first atoms
 
 -- ---- counters
@@ -107,8 +104,8 @@ abbrev pub update_slot_formed : ℕ → Update → ℕ → Bool
 update_slot_formed vars u i = cond (ltb i vars) (update_formed vars u) (is_keep u)
 
 -- every update slot of an edge
-unfoldable pub updates_formed : ℕ → List UpdateSlot → Bool
-updates_formed vars slots = all_below (λ i. update_slot_formed vars (get_or slots i blank_update).update i) 4
+unfoldable pub updates_formed : ℕ → List Update → Bool
+updates_formed vars slots = all_below (λ i. update_slot_formed vars (get_or slots i blank_update) i) 4
 
 -- slot k of the order: as many slots as there are counters not kept name one of these each, which no slot before names; the others are blank
 abbrev pub order_slot_formed : Edge → ℕ → Bool
@@ -126,8 +123,8 @@ abbrev pub reset_slot_formed : ℕ → ClockUpdate → ℕ → Bool
 reset_slot_formed clocks u i = cond (ltb i clocks) (clock_update_formed clocks u) (is_unchanged u)
 
 -- every clock slot of an edge
-unfoldable pub resets_formed : ℕ → List ClockSlot → Bool
-resets_formed clocks slots = all_below (λ i. reset_slot_formed clocks (get_or slots i blank_reset).update i) 4
+unfoldable pub resets_formed : ℕ → List ClockUpdate → Bool
+resets_formed clocks slots = all_below (λ i. reset_slot_formed clocks (get_or slots i blank_reset) i) 4
 
 -- an edge names only declared locations, clocks and counters, and is within the limits; its label is 0 to 15
 unfoldable pub edge_formed : ℕ → ℕ → ℕ → Edge → Bool

@@ -1,6 +1,6 @@
 -- "For each", "all", "the greatest", "the sum" and "the first" over an index from 0, and what may be missing.
 use Rattle.std.specs.Prelude.{Bool, true, ◌&&◌, cond, List, [], ◌∷◌, ◌++◌, ℕ, zero, suc, ◌+◌, max, ltb}
-use Rattle.std.proofs.Math.Option.{Option, none, some}
+use Rattle.std.specs.Prelude.{Option, None, Some}
 pub use Rattle.new_values.specs.NewValues.{only_if, is_some}
 
 module _ {ℓ} {A : Type ℓ} where
@@ -34,13 +34,13 @@ unfoldable pub first_below : (ℕ → Bool) → ℕ → ℕ
 first_below p zero = 0
 first_below p (suc n) = cond (ltb (first_below p n) n) (first_below p n) (cond (p n) n (suc n))
 
-module _ {ℓ κ} {A : Type ℓ} {B : Type κ} where
+module _ {A B : Type 0} where
   -- go on with a value if it is there
   abbrev pub and_then : Option A → (A → Option B) → Option B
-  and_then none f = none
-  and_then (some x) f = f x
+  and_then None f = None
+  and_then (Some x) f = f x
 
   -- y if there is no value, else f of it
   abbrev pub maybe : Option A → B → (A → B) → B
-  maybe none y f = y
-  maybe (some x) y f = f x
+  maybe None y f = y
+  maybe (Some x) y f = f x

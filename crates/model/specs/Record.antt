@@ -6,9 +6,6 @@ use Rattle.model.specs.declared.Update.{Update}
 use Rattle.model.specs.declared.Update.TheVariants.{Keep}
 use Rattle.model.specs.declared.ClockUpdate.{ClockUpdate}
 use Rattle.model.specs.declared.ClockUpdate.TheVariants.{Unchanged}
-use Rattle.model.specs.declared.AtomSlot.{AtomSlot}
-use Rattle.model.specs.declared.UpdateSlot.{UpdateSlot}
-use Rattle.model.specs.declared.ClockSlot.{ClockSlot}
 use Rattle.model.specs.declared.Counter.{Counter}
 use Rattle.model.specs.declared.Invariant.{Invariant}
 use Rattle.model.specs.declared.Edge.{Edge}
@@ -16,16 +13,16 @@ use Rattle.model.specs.declared.Model.{Model}
 
 -- ---- blank slots
 -- no atom
-abbrev pub blank_atom : AtomSlot
-blank_atom = record { atom = Blank }
+abbrev pub blank_atom : Atom
+blank_atom = Blank
 
 -- keep
-abbrev pub blank_update : UpdateSlot
-blank_update = record { update = Keep }
+abbrev pub blank_update : Update
+blank_update = Keep
 
 -- unchanged
-abbrev pub blank_reset : ClockSlot
-blank_reset = record { update = Unchanged }
+abbrev pub blank_reset : ClockUpdate
+blank_reset = Unchanged
 
 -- numbers 0
 abbrev pub blank_counter : Counter
@@ -63,12 +60,12 @@ abbrev pub past_edge : Edge
 past_edge = record { source = 0; target = 0; label = 0; guard = []; updates = []; order = []; resets = [] }
 
 -- the atom in slot k of an invariant or a guard
-abbrev pub atom_at : List AtomSlot → ℕ → Atom
-atom_at atoms k = (get_or atoms k blank_atom).atom
+abbrev pub atom_at : List Atom → ℕ → Atom
+atom_at atoms k = get_or atoms k blank_atom
 
 -- the update of counter i
 abbrev pub update_at : Edge → ℕ → Update
-update_at e i = (get_or e.updates i blank_update).update
+update_at e i = get_or e.updates i blank_update
 
 -- the counter in slot k of an order
 abbrev pub counter_in : List ℕ → ℕ → ℕ
@@ -76,14 +73,14 @@ counter_in order k = get_or order k 0
 
 -- the update of clock i
 abbrev pub reset_at : Edge → ℕ → ClockUpdate
-reset_at e i = (get_or e.resets i blank_reset).update
+reset_at e i = get_or e.resets i blank_reset
 
 -- the declaration of counter i
 abbrev pub counter_at : Model → ℕ → Counter
 counter_at m i = get_or m.counters i blank_counter
 
 -- the atoms of the invariant of location l
-abbrev pub invariant_at : Model → ℕ → List AtomSlot
+abbrev pub invariant_at : Model → ℕ → List Atom
 invariant_at m l = (get_or m.invariants l past_invariant).atoms
 
 -- edge e

@@ -1,6 +1,6 @@
 -- Runs: k steps from the initial state, ending in the target, written as k bytes.
 use Rattle.std.specs.Prelude.{ℕ, List, [], ◌∷◌, Bool, false, eqb}
-use Rattle.std.proofs.Math.Option.{Option, none, some}
+use Rattle.std.specs.Prelude.{Option, None, Some}
 use Rattle.model.specs.declared.Model.{Model}
 use Rattle.model.specs.declared.State.{State}
 use Rattle.model.specs.Indexed.{only_if, and_then}
@@ -8,7 +8,7 @@ use Rattle.model.specs.Automaton.{initial_state, invariant_holds, step}
 
 -- the state in which the step bytes end, if each step is allowed
 unfoldable pub walk : Model → State → List ℕ → Option State
-walk m s [] = some s
+walk m s [] = Some s
 walk m s (b ∷ r) = and_then (step m s b) (λ t. walk m t r)
 
 -- the initial state must meet its invariant too; if not, there is no run, not even of 0 steps
@@ -17,8 +17,8 @@ start m = only_if (invariant_holds m (initial_state m)) (initial_state m)
 
 -- a walk ends in the target location
 abbrev pub ends_in : Model → Option State → Bool
-ends_in m none = false
-ends_in m (some s) = eqb s.location m.target
+ends_in m None = false
+ends_in m (Some s) = eqb s.location m.target
 
 -- the bytes are a run: walked from the initial state, they end in the target
 unfoldable pub is_run : Model → List ℕ → Bool

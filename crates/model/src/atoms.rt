@@ -1,8 +1,8 @@
 // Whether atoms hold in a state.
-ghost use Rattle.std.specs.Prelude.{◌≡◌, max, get_or};
+ghost use Rattle.std.specs.Prelude.{◌≡◌, get_or};
 ghost use Rattle.model.specs.Automaton.{meets, atom_holds, all_hold, invariant_holds, clock_constant, greatest_constant};
 
-use crate::{Atom, AtomSlot, Model, Relation, State};
+use crate::{Atom, Model, Relation, State};
 
 impl Relation {
     pub fn holds(self, value: u8, constant: u8) -> bool
@@ -12,8 +12,8 @@ impl Relation {
             Relation::Less => value < constant,
             Relation::LessEqual => value <= constant,
             Relation::Equal => value == constant,
-            Relation::GreaterEqual => constant <= value,
-            Relation::Greater => constant < value,
+            Relation::GreaterEqual => value >= constant,
+            Relation::Greater => value > constant,
             Relation::NotEqual => value != constant,
         }
     }
@@ -23,17 +23,7 @@ impl Relation {
 pub(crate) fn slot(values: [u8; Model::COUNTERS], at: u8) -> u8
     ensures { result ≡ get_or values at 0 }
 {
-    if (at as usize) < Model::COUNTERS {
-        values[at as usize]
-    } else {
-        0
-    }
-}
-
-pub(crate) fn larger(a: u8, b: u8) -> u8
-    ensures { result ≡ max a b }
-{
-    if a < b { b } else { a }
+    values.get(at as usize).copied().unwrap_or(0)
 }
 
 impl Atom {
@@ -42,17 +32,8 @@ impl Atom {
         ensures { result ≡ clock_constant self }
     {
         match self {
-            Atom::Blank => 0,
-            Atom::OnClock {
-                clock: _,
-                relation: _,
-                constant,
-            } => constant,
-            Atom::OnCounter {
-                counter: _,
-                relation: _,
-                constant: _,
-            } => 0,
+            Atom::OnClock { constant, .. } => constant,
+            Atom::Blank | Atom::OnCounter { .. } => 0,
         }
     }
 
@@ -65,45 +46,28 @@ impl Atom {
                 clock,
                 relation,
                 constant,
-            } => {
-                let clocks = s.clocks;
-                relation.holds(slot(clocks, clock), constant)
-            }
+            } => relation.holds(slot(s.clocks, clock), constant),
             Atom::OnCounter {
                 counter,
                 relation,
                 constant,
-            } => {
-                let counters = s.counters;
-                relation.holds(slot(counters, counter), constant)
-            }
+            } => relation.holds(slot(s.counters, counter), constant),
         }
     }
 }
 
-pub(crate) fn greatest_constant(atoms: [AtomSlot; Model::ATOMS]) -> u8
+pub(crate) fn greatest_constant(atoms: [Atom; Model::ATOMS]) -> u8
     ensures { result ≡ greatest_constant atoms }
 {
-    let mut most: u8 = 0;
-    for k in 0..Model::ATOMS {
-        let a = atoms[k];
-        let atom = a.atom;
-        most = larger(most, atom.clock_constant());
-    }
-    most
+    atoms
+        .iter()
+        .fold(0, |most, atom| most.max(atom.clock_constant()))
 }
 
-pub(crate) fn all_hold(atoms: [AtomSlot; Model::ATOMS], s: State) -> bool
+pub(crate) fn all_hold(atoms: [Atom; Model::ATOMS], s: State) -> bool
     ensures { result ≡ all_hold s atoms }
 {
-    for k in 0..Model::ATOMS {
-        let a = atoms[k];
-        let atom = a.atom;
-        if !atom.holds(s) {
-            return false;
-        }
-    }
-    true
+    atoms.iter().all(|atom| atom.holds(s))
 }
 
 impl Model {
@@ -111,13 +75,9 @@ impl Model {
     pub fn invariant_holds(self, s: State) -> bool
         ensures { result ≡ invariant_holds self s }
     {
-        let at = s.location;
-        if (at as usize) < Model::LOCATIONS {
-            let v = self.invariants[at as usize];
-            let atoms = v.atoms;
-            all_hold(atoms, s)
-        } else {
-            true
+        match self.invariants.get(s.location as usize) {
+            Some(invariant) => all_hold(invariant.atoms, s),
+            None => true,
         }
     }
 }

@@ -10,7 +10,7 @@ mod steps;
 pub mod updates;
 
 // How an atom compares a value with its constant.
-#[derive(Clone, Copy)]
+#[derive(Clone, Copy, Debug, PartialEq, Eq)]
 pub enum Relation {
     Less,
     LessEqual,
@@ -21,7 +21,7 @@ pub enum Relation {
 }
 
 // One condition of an invariant or a guard; `Blank` marks a slot without one.
-#[derive(Clone, Copy)]
+#[derive(Clone, Copy, Debug, PartialEq, Eq)]
 pub enum Atom {
     Blank,
     OnClock {
@@ -36,66 +36,51 @@ pub enum Atom {
     },
 }
 
-#[derive(Clone, Copy)]
-pub struct AtomSlot {
-    pub atom: Atom,
-}
-
 // What an edge does to a counter: keep it, set it to a constant, or set it to the value of `source` plus `offset`.
-#[derive(Clone, Copy)]
+#[derive(Clone, Copy, Debug, PartialEq, Eq)]
 pub enum Update {
     Keep,
     Constant(u8),
     Sum { source: u8, offset: i8 },
 }
 
-#[derive(Clone, Copy)]
-pub struct UpdateSlot {
-    pub update: Update,
-}
-
 // What an edge does to a clock: leave it unchanged, reset it, or give it the value that clock `source` had before the edge.
-#[derive(Clone, Copy)]
+#[derive(Clone, Copy, Debug, PartialEq, Eq)]
 pub enum ClockUpdate {
     Unchanged,
     Reset,
     Copy { source: u8 },
 }
 
-#[derive(Clone, Copy)]
-pub struct ClockSlot {
-    pub update: ClockUpdate,
-}
-
 // A declared counter: it shows 0 to `greatest` and begins at `initial`.
-#[derive(Clone, Copy)]
+#[derive(Clone, Copy, Debug, PartialEq, Eq)]
 pub struct Counter {
     pub greatest: u8,
     pub initial: u8,
 }
 
 // The atoms that hold while the automaton stands in a location.
-#[derive(Clone, Copy)]
+#[derive(Clone, Copy, Debug, PartialEq, Eq)]
 pub struct Invariant {
-    pub atoms: [AtomSlot; Model::ATOMS],
+    pub atoms: [Atom; Model::ATOMS],
 }
 
 // An edge. `label` names its event; 0 is private. Slot i of `updates` is for counter i, slot i of `resets` for clock i. `order` has
 // the counters that are set, in the order in which their updates happen; the slots after them are 0.
-#[derive(Clone, Copy)]
+#[derive(Clone, Copy, Debug, PartialEq, Eq)]
 pub struct Edge {
     pub source: u8,
     pub target: u8,
     pub label: u8,
-    pub guard: [AtomSlot; Model::ATOMS],
-    pub updates: [UpdateSlot; Model::COUNTERS],
+    pub guard: [Atom; Model::ATOMS],
+    pub updates: [Update; Model::COUNTERS],
     pub order: [u8; Model::COUNTERS],
-    pub resets: [ClockSlot; Model::CLOCKS],
+    pub resets: [ClockUpdate; Model::CLOCKS],
 }
 
 // A model. `locations`, `clocks`, `vars` and `used` say how many locations, clocks, counters and edges there are;
 // the slots from there on are blank.
-#[derive(Clone, Copy)]
+#[derive(Clone, Copy, Debug, PartialEq, Eq)]
 pub struct Model {
     pub locations: u8,
     pub initial: u8,
@@ -110,29 +95,15 @@ pub struct Model {
 
 // A state: the location, and what each counter and each clock shows. A slot that is not declared shows 0.
 #[repr(C)]
-#[derive(Clone, Copy)]
+#[derive(Clone, Copy, Debug, PartialEq, Eq)]
 pub struct State {
     pub location: u8,
     pub counters: [u8; Model::COUNTERS],
     pub clocks: [u8; Model::CLOCKS],
 }
 
-// A step's answer: the new state, or the given one where the step is not allowed.
-#[derive(Clone, Copy)]
-pub struct Stepped {
-    pub allowed: bool,
-    pub state: State,
-}
-
-// The counters after updates, or the given ones where one leaves its range.
-#[derive(Clone, Copy)]
-pub(crate) struct Updated {
-    allowed: bool,
-    values: [u8; Model::COUNTERS],
-}
-
 // M, S and H: the ceiling, and the lengths of a state block and of a choice block.
-#[derive(Clone, Copy)]
+#[derive(Clone, Copy, Debug, PartialEq, Eq)]
 pub struct Totals {
     pub ceiling: usize,
     pub state: usize,
@@ -167,24 +138,17 @@ impl Model {
     pub fn blank() -> Self
         ensures { result ≡ blank_model }
     {
-        let atom = AtomSlot { atom: Atom::Blank };
-        let update = UpdateSlot {
-            update: Update::Keep,
-        };
-        let reset = ClockSlot {
-            update: ClockUpdate::Unchanged,
-        };
         let invariant = Invariant {
-            atoms: [atom; Model::ATOMS],
+            atoms: [Atom::Blank; Model::ATOMS],
         };
         let edge = Edge {
             source: 0,
             target: 0,
             label: 0,
-            guard: [atom; Model::ATOMS],
-            updates: [update; Model::COUNTERS],
-            order: [0u8; Model::COUNTERS],
-            resets: [reset; Model::CLOCKS],
+            guard: [Atom::Blank; Model::ATOMS],
+            updates: [Update::Keep; Model::COUNTERS],
+            order: [0; Model::COUNTERS],
+            resets: [ClockUpdate::Unchanged; Model::CLOCKS],
         };
         let counter = Counter {
             greatest: 0,

@@ -1,30 +1,28 @@
 // New values of counters and clocks, and the order of updates.
-ghost use Rattle.std.specs.Prelude.{◌≡◌, ℕ, get_or};
-ghost use Rattle.model.specs.Automaton.{is_keep, new_counter, new_clock, new_value, listed, place_in, set_earlier};
+ghost use Rattle.std.specs.Prelude.{◌≡◌, get_or};
+ghost use Rattle.model.specs.Automaton.{is_keep, new_counter, new_clock, listed, place_in, set_earlier};
 
 use crate::atoms::slot;
 use crate::{ClockUpdate, Edge, Model, Update};
-use new_values::{NewValue, in_range, shift};
+use new_values::{in_range, shift};
 
 impl Update {
     pub fn is_keep(self) -> bool
         ensures { result ≡ is_keep self }
     {
-        match self {
-            Update::Keep => true,
-            Update::Constant(_) => false,
-            Update::Sum {
-                source: _,
-                offset: _,
-            } => false,
-        }
+        matches!(self, Update::Keep)
     }
 
-    pub(crate) fn next(self, own: u8, values: [u8; Model::COUNTERS], greatest: u8) -> NewValue
-        ensures { result ≡ new_value (new_counter (λ w. get_or values w 0) greatest own self) }
+    pub(crate) fn next(
+        self,
+        own: u8,
+        values: [u8; Model::COUNTERS],
+        greatest: u8,
+    ) -> Option<u8>
+        ensures { result ≡ new_counter (λ w. get_or values w 0) greatest own self }
     {
         match self {
-            Update::Keep => NewValue::Value(own),
+            Update::Keep => Some(own),
             Update::Constant(c) => in_range(greatest, c as u16),
             Update::Sum { source, offset } => shift(offset, greatest, slot(values, source)),
         }
@@ -48,15 +46,10 @@ impl Edge {
     pub fn listed(self) -> usize
         ensures { result ≡ listed self }
     {
-        let mut n = 0;
-        for i in 0..Model::COUNTERS {
-            let s = self.updates[i];
-            let update = s.update;
-            if !update.is_keep() {
-                n += 1;
-            }
-        }
-        n
+        self.updates
+            .iter()
+            .filter(|update| !update.is_keep())
+            .count()
     }
 }
 
@@ -64,12 +57,10 @@ impl Edge {
 pub fn place_in(order: [u8; Model::COUNTERS], counter: u8) -> usize
     ensures { result ≡ place_in order counter }
 {
-    for k in 0..Model::COUNTERS {
-        if order[k] == counter {
-            return k;
-        }
-    }
-    Model::COUNTERS
+    order
+        .iter()
+        .position(|listed| *listed == counter)
+        .unwrap_or(Model::COUNTERS)
 }
 
 // Whether counter `w` is set earlier than counter `i`.

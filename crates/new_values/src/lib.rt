@@ -2,61 +2,34 @@
 #![tactic(auto)]
 
 ghost use Rattle.std.specs.Prelude.{◌≡◌, nat_abs};
-ghost use Rattle.new_values.specs.NewValues.{in_range, moved, shifted, is_negative, new_value};
+ghost use Rattle.new_values.specs.NewValues.{in_range, shifted};
 
-// A counter's new value, where it lies in the counter's range.
-#[derive(Clone, Copy)]
-pub enum NewValue {
-    OutOfRange,
-    Value(u8),
-}
-
-// The value `v`, which must lie in 0 to `greatest`.
-pub fn in_range(greatest: u8, v: u16) -> NewValue
-    ensures { result ≡ new_value (in_range greatest v) }
+// The value `v`, if it lies in 0 to `greatest`.
+pub fn in_range(greatest: u8, v: u16) -> Option<u8>
+    ensures { result ≡ in_range greatest v }
 {
-    if v <= greatest as u16 {
-        NewValue::Value(v as u8)
+    if v <= u16::from(greatest) {
+        Some(v as u8)
     } else {
-        NewValue::OutOfRange
+        None
     }
-}
-
-fn move_by(v: u8, negative: bool, amount: u8, greatest: u8) -> NewValue
-    ensures { result ≡ new_value (moved v negative amount greatest) }
-{
-    if negative {
-        if amount <= v {
-            in_range(greatest, (v - amount) as u16)
-        } else {
-            NewValue::OutOfRange
-        }
-    } else {
-        in_range(greatest, v as u16 + amount as u16)
-    }
-}
-
-fn is_negative(z: i8) -> bool
-    ensures { result ≡ is_negative z }
-{
-    z < 0
 }
 
 // The offset without its sign.
 pub fn amount(z: i8) -> u8
     ensures { result ≡ nat_abs z }
 {
-    if z < 0 {
-        let up = -(z as i16);
-        up as u8
-    } else {
-        z as u8
-    }
+    z.unsigned_abs()
 }
 
-// `v` plus an offset, in 0 to `greatest`.
-pub fn shift(offset: i8, greatest: u8, v: u8) -> NewValue
-    ensures { result ≡ new_value (shifted offset greatest v) }
+// `v` plus an offset, if it lies in 0 to `greatest`.
+pub fn shift(offset: i8, greatest: u8, v: u8) -> Option<u8>
+    ensures { result ≡ shifted offset greatest v }
 {
-    move_by(v, is_negative(offset), amount(offset), greatest)
+    if offset < 0 {
+        let lowered = v.checked_sub(amount(offset))?;
+        in_range(greatest, u16::from(lowered))
+    } else {
+        in_range(greatest, u16::from(v) + u16::from(amount(offset)))
+    }
 }

@@ -2,7 +2,7 @@
 use mathlib.Core.Path.{◌≡◌, refl, sym, ap, ap₂, subst, ◌∙◌}
 use mathlib.Core.Bool.{Bool, true, false, cond}
 use mathlib.Core.List.{List, [], ◌∷◌, ◌++◌, map}
-use mathlib.Core.Option.{some}
+use Rattle.std.specs.Prelude.{Some}
 use Prim.Native.Nat.{ℕ, ◌+◌, ◌≤◌, ◌<◌}
 use native.Mathlib.Omega.{arith}
 use borrow.Author.Tests.{lt-ltb, le-ltb}
@@ -204,7 +204,7 @@ module _ (m : Model) where
         → part_clauses (o + S + c) (update_part (group_table m) o order i u) ≡ clauses_of (update_items one_hot_width m o c order i u)
     update_law o c order i KeepIt l d =
         leads_from (o + S + c) o o Keep (omega (arith, ok.vars_le)) (omega (arith, ok.vars_le)) (comp_counter m i l) (comp_counter m i l) ∙ sym
-        (leads_piece m o o c (counter i) (counter i) some)
+        (leads_piece m o o c (counter i) (counter i) Some)
     update_law o c order i (Constant n) l d =
         let e : next_at (group_table m) o + first_at (group_table m) (1 + i) ≡ after o + at (counter i) =
         ap₂ (λ (a b : ℕ). a + b) (next_is o) (first_is m (1 + i) (omega (arith, ok.vars_le)) ∙ ap at (comp_counter m i l)) in
@@ -223,18 +223,18 @@ module _ (m : Model) where
     reset_law o c i Unchanged l d =
         let k : 1 + m.vars + i < 9 = omega (arith, ok.vars_le, ok.clocks_le) in
         ap (λ (v : ℕ). part_clauses (o + S + c) (leads_part (group_table m) o o (1 + v + i) (1 + v + i) Keep)) vars_are ∙
-        leads_from (o + S + c) o o Keep k k (comp_clock m i) (comp_clock m i) ∙ sym (leads_piece m o o c (clock i) (clock i) some)
+        leads_from (o + S + c) o o Keep k k (comp_clock m i) (comp_clock m i) ∙ sym (leads_piece m o o c (clock i) (clock i) Some)
     reset_law o c i Reset l d =
         let k : 1 + m.vars + i < 9 = omega (arith, ok.vars_le, ok.clocks_le) in
         let e : next_at (group_table m) o + first_at (group_table m) (1 + (group_table m).vars + i) ≡ after o + at (clock i) =
         ap₂ (λ (a b : ℕ). a + b) (next_is o)
         (ap (λ (v : ℕ). first_at (group_table m) (1 + v + i)) vars_are ∙ first_is m (1 + m.vars + i) k ∙ ap at (comp_clock m i)) in
-        set_is (o + S + c) _ _ _ ∙ ap (λ (z : ℕ). rule_clauses (o + S + c) 0 z 0 (Set 0)) e ∙ sym (sets_piece m o c (clock i) (some 0))
+        set_is (o + S + c) _ _ _ ∙ ap (λ (z : ℕ). rule_clauses (o + S + c) 0 z 0 (Set 0)) e ∙ sym (sets_piece m o c (clock i) (Some 0))
     reset_law o c i (Copy w) l d =
         let g : 1 + m.vars + w < 9 = omega (arith, ok.vars_le, ok.clocks_le) in
         let k : 1 + m.vars + i < 9 = omega (arith, ok.vars_le, ok.clocks_le) in
         ap (λ (v : ℕ). part_clauses (o + S + c) (leads_part (group_table m) o o (1 + v + w) (1 + v + i) Keep)) vars_are ∙
-        leads_from (o + S + c) o o Keep g k (comp_clock m w) (comp_clock m i) ∙ sym (leads_piece m o o c (clock w) (clock i) some)
+        leads_from (o + S + c) o o Keep g k (comp_clock m w) (comp_clock m i) ∙ sym (leads_piece m o o c (clock w) (clock i) Some)
 
     module _ (o c : ℕ) (e : Edge) (w : WellFormedEdge m e) where
       abbrev x : ℕ

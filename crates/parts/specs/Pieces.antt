@@ -1,6 +1,6 @@
 -- Pieces of the list by number: a group of the state block at o, an atom, a delay, a part of an edge, an edge, a step.
 use Rattle.std.specs.Prelude.{◌≡◌, List, [], ◌∷◌, ◌++◌, ℕ, ◌+◌, ◌≤◌, ◌<◌, T, length}
-use Rattle.model.specs.declared.AtomSlot.{AtomSlot}
+use Rattle.model.specs.declared.Atom.{Atom}
 use Rattle.model.specs.declared.Edge.{Edge}
 use Rattle.model.specs.declared.Model.{Model}
 use Rattle.model.specs.Indexed.{each}
@@ -34,7 +34,7 @@ abbrev pub initial_piece : Model → GroupTable → ℕ → List Clause
 initial_piece m b g = one (bare (first_at b g + initial_value m (component_at m g)) ∷ [])
 
 -- Atom k of an invariant or a guard, for the choice or location x.
-abbrev pub atom_piece : GroupTable → ℕ → ℕ → List AtomSlot → ℕ → List Clause
+abbrev pub atom_piece : GroupTable → ℕ → ℕ → List Atom → ℕ → List Clause
 atom_piece b o x atoms k = part_clauses x (atom_part b o (atom_at atoms k))
 
 -- The invariant of location l.

@@ -9,7 +9,6 @@ use lib.Dec.{T, eqb, T_not}
 use lib.ListN.{length, replicate}
 use Rattle.model.specs.declared.Atom.{Atom}
 use Rattle.model.specs.declared.Atom.TheVariants.{Blank, OnClock, OnCounter}
-use Rattle.model.specs.declared.AtomSlot.{AtomSlot}
 use Rattle.model.specs.declared.Edge.{Edge}
 use Rattle.model.specs.declared.Model.{Model}
 use Rattle.model.specs.Indexed.{all_below, first_below}
@@ -31,15 +30,15 @@ use Rattle.product.proofs.ComposedForm.{Fits, fits_of, pair_of, invariant_at_lem
 use Rattle.compose.proofs.JoinedLaws.{invariant_formed_at, edge_formed_at}
 
 -- ---- the greatest constant of joined atoms
-pub constants_most : (atoms : List AtomSlot) (t : ℕ) → ((k : ℕ) → k < 4 → clock_constant (atom_at atoms k) ≤ t) → greatest_constant atoms ≤ t
+pub constants_most : (atoms : List Atom) (t : ℕ) → ((k : ℕ) → k < 4 → clock_constant (atom_at atoms k) ≤ t) → greatest_constant atoms ≤ t
 unfolding greatest_constant
 constants_most atoms t h = max_below_lem (λ k. clock_constant (atom_at atoms k)) 4 t h
 
-constant_at : (atoms : List AtomSlot) (k : ℕ) → k < 4 → clock_constant (atom_at atoms k) ≤ greatest_constant atoms
+constant_at : (atoms : List Atom) (k : ℕ) → k < 4 → clock_constant (atom_at atoms k) ≤ greatest_constant atoms
 unfolding greatest_constant
 constant_at atoms k l = max_at (λ k. clock_constant (atom_at atoms k)) 4 k l
 
-pub no_atom_constant : (atoms : List AtomSlot) → NoAtom atoms → greatest_constant atoms ≡ 0
+pub no_atom_constant : (atoms : List Atom) → NoAtom atoms → greatest_constant atoms ≡ 0
 no_atom_constant atoms h =
     let z : greatest_constant atoms ≤ 0 = constants_most atoms 0 (λ k l. subst (λ (x : Atom). clock_constant x ≤ 0) (sym (h k l)) (omega arith)) in omega arith
 
@@ -48,8 +47,8 @@ shifted_constant c v Blank = refl
 shifted_constant c v (OnClock x r k) = refl
 shifted_constant c v (OnCounter x r k) = refl
 
-module _ (c v : ℕ) (p q : List AtomSlot) where
-  abbrev both : List AtomSlot
+module _ (c v : ℕ) (p q : List Atom) where
+  abbrev both : List Atom
   both = joined_atoms c v p q
 
   -- each constant of both is one of the two
@@ -201,7 +200,7 @@ module _ (a b : Model) (a-ok : T (well_formed a)) (b-ok : T (well_formed b)) (fi
   pair_invariant : (i j : ℕ) → i < a.locations → j < b.locations
       → greatest_constant (joined_atoms a.clocks a.vars (invariant_at a i) (invariant_at b j)) < ceiling whole
   pair_invariant i j p q =
-      subst (λ (x : List AtomSlot). greatest_constant x < ceiling whole) (invariant_at_lem a b i j p q few.locations_fit)
+      subst (λ (x : List Atom). greatest_constant x < ceiling whole) (invariant_at_lem a b i j p q few.locations_fit)
       (invariant_below whole (i * b.locations + j) (omega (arith, few.locations_fit, pair_lt a.locations b.locations i j p q)))
 
   -- the first's guards

@@ -9,7 +9,7 @@ use native.Mathlib.Omega.{arith}
 use lib.Dec.{T, leb, ltb, eqb, leb→le, le→leb, lt→ltb}
 use lib.ListN.{length, get_or, replicate, length-append, get_or-append, get_or-eq_default}
 use lib.Seq.{get_or-append-add}
-use Rattle.model.specs.declared.AtomSlot.{AtomSlot}
+use Rattle.model.specs.declared.Atom.{Atom}
 use Rattle.model.specs.declared.Counter.{Counter}
 use Rattle.model.specs.declared.Invariant.{Invariant}
 use Rattle.model.specs.declared.Edge.{Edge}
@@ -229,10 +229,10 @@ module _ (a b : Model) (a-ok : T (well_formed a)) (b-ok : T (well_formed b)) (fi
       let whole = atoms_formed (a.clocks + b.clocks) 0 in
       slot_of l (a.locations * b.locations) (whole (invariant_at (composed a b) l)) (atoms_formed 0 0 (invariant_at (composed a b) l))
       (λ p. let h = pair_of a.locations b.locations l p in
-      subst (λ (x : List AtomSlot). T (whole x))
+      subst (λ (x : List Atom). T (whole x))
       (sym (ap (invariant_at (composed a b)) h.4 ∙ invariant_at_lem a b h.0 h.1 h.2 h.3 few.locations_fit))
       (pair_invariant_formed h.0 h.1 h.2 h.3))
-      (λ p. subst (λ (x : List AtomSlot). T (atoms_formed 0 0 x)) (sym (invariant_rest a b l p q)) (blank_formed 0 0))
+      (λ p. subst (λ (x : List Atom). T (atoms_formed 0 0 x)) (sym (invariant_rest a b l p q)) (blank_formed 0 0))
 
   composed_invariants_formed : T (invariants_formed (composed a b))
   unfolding invariants_formed composed

@@ -16,7 +16,6 @@ use Rattle.model.specs.declared.Update.{Update}
 use Rattle.model.specs.declared.Update.TheVariants.{Keep, Constant, Sum}
 use Rattle.model.specs.declared.ClockUpdate.{ClockUpdate}
 use Rattle.model.specs.declared.ClockUpdate.TheVariants.{Unchanged, Reset, Copy}
-use Rattle.model.specs.declared.AtomSlot.{AtomSlot}
 use Rattle.model.specs.declared.Edge.{Edge}
 use Rattle.model.specs.declared.Model.{Model}
 use Rattle.model.specs.Indexed.{sum_below}
@@ -36,17 +35,17 @@ use Rattle.compose.specs.Joined.{joined_updates, joined_place}
 use Rattle.compose.specs.Joined.{joined_location, joined_order, joined_reset, joined_resets, standing, joined_edge}
 
 -- ---- slot by slot
-pub joined_atom_lem : (c v : ℕ) (p q : List AtomSlot) (k : ℕ) → k < 4 → atom_at (joined_atoms c v p q) k ≡ joined_atom c v p q k
+pub joined_atom_lem : (c v : ℕ) (p q : List Atom) (k : ℕ) → k < 4 → atom_at (joined_atoms c v p q) k ≡ joined_atom c v p q k
 unfolding joined_atoms
-joined_atom_lem c v p q k l = ap (λ (s : AtomSlot). s.atom) (get_d_list blank_atom (λ k. record { atom = joined_atom c v p q k }) 4 k l)
+joined_atom_lem c v p q k l = (get_d_list blank_atom (λ k. (joined_atom c v p q k)) 4 k l)
 
 pub joined_update_lem : (c v n label : ℕ) (e f : Edge) (i : ℕ) → i < 4 → update_at (joined_edge c v n label e f) i ≡ joined_update v e f i
 unfolding joined_edge joined_updates
-joined_update_lem c v n label e f i l = ap (λ s. s.update) (get_d_list blank_update (λ i. record { update = joined_update v e f i }) 4 i l)
+joined_update_lem c v n label e f i l = (get_d_list blank_update (λ i. (joined_update v e f i)) 4 i l)
 
 pub joined_reset_lem : (c v n label : ℕ) (e f : Edge) (i : ℕ) → i < 4 → reset_at (joined_edge c v n label e f) i ≡ joined_reset c e f i
 unfolding joined_edge joined_resets
-joined_reset_lem c v n label e f i l = ap (λ s. s.update) (get_d_list blank_reset (λ i. record { update = joined_reset c e f i }) 4 i l)
+joined_reset_lem c v n label e f i l = (get_d_list blank_reset (λ i. (joined_reset c e f i)) 4 i l)
 
 pub joined_place_lem : (v : ℕ) (e f : Edge) (k : ℕ) → k < 4 → counter_in (joined_order v e f) k ≡ joined_place v e f k
 unfolding joined_order
@@ -96,11 +95,11 @@ reset_second c v n label e f i p =
     ∙ cond_F (ltb (c + i) c) (reset_at e (c + i)) (shifted_reset c (reset_at f (c + i - c))) (not_lt (c + i) c (omega arith))
     ∙ ap (λ (j : ℕ). shifted_reset c (reset_at f j)) s
 
-pub atom_first : (c v : ℕ) (p q : List AtomSlot) (k : ℕ) → k < 4 → k < atom_count p → atom_at (joined_atoms c v p q) k ≡ atom_at p k
+pub atom_first : (c v : ℕ) (p q : List Atom) (k : ℕ) → k < 4 → k < atom_count p → atom_at (joined_atoms c v p q) k ≡ atom_at p k
 atom_first c v p q k l m =
     joined_atom_lem c v p q k l ∙ cond_T (ltb k (atom_count p)) (atom_at p k) (shifted_atom c v (atom_at q (k - atom_count p))) (lt→ltb k (atom_count p) m)
 
-pub atom_second : (c v : ℕ) (p q : List AtomSlot) (k : ℕ) → atom_count p + k < 4
+pub atom_second : (c v : ℕ) (p q : List Atom) (k : ℕ) → atom_count p + k < 4
     → atom_at (joined_atoms c v p q) (atom_count p + k) ≡ shifted_atom c v (atom_at q k)
 atom_second c v p q k l =
     let n = atom_count p in
@@ -365,11 +364,11 @@ blank_is Blank h = refl
 blank_is (OnClock x r c) h = absurd h
 blank_is (OnCounter v r c) h = absurd h
 
-pub filled_atoms : (clocks vars : ℕ) (atoms : List AtomSlot) → T (atoms_formed clocks vars atoms) → T (filled_from_first atoms)
+pub filled_atoms : (clocks vars : ℕ) (atoms : List Atom) → T (atoms_formed clocks vars atoms) → T (filled_from_first atoms)
 unfolding atoms_formed
 filled_atoms clocks vars atoms h = ((and_T (each_formed clocks vars atoms) (filled_from_first atoms)).0 h).1
 
-module _ (atoms : List AtomSlot) (filled : T (filled_from_first atoms)) where
+module _ (atoms : List Atom) (filled : T (filled_from_first atoms)) where
   counted : (atom_count atoms ≤ 4) × ((k : ℕ) → k < atom_count atoms → is_blank (atom_at atoms k) ≡ false)
       × ((k : ℕ) → atom_count atoms ≤ k → k < 4 → is_blank (atom_at atoms k) ≡ true)
   unfolding filled_from_first atom_count
@@ -409,7 +408,7 @@ shifted_blank c v (OnClock x r k) = refl
 shifted_blank c v (OnCounter x r k) = refl
 
 -- what holds of the first's atoms and of the second's shifted ones holds of the joined ones
-pub joined_each : (P : Atom → Type 0) (c v : ℕ) (p q : List AtomSlot) → ((k : ℕ) → k < 4 → P (atom_at p k))
+pub joined_each : (P : Atom → Type 0) (c v : ℕ) (p q : List Atom) → ((k : ℕ) → k < 4 → P (atom_at p k))
     → ((k : ℕ) → k < 4 → P (shifted_atom c v (atom_at q k))) → (k : ℕ) → k < 4 → P (atom_at (joined_atoms c v p q) k)
 joined_each P c v p q f g k l = ⊎_elim
     (λ m. subst P (sym (atom_first c v p q k l m)) (f k l))
@@ -418,12 +417,12 @@ joined_each P c v p q f g k l = ⊎_elim
     subst P (sym (ap (atom_at (joined_atoms c v p q)) here ∙ atom_second c v p q j (omega arith))) (g j (omega arith)))
     (lt_or_le k (atom_count p))
 
-joined_filled : (c v : ℕ) (p q : List AtomSlot) → T (filled_from_first p) → T (filled_from_first q) → T (filled_from_first (joined_atoms c v p q))
+joined_filled : (c v : ℕ) (p q : List Atom) → T (filled_from_first p) → T (filled_from_first q) → T (filled_from_first (joined_atoms c v p q))
 unfolding filled_from_first
 joined_filled c v p q f g = (all_below_lem (λ k. no_gap (atom_at both k) (atom_at both (k + 1))) 3).1
     (λ k l. no_gap_of (is_blank (atom_at both k)) (is_blank (atom_at both (k + 1))) (next k l))
   where
-    both : List AtomSlot
+    both : List Atom
     both = joined_atoms c v p q
 
     next : (k : ℕ) → k < 3 → T (is_blank (atom_at both k)) → T (is_blank (atom_at both (k + 1)))
@@ -440,7 +439,7 @@ joined_filled c v p q f g = (all_below_lem (λ k. no_gap (atom_at both k) (atom_
         (lt_or_le k (atom_count p))
 
 -- the first's clocks and counters stay, the second's are declared after the shift
-pub joined_atoms_formed : (ca va c v c₁ v₁ c₂ v₂ : ℕ) (p q : List AtomSlot) → c₁ ≤ c → v₁ ≤ v → ((x : ℕ) → x < c₂ → ca + x < c)
+pub joined_atoms_formed : (ca va c v c₁ v₁ c₂ v₂ : ℕ) (p q : List Atom) → c₁ ≤ c → v₁ ≤ v → ((x : ℕ) → x < c₂ → ca + x < c)
     → ((x : ℕ) → x < v₂ → va + x < v) → T (atoms_formed c₁ v₁ p) → T (atoms_formed c₂ v₂ q) → T (atoms_formed c v (joined_atoms ca va p q))
 unfolding atoms_formed each_formed
 joined_atoms_formed ca va c v c₁ v₁ c₂ v₂ p q l₁ l₂ m₁ m₂ f g =
@@ -609,7 +608,7 @@ module _ (la ca va lb cb vb : ℕ) (e f : Edge) (clocks_fit : ca + cb ≤ 4) (va
 
   -- ---- the whole edge
   pub joined_guard_formed : T (atoms_formed (ca + cb) (va + vb) joint.guard)
-  joined_guard_formed = subst (λ (p : List AtomSlot). T (atoms_formed (ca + cb) (va + vb) p)) (sym (joined_guard ca va lb label e f))
+  joined_guard_formed = subst (λ (p : List Atom). T (atoms_formed (ca + cb) (va + vb) p)) (sym (joined_guard ca va lb label e f))
       (joined_atoms_formed ca va (ca + cb) (va + vb) ca va cb vb e.guard f.guard (omega arith) (omega arith) (λ x l. omega arith) (λ x l. omega arith)
       (edge_parts la ca va e e-ok).3 (edge_parts lb cb vb f f-ok).3)
 
@@ -638,7 +637,7 @@ module _ (la ca va lb cb vb : ℕ) (e f : Edge) (clocks_fit : ca + cb ≤ 4) (va
 
 -- ---- standing still is a formed edge
 pub blank_atom_at : (k : ℕ) → k < 4 → atom_at (replicate 4 blank_atom) k ≡ Blank
-blank_atom_at k l = ap (λ (s : AtomSlot). s.atom) (get_or-replicate 4 k blank_atom blank_atom l)
+blank_atom_at k l = (get_or-replicate 4 k blank_atom blank_atom l)
 
 pub blank_count : atom_count (replicate 4 blank_atom) ≡ 0
 unfolding atom_count
@@ -665,11 +664,11 @@ module _ (l : ℕ) where
 
   pub standing_keeps : (i : ℕ) → i < 4 → update_at (standing l) i ≡ Keep
   unfolding standing
-  standing_keeps i p = ap (λ s. s.update) (get_or-replicate 4 i blank_update blank_update p)
+  standing_keeps i p = (get_or-replicate 4 i blank_update blank_update p)
 
   pub standing_stays : (i : ℕ) → i < 4 → reset_at (standing l) i ≡ Unchanged
   unfolding standing
-  standing_stays i p = ap (λ s. s.update) (get_or-replicate 4 i blank_reset blank_reset p)
+  standing_stays i p = (get_or-replicate 4 i blank_reset blank_reset p)
 
   standing_order : (k : ℕ) → k < 4 → counter_in (standing l).order k ≡ 0
   unfolding standing
@@ -700,7 +699,7 @@ module _ (l : ℕ) where
       and₇_of (ltb e.source n) (ltb e.target n) (leb e.label 15) (atoms_formed c v e.guard) (updates_formed v e.updates) (order_formed e)
       (resets_formed c e.resets) (lt→ltb e.source n (omega (arith, ends.0))) (lt→ltb e.target n (omega (arith, ends.1)))
       (le→leb e.label 15 (omega (arith, ends.2)))
-      (subst (λ (s : List AtomSlot). T (atoms_formed c v s)) (sym standing_guard) (blank_formed c v))
+      (subst (λ (s : List Atom). T (atoms_formed c v s)) (sym standing_guard) (blank_formed c v))
       ((all_below_lem (λ i. update_slot_formed v (update_at e i) i) 4).1 (λ i q. slot_of i v (update_formed v (update_at e i)) (is_keep (update_at e i))
       (λ _. subst (λ (u : Update). T (update_formed v u)) (sym (standing_keeps i q)) tt)
       (λ _. subst (λ (u : Update). T (is_keep u)) (sym (standing_keeps i q)) tt)))

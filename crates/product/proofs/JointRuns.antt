@@ -2,7 +2,7 @@
 use mathlib.Core.Path.{◌≡◌, refl, sym, ap, subst, ◌∙◌}
 use mathlib.Core.Logic.{◌⊎◌, inl, inr}
 use mathlib.Core.List.{List, [], ◌∷◌}
-use mathlib.Core.Option.{Option, none, some}
+use Rattle.std.specs.Prelude.{Option, None, Some}
 use Prim.Native.Nat.{ℕ, ◌+◌, ◌-◌, ◌≤◌, ◌<◌, min}
 use native.Mathlib.Omega.{arith}
 use lib.Dec.{T, eqb}
@@ -29,7 +29,7 @@ use Rattle.product.proofs.JointSteps.{JoinedEdges, steps_as_parts}
 
 -- ---- what a step byte is in a part
 module _ (edge : Move → Option ℕ) (m a b : Model) where
-  delay_part_lem : (d : ℕ) → d ≤ ceiling (composed a b) → part_step edge m a b d ≡ some (min d (ceiling m))
+  delay_part_lem : (d : ℕ) → d ≤ ceiling (composed a b) → part_step edge m a b d ≡ Some (min d (ceiling m))
   delay_part_lem d l = rw (le-leb d (ceiling (composed a b)) l) refl
 
   edge_part_lem : (n : ℕ) → part_step edge m a b (ceiling (composed a b) + 1 + n) ≡ edge_byte (ceiling m) (edge (move_at a b n))
@@ -47,21 +47,21 @@ unfolding second_step
 second_is a b n = refl
 
 -- ---- a step more
-walks_on : (part : ℕ → Option ℕ) (m : Model) (n k : ℕ) (r : List ℕ) (x z : State) → part n ≡ some k → step m x k ≡ some z
+walks_on : (part : ℕ → Option ℕ) (m : Model) (n k : ℕ) (r : List ℕ) (x z : State) → part n ≡ Some k → step m x k ≡ Some z
     → walk m x (steps_of part (n ∷ r)) ≡ walk m z (steps_of part r)
 unfolding steps_of
 walks_on part m n k r x z e h = rw e (walk_step m x z k (steps_of part r) h)
 
-walks_still : (part : ℕ → Option ℕ) (m : Model) (n : ℕ) (r : List ℕ) (x z : State) → part n ≡ none → x ≡ z
+walks_still : (part : ℕ → Option ℕ) (m : Model) (n : ℕ) (r : List ℕ) (x z : State) → part n ≡ None → x ≡ z
     → walk m x (steps_of part (n ∷ r)) ≡ walk m z (steps_of part r)
 unfolding steps_of
 walks_still part m n r x z e h = rw e (ap (λ (s : State). walk m s (steps_of part r)) h)
 
-no_steps : (part : ℕ → Option ℕ) (m : Model) (x : State) → walk m x (steps_of part []) ≡ some x
+no_steps : (part : ℕ → Option ℕ) (m : Model) (x : State) → walk m x (steps_of part []) ≡ Some x
 unfolding steps_of
 no_steps part m x = (walk_nil m x x).1 refl
 
-still : (l : ℕ) (x z : State) → stands_in l x ≡ some z → x ≡ z
+still : (l : ℕ) (x z : State) → stands_in l x ≡ Some z → x ≡ z
 still l x z h = ((only_if_lem (eqb x.location l) x z).0 h).1
 
 module _ (a b : Model) (ok : Composable a b) (es : JoinedEdges a b) where
@@ -76,7 +76,7 @@ module _ (a b : Model) (ok : Composable a b) (es : JoinedEdges a b) where
     second_on : walk b y (steps_of (second_step a b) (n ∷ r)) ≡ walk b second_new (steps_of (second_step a b) r)
     parts : Parts a b t first_new second_new
 
-  parted : (n : ℕ) (r : List ℕ) (s x y t : State) → Shaped c s → Parts a b s x y → T (invariant_holds c s) → step c s n ≡ some t → Parted n r x y t
+  parted : (n : ℕ) (r : List ℕ) (s x y t : State) → Shaped c s → Parts a b s x y → T (invariant_holds c s) → step c s n ≡ Some t → Parted n r x y t
   parted n r s x y t q p i h = by_kind (delay_or_edge c n (step_lt c s t n h))
     where
       law : StepsAsParts a b s x y
@@ -142,7 +142,7 @@ module _ (a b : Model) (ok : Composable a b) (es : JoinedEdges a b) where
       by_kind (inr (k, l, e)) = by_move k l e (move_at a b k) refl
 
   -- every walk of the composed model, cut to a part, is a walk of that part
-  pub walks_as_parts : (r : List ℕ) (s x y t : State) → Shaped c s → Parts a b s x y → T (invariant_holds c s) → walk c s r ≡ some t → WalksAsParts a b r x y t
+  pub walks_as_parts : (r : List ℕ) (s x y t : State) → Shaped c s → Parts a b s x y → T (invariant_holds c s) → walk c s r ≡ Some t → WalksAsParts a b r x y t
   walks_as_parts [] s x y t q p i h = record {
     first_end = x;
     second_end = y;

@@ -1,7 +1,7 @@
 -- The law of steps: from a joint state that meets its invariant, every step byte of the composed model does what its two parts do.
 use mathlib.Core.Path.{◌≡◌, refl, sym, ap, subst, ◌∙◌}
 use mathlib.Core.Logic.{◌↔◌}
-use mathlib.Core.Option.{Option, none, some}
+use Rattle.std.specs.Prelude.{Option, None, Some}
 use Prim.Native.Nat.{ℕ, ◌+◌, ◌-◌, ◌<◌}
 use native.Mathlib.Omega.{arith}
 use lib.Dec.{T, eqb}
@@ -25,11 +25,11 @@ use Rattle.product.proofs.PairSteps.{Composable, Joinable, SeenBy, parts_seen, i
 use Rattle.product.proofs.Standing.{standing_iff}
 
 -- options with the same value are the same
-same_option : {A : Type 0} (x y : Option A) → ((z : A) → (x ≡ some z) ↔ (y ≡ some z)) → x ≡ y
-same_option none none h = refl
-same_option none (some w) h = absurd (some_none ((h w).1 refl))
-same_option (some v) none h = absurd (some_none ((h v).0 refl))
-same_option (some v) (some w) h = sym ((h v).0 refl)
+same_option : {A : Type 0} (x y : Option A) → ((z : A) → (x ≡ Some z) ↔ (y ≡ Some z)) → x ≡ y
+same_option None None h = refl
+same_option None (Some w) h = absurd (some_none ((h w).1 refl))
+same_option (Some v) None h = absurd (some_none ((h v).0 refl))
+same_option (Some v) (Some w) h = sym ((h v).0 refl)
 
 -- the step byte of edge n
 pub step_byte_lem : (m : Model) (s : State) (n : ℕ) → n < m.used → step m s (ceiling m + 1 + n) ≡ edge_step m (edge_at m n) s

@@ -3,7 +3,7 @@ use mathlib.Core.Path.{◌≡◌, sym, ap, subst, ◌∙◌}
 use mathlib.Core.Logic.{◌↔◌, ◌⊎◌, inl, inr, ⊎_elim}
 use mathlib.Core.Bool.{cond}
 use mathlib.Core.List.{List}
-use mathlib.Core.Option.{some}
+use Rattle.std.specs.Prelude.{Some}
 use Prim.Native.Nat.{ℕ, ◌+◌, ◌-◌, ◌*◌, ◌≤◌, ◌<◌, min, max}
 use native.Mathlib.Omega.{arith}
 use native.Mathlib.Nat.{mul-le-mul}
@@ -274,7 +274,7 @@ module _ (m c : Model) (k v : ℕ) (e j : Edge) (we : WellFormedEdge m e) (f : E
     guard = guard;
     sets = λ i l.
         sym (update_seen m k v e j f s x p c t z (λ w n. r.counters w n) i l (same i l) (we.sets_ok i l)) ∙ h.sets (v + i) (counters-in i l)
-        ∙ ap some (sym (r.counters i l));
+        ∙ ap Some (sym (r.counters i l));
     resets = λ i l.
         sym (reset_seen m k v e j f s x p i l (we.resets_ok i l)) ∙ ap (λ (n : ℕ). min n (ceiling m)) (h.resets (k + i) (clocks-in i l))
         ∙ sym (r.clocks i l);
@@ -284,8 +284,8 @@ module _ (m c : Model) (k v : ℕ) (e j : Edge) (we : WellFormedEdge m e) (f : E
 
   -- what the part's counters become is what the joint edge makes of them
   part_sets : EdgeTo m e x z → ((w : ℕ) → w < m.vars → value z (counter w) ≡ value t (counter (v + w))) → (i : ℕ) → i < m.vars
-      → new_counter (read_by j s t (v + i)) (counter_at c (v + i)).greatest (value s (counter (v + i))) (update_at j (v + i)) ≡ some (value t (counter (v + i)))
-  part_sets h r i l = update_seen m k v e j f s x p c t z r i l (same i l) (we.sets_ok i l) ∙ h.sets i l ∙ ap some (r i l)
+      → new_counter (read_by j s t (v + i)) (counter_at c (v + i)).greatest (value s (counter (v + i))) (update_at j (v + i)) ≡ Some (value t (counter (v + i)))
+  part_sets h r i l = update_seen m k v e j f s x p c t z r i l (same i l) (we.sets_ok i l) ∙ h.sets i l ∙ ap Some (r i l)
 
   -- the part sees its new state
   takes_seen : EdgeTo m e x z → ((w : ℕ) → w < m.vars → value z (counter w) ≡ value t (counter (v + w)))
@@ -398,7 +398,7 @@ module _ (a b : Model) (ok : Composable a b) (label : ℕ) (e f : Edge) (r : Joi
           ∙ ap (λ (u : ℕ). value w (counter u)) o)
 
       Sets : ℕ → Type 0
-      Sets i = new_counter (read_by joint s t i) (counter_at c i).greatest (value s (counter i)) (update_at joint i) ≡ some (value t (counter i))
+      Sets i = new_counter (read_by joint s t i) (counter_at c i).greatest (value s (counter i)) (update_at joint i) ≡ Some (value t (counter i))
 
       sets : (i : ℕ) → (i < a.vars) ⊎ (a.vars ≤ i) → i < c.vars → Sets i
       sets i (inl u) l =

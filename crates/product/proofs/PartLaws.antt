@@ -12,7 +12,6 @@ use Rattle.model.specs.declared.Update.{Update}
 use Rattle.model.specs.declared.Update.TheVariants.{Keep, Constant, Sum}
 use Rattle.model.specs.declared.ClockUpdate.{ClockUpdate}
 use Rattle.model.specs.declared.ClockUpdate.TheVariants.{Unchanged, Reset, Copy}
-use Rattle.model.specs.declared.AtomSlot.{AtomSlot}
 use Rattle.model.specs.declared.Edge.{Edge}
 use Rattle.model.specs.declared.Model.{Model}
 use Rattle.model.specs.declared.State.{State}
@@ -98,13 +97,13 @@ atom_seen m clocks vars s x h (OnClock c r n) d l =
 atom_seen m clocks vars s x h (OnCounter c r n) d l = sym (ap (λ (v : ℕ). meets r v n) (h.counters c d))
 
 -- the atoms of an invariant or of a guard: declared, with constants below the ceiling, and blank from their number on
-pub record PartAtoms (m : Model) (atoms : List AtomSlot) : Type 0 where
+pub record PartAtoms (m : Model) (atoms : List Atom) : Type 0 where
   pub declared : (k : ℕ) → k < 4 → DeclaredAtom m (atom_at atoms k)
   pub low : (k : ℕ) → k < 4 → clock_constant (atom_at atoms k) < ceiling m
   pub past : (k : ℕ) → k < 4 → atom_count atoms ≤ k → T (is_blank (atom_at atoms k))
 
 -- all hold
-abbrev pub AllHold : State → List AtomSlot → Type 0
+abbrev pub AllHold : State → List Atom → Type 0
 AllHold s atoms = (k : ℕ) → k < 4 → T (atom_holds s (atom_at atoms k))
 
 blank_holds : (s : State) (t : Atom) → T (is_blank t) → T (atom_holds s t)
@@ -118,9 +117,9 @@ shift_none (OnClock c r n) = ap (λ (i : ℕ). OnClock i r n) (omega arith)
 shift_none (OnCounter c r n) = ap (λ (i : ℕ). OnCounter i r n) (omega arith)
 
 -- joined atoms hold in a joint state exactly if each part's atoms hold in what it sees
-module _ (a b : Model) (s x y : State) (p : Sees a 0 0 s x) (q : Sees b a.clocks a.vars s y) (first second : List AtomSlot) (fa : PartAtoms a first)
+module _ (a b : Model) (s x y : State) (p : Sees a 0 0 s x) (q : Sees b a.clocks a.vars s y) (first second : List Atom) (fa : PartAtoms a first)
     (fb : PartAtoms b second) (four : atom_count first + atom_count second ≤ 4) where
-  abbrev joint : List AtomSlot
+  abbrev joint : List Atom
   joint = joined_atoms a.clocks a.vars first second
 
   first_atom : (k : ℕ) → k < 4 → atom_holds s (atom_at first k) ≡ atom_holds x (atom_at first k)

@@ -3,7 +3,7 @@ use mathlib.Core.Path.{◌≡◌, sym, ap, subst, ◌∙◌}
 use mathlib.Core.Logic.{◌⊎◌, inl, inr}
 use mathlib.Core.Bool.{◌&&◌}
 use mathlib.Core.List.{List}
-use mathlib.Core.Option.{some}
+use Rattle.std.specs.Prelude.{Some}
 use Prim.Native.Nat.{ℕ, ◌+◌, ◌*◌, ◌≤◌, ◌<◌}
 use native.Mathlib.Omega.{arith}
 use lib.Dec.{T, ltb, leb, eqb, lt→ltb, le→leb}
@@ -120,7 +120,7 @@ module _ (a b : Model) (a-ok : T (well_formed a)) (b-ok : T (well_formed b)) (fi
   steps_are_parts s x y h p = steps_as_parts a b ok (joined_edges a b a-ok b-ok fit) s x y (joint_shape s h).0 p h.meets
 
   -- walks are walks of the parts
-  pub walks_are_parts : (r : List ℕ) (s x y t : State) → JointState a b s → Parts a b s x y → walk (composed a b) s r ≡ some t → WalksAsParts a b r x y t
+  pub walks_are_parts : (r : List ℕ) (s x y t : State) → JointState a b s → Parts a b s x y → walk (composed a b) s r ≡ Some t → WalksAsParts a b r x y t
   walks_are_parts r s x y t h p w = walks_as_parts a b ok (joined_edges a b a-ok b-ok fit) r s x y t (joint_shape s h).0 p h.meets w
 
   -- the initial state's parts are the initial states

@@ -2,11 +2,11 @@
 use mathlib.Core.Path.{◌≡◌, sym, ap, subst, ◌∙◌}
 use mathlib.Core.Logic.{◌↔◌}
 use mathlib.Core.List.{List}
-use mathlib.Core.Option.{some}
+use Rattle.std.specs.Prelude.{Some}
 use Prim.Native.Nat.{ℕ, ◌<◌}
 use native.Mathlib.Omega.{arith}
 use lib.Dec.{T}
-use Rattle.model.specs.declared.AtomSlot.{AtomSlot}
+use Rattle.model.specs.declared.Atom.{Atom}
 use Rattle.model.specs.declared.Atom.TheVariants.{Blank}
 use Rattle.model.specs.declared.Update.{Update}
 use Rattle.model.specs.declared.ClockUpdate.{ClockUpdate}
@@ -22,7 +22,7 @@ use Rattle.product.proofs.JoinedForm.{blank_atom_at, standing_guard, standing_ke
 use Rattle.product.proofs.PartLaws.{PartAtoms}
 
 standing_atom : (l k : ℕ) → k < 4 → atom_at (standing l).guard k ≡ Blank
-standing_atom l k p = ap (λ (atoms : List AtomSlot). atom_at atoms k) (standing_guard l) ∙ blank_atom_at k p
+standing_atom l k p = ap (λ (atoms : List Atom). atom_at atoms k) (standing_guard l) ∙ blank_atom_at k p
 
 module _ (m : Model) (ok : WellFormed m) (l : ℕ) where
   pub standing_atoms : PartAtoms m (standing l).guard
@@ -49,14 +49,14 @@ module _ (m : Model) (ok : WellFormed m) (l : ℕ) where
   }
 
   pub standing_iff : l < m.locations → (s t : State) → Shaped m s → T (invariant_holds m s)
-      → (edge_step m (standing l) s ≡ some t) ↔ ((s.location ≡ l) × (s ≡ t))
+      → (edge_step m (standing l) s ≡ Some t) ↔ ((s.location ≡ l) × (s ≡ t))
   standing_iff h s t q i = (
     λ e. let g = (edge_iff m ok (standing l) (standing_ok h) s q t).0 e in (g.leaves ∙ (standing_ends l).0, stays g),
     λ g. (edge_iff m ok (standing l) (standing_ok h) s q t).1 (subst (EdgeTo m (standing l) s) g.1 (still g.0)),
   )
     where
       own : (t : State) (i : ℕ) → i < m.vars
-          → new_counter (read_by (standing l) s t i) (counter_at m i).greatest (value s (counter i)) (update_at (standing l) i) ≡ some (value s (counter i))
+          → new_counter (read_by (standing l) s t i) (counter_at m i).greatest (value s (counter i)) (update_at (standing l) i) ≡ Some (value s (counter i))
       own t i p =
           ap (λ (u : Update). new_counter (read_by (standing l) s t i) (counter_at m i).greatest (value s (counter i)) u)
           (standing_keeps l i (omega (arith, ok.vars_le)))

@@ -1,6 +1,6 @@
 -- A joint state and its two parts: what each model sees of it.
 use Rattle.std.specs.Prelude.{ℕ, ◌+◌, ◌≤◌, ◌<◌, min, ◌≡◌, cond, List, T, ltb, eqb, length}
-use Rattle.std.proofs.Math.Option.{Option, some}
+use Rattle.std.specs.Prelude.{Option, Some}
 use Rattle.model.specs.declared.Model.{Model}
 use Rattle.model.specs.declared.State.{State}
 use Rattle.model.specs.Indexed.{list_below, only_if}
@@ -52,8 +52,8 @@ pub record HasParts (a b : Model) (s : State) : Type 0 where
 -- ---- steps
 -- a step of the composed model is allowed exactly if both parts' steps are, and the new joint state's parts are the parts' new states
 pub record StepsTogether (a b : Model) (joint first second : Option State) : Type 0 where
-  pub parts_step : (t : State) → joint ≡ some t → (x y : State) × (first ≡ some x) × (second ≡ some y) × Parts a b t x y
-  pub joint_steps : (x y : State) → first ≡ some x → second ≡ some y → (t : State) × (joint ≡ some t) × Parts a b t x y
+  pub parts_step : (t : State) → joint ≡ Some t → (x y : State) × (first ≡ Some x) × (second ≡ Some y) × Parts a b t x y
+  pub joint_steps : (x y : State) → first ≡ Some x → second ≡ Some y → (t : State) × (joint ≡ Some t) × Parts a b t x y
 
 -- standing still in location l
 abbrev pub stands_in : ℕ → State → Option State
@@ -77,8 +77,8 @@ pub record StepsAsParts (a b : Model) (s x y : State) : Type 0 where
 pub record WalksAsParts (a b : Model) (r : List ℕ) (x y t : State) : Type 0 where
   pub first_end : State
   pub second_end : State
-  pub first_walks : walk a x (steps_of (first_step a b) r) ≡ some first_end
-  pub second_walks : walk b y (steps_of (second_step a b) r) ≡ some second_end
+  pub first_walks : walk a x (steps_of (first_step a b) r) ≡ Some first_end
+  pub second_walks : walk b y (steps_of (second_step a b) r) ≡ Some second_end
   pub ends : Parts a b t first_end second_end
 
 -- a run of the composed model, cut to each part, is a run of that part

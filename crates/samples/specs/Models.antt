@@ -7,25 +7,25 @@ use Rattle.model.specs.declared.Update.{Update}
 use Rattle.model.specs.declared.Update.TheVariants.{Keep, Constant, Sum}
 use Rattle.model.specs.declared.ClockUpdate.{ClockUpdate}
 use Rattle.model.specs.declared.ClockUpdate.TheVariants.{Unchanged, Reset}
-use Rattle.model.specs.declared.AtomSlot.{AtomSlot}
+use Rattle.model.specs.declared.Atom.{Atom}
 use Rattle.model.specs.declared.Edge.{Edge}
 use Rattle.model.specs.declared.Invariant.{Invariant}
 use Rattle.model.specs.declared.Model.{Model}
 use Rattle.model.specs.Record.{blank_atom, blank_update, blank_reset, blank_counter, blank_invariant, blank_edge}
 
 -- four slots of which the first holds an atom on a clock
-abbrev pub on_clock : ℕ → Relation → ℕ → List AtomSlot
-on_clock x r c = record { atom = OnClock x r c } ∷ replicate 3 blank_atom
+abbrev pub on_clock : ℕ → Relation → ℕ → List Atom
+on_clock x r c = OnClock x r c ∷ replicate 3 blank_atom
 
-abbrev pub no_atoms : List AtomSlot
+abbrev pub no_atoms : List Atom
 no_atoms = replicate 4 blank_atom
 
-abbrev pub holding : List AtomSlot → Invariant
+abbrev pub holding : List Atom → Invariant
 holding atoms = record { atoms = atoms }
 
 -- a private edge that sets counter 0 and clock 0 only; its order names counter 0 or is blank
-abbrev pub edge : ℕ → ℕ → List AtomSlot → Update → ClockUpdate → Edge
-edge source target guard update reset = record { source = source; target = target; label = 0; guard = guard; updates = record { update = update } ∷ replicate 3 blank_update; order = replicate 4 0; resets = record { update = reset } ∷ replicate 3 blank_reset }
+abbrev pub edge : ℕ → ℕ → List Atom → Update → ClockUpdate → Edge
+edge source target guard update reset = record { source = source; target = target; label = 0; guard = guard; updates = update ∷ replicate 3 blank_update; order = replicate 4 0; resets = reset ∷ replicate 3 blank_reset }
 
 -- model A: two locations, and one edge from 0 to 1 with nothing in when, set and reset
 unfoldable pub model_a : Model
@@ -75,7 +75,7 @@ model_b = record {
 
 -- an edge at every limit
 abbrev pub full_edge : Edge
-full_edge = record { source = 15; target = 15; label = 15; guard = replicate 4 (record { atom = OnCounter 3 Equal 31 }); updates = replicate 4 (record { update = Constant 31 }); order = 3 ∷ 0 ∷ 1 ∷ 2 ∷ []; resets = replicate 4 (record { update = Reset }) }
+full_edge = record { source = 15; target = 15; label = 15; guard = replicate 4 (OnCounter 3 Equal 31); updates = replicate 4 (Constant 31); order = 3 ∷ 0 ∷ 1 ∷ 2 ∷ []; resets = replicate 4 Reset }
 
 -- a model at every limit: 16 locations, 4 clocks, 4 counters of 0 to 31, 32 edges, 4 atoms wherever atoms stand, constants 30 and 31
 unfoldable pub full_model : Model
@@ -86,7 +86,7 @@ full_model = record {
   clocks = 4;
   vars = 4;
   counters = replicate 4 (record { greatest = 31; initial = 31 });
-  invariants = replicate 16 (holding (replicate 4 (record { atom = OnClock 3 LessEqual 30 })));
+  invariants = replicate 16 (holding (replicate 4 (OnClock 3 LessEqual 30)));
   used = 32;
   edges = replicate 32 full_edge;
 }

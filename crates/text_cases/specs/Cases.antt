@@ -80,7 +80,7 @@ two_counters u v order = record {
     target = 1;
     label = 0;
     guard = replicate 4 blank_atom;
-    updates = record { update = u } ∷ record { update = v } ∷ replicate 2 blank_update;
+    updates = u ∷ v ∷ replicate 2 blank_update;
     order = order;
     resets = replicate 4 blank_reset;
   } ∷ replicate 31 blank_edge;
@@ -104,7 +104,7 @@ two_clocks u v = record {
     guard = on_clock 0 GreaterEqual 1;
     updates = replicate 4 blank_update;
     order = replicate 4 0;
-    resets = record { update = u } ∷ record { update = v } ∷ replicate 2 blank_reset;
+    resets = u ∷ v ∷ replicate 2 blank_reset;
   } ∷ replicate 31 blank_edge;
 }
 

@@ -3,7 +3,7 @@ use mathlib.Core.Path.{◌≡◌, refl, sym, ap, subst}
 use mathlib.Core.Logic.{◌↔◌}
 use mathlib.Core.Bool.{Bool, true, false, not, cond}
 use mathlib.Core.List.{List, [], ◌∷◌}
-use mathlib.Core.Option.{Option, none, some}
+use Rattle.std.specs.Prelude.{Option, None, Some}
 use Prim.Native.Nat.{ℕ, ◌+◌, ◌≤◌}
 use native.Mathlib.Omega.{arith}
 use lib.Dec.{T, ltb, leb, eqb, leb→le}
@@ -25,7 +25,7 @@ numbered x = x.number
 refuses : {n p : ℕ} → (n ≡ 0 → ⊥) → refusal n p ≡ accepted → ⊥
 refuses f e = f (ap numbered e)
 
-end_iff : (m : Model) (s : State) → T (ends_in m (some s)) ↔ (cond (eqb s.location m.target) accepted (refusal 30 0) ≡ accepted)
+end_iff : (m : Model) (s : State) → T (ends_in m (Some s)) ↔ (cond (eqb s.location m.target) accepted (refusal 30 0) ≡ accepted)
 end_iff m s = go (eqb s.location m.target)
   where
     go : (b : Bool) → T b ↔ (cond b accepted (refusal 30 0) ≡ accepted)
@@ -40,11 +40,11 @@ steps_iff m (b ∷ r) t s = go (leb (choices m) b) refl (step m s b) refl (λ u.
     go : (x : Bool) → leb (choices m) b ≡ x → (o : Option State) → step m s b ≡ o
         → ((u : State) → T (ends_in m (walk m u r)) ↔ (walk_steps m (t + 1) u r ≡ accepted))
         → T (ends_in m (and_then o (λ u. walk m u r))) ↔ (cond x (refusal 27 t) (maybe o (refusal 28 t) (λ u. walk_steps m (t + 1) u r)) ≡ accepted)
-    go true e none f ih = (λ h. absurd h, λ h. absurd (refuses (λ z. omega arith) h))
-    go true e (some u) f ih =
+    go true e None f ih = (λ h. absurd h, λ h. absurd (refuses (λ z. omega arith) h))
+    go true e (Some u) f ih =
         (λ h. absurd (omega (arith, step_lt m s u b f, leb→le (choices m) b (subst T (sym e) tt))), λ h. absurd (refuses (λ z. omega arith) h))
-    go false e none f ih = (λ h. absurd h, λ h. absurd (refuses (λ z. omega arith) h))
-    go false e (some u) f ih = ih u
+    go false e None f ih = (λ h. absurd h, λ h. absurd (refuses (λ z. omega arith) h))
+    go false e (Some u) f ih = ih u
 
 -- accepted: the model is well formed, the run has at most 64 steps, and it is a run
 pub accepts_iff : (m : Model) (r : List ℕ) → (walk_report m r ≡ accepted) ↔ (T (well_formed m) × (length r ≤ 64) × T (is_run m r))
@@ -56,8 +56,8 @@ accepts_iff m r = go (well_formed m) (ltb 64 (length r)) refl (start m)
         ↔ (T w × (length r ≤ 64) × T (ends_in m (and_then o (λ s. walk m s r))))
     go false l e o = (λ h. absurd (refuses (λ z. omega arith) h), λ h. absurd h.0)
     go true true e o = (λ h. absurd (refuses (λ z. omega arith) h), λ h. absurd (omega (arith, ltb-true 64 (length r) e, h.1)))
-    go true false e none = (λ h. absurd (refuses (λ z. omega arith) h), λ h. absurd h.2)
-    go true false e (some s) = (λ h. (tt, ltb-false 64 (length r) e, (steps_iff m r 1 s).1 h), λ h. (steps_iff m r 1 s).0 h.2)
+    go true false e None = (λ h. absurd (refuses (λ z. omega arith) h), λ h. absurd h.2)
+    go true false e (Some s) = (λ h. (tt, ltb-false 64 (length r) e, (steps_iff m r 1 s).1 h), λ h. (steps_iff m r 1 s).0 h.2)
 
 -- ---- a report with the number 0 is that of an accepted run
 abbrev ZeroAccepted : Refusal → Type 0
@@ -78,8 +78,8 @@ steps_zero m (b ∷ r) t s = go (leb (choices m) b) (step m s b) (λ u. steps_ze
     go : (x : Bool) (o : Option State) → ((u : State) → ZeroAccepted (walk_steps m (t + 1) u r))
         → ZeroAccepted (cond x (refusal 27 t) (maybe o (refusal 28 t) (λ u. walk_steps m (t + 1) u r)))
     go true o ih h = never h
-    go false none ih h = never h
-    go false (some u) ih h = ih u h
+    go false None ih h = never h
+    go false (Some u) ih h = ih u h
 
 pub zero_accepted : (m : Model) (r : List ℕ) → ZeroAccepted (walk_report m r)
 unfolding walk_report
@@ -88,5 +88,5 @@ zero_accepted m r = go (well_formed m) (ltb 64 (length r)) (start m)
     go : (w l : Bool) (o : Option State) → ZeroAccepted (cond (not w) (refusal 20 0) (cond l (refusal 21 0) (maybe o (refusal 29 0) (λ s. walk_steps m 1 s r))))
     go false l o h = never h
     go true true o h = never h
-    go true false none h = never h
-    go true false (some s) h = steps_zero m r 1 s h
+    go true false None h = never h
+    go true false (Some s) h = steps_zero m r 1 s h

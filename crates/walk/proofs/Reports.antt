@@ -2,7 +2,7 @@
 use mathlib.Core.Path.{◌≡◌, refl, sym, subst}
 use mathlib.Core.Bool.{Bool, true, false}
 use mathlib.Core.List.{List, [], ◌∷◌}
-use mathlib.Core.Option.{Option, none, some}
+use Rattle.std.specs.Prelude.{Option, None, Some}
 use Prim.Native.Nat.{ℕ, ◌+◌}
 use lib.Dec.{T, ltb, leb, eqb}
 use lib.ListN.{length}
@@ -17,13 +17,13 @@ use Rattle.walk.specs.StepCall.{step_report, step_reported}
 use Rattle.walk.specs.Walker.{walk_steps, walk_report}
 
 -- ---- what an advanced state tells of the step
-pub taken_some : (s : State) (o : Option State) (a : Stepped) → a ≡ stepped s o → a.allowed ≡ true → o ≡ some a.state
-taken_some s none a e h = let z : ◌≡◌ {A = Bool} false true = cc in absurd (subst T (sym z) tt)
-taken_some s (some t) a e h = rw e
+pub taken_some : (s : State) (o : Option State) (a : Stepped) → a ≡ stepped s o → a.allowed ≡ true → o ≡ Some a.state
+taken_some s None a e h = let z : ◌≡◌ {A = Bool} false true = cc in absurd (subst T (sym z) tt)
+taken_some s (Some t) a e h = rw e
 
-pub refused_none : (s : State) (o : Option State) (a : Stepped) → a ≡ stepped s o → a.allowed ≡ false → o ≡ none
-refused_none s none a e h = refl
-refused_none s (some t) a e h = let z : ◌≡◌ {A = Bool} true false = cc in absurd (subst T z tt)
+pub refused_none : (s : State) (o : Option State) (a : Stepped) → a ≡ stepped s o → a.allowed ≡ false → o ≡ None
+refused_none s None a e h = refl
+refused_none s (Some t) a e h = let z : ◌≡◌ {A = Bool} true false = cc in absurd (subst T z tt)
 
 -- ---- the step call
 module _ (m : Model) (s : State) (b : ℕ) where
@@ -41,11 +41,11 @@ module _ (m : Model) (s : State) (b : ℕ) where
       unfolding step_report
       step_27 h = rw (w, f, h)
 
-      pub step_28 : leb (choices m) b ≡ false → step m s b ≡ none → step_report m s b ≡ step_reported 28 s
+      pub step_28 : leb (choices m) b ≡ false → step m s b ≡ None → step_report m s b ≡ step_reported 28 s
       unfolding step_report
       step_28 h n = rw (w, f, h, n)
 
-      pub step_0 : leb (choices m) b ≡ false → {t : State} → step m s b ≡ some t → step_report m s b ≡ step_reported 0 t
+      pub step_0 : leb (choices m) b ≡ false → {t : State} → step m s b ≡ Some t → step_report m s b ≡ step_reported 0 t
       unfolding step_report
       step_0 h n = rw (w, f, h, n)
 
@@ -64,11 +64,11 @@ module _ (m : Model) (t : ℕ) (s : State) where
     unfolding walk_steps
     at_27 h = rw h
 
-    pub at_28 : leb (choices m) b ≡ false → step m s b ≡ none → walk_steps m t s (b ∷ r) ≡ refusal 28 t
+    pub at_28 : leb (choices m) b ≡ false → step m s b ≡ None → walk_steps m t s (b ∷ r) ≡ refusal 28 t
     unfolding walk_steps
     at_28 h n = rw (h, n)
 
-    pub goes_on : leb (choices m) b ≡ false → {u : State} → step m s b ≡ some u → walk_steps m t s (b ∷ r) ≡ walk_steps m (t + 1) u r
+    pub goes_on : leb (choices m) b ≡ false → {u : State} → step m s b ≡ Some u → walk_steps m t s (b ∷ r) ≡ walk_steps m (t + 1) u r
     unfolding walk_steps
     goes_on h n = rw (h, n)
 

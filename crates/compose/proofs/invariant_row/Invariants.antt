@@ -4,7 +4,7 @@ use mathlib.Core.Path.{◌≡◌}
 use Rattle.model.specs.Indexed.{list_below}
 use Rattle.compose.specs.Moves.{placed}
 use mathlib.Core.List.{List}
-use Rattle.model.specs.declared.AtomSlot.{AtomSlot}
+use Rattle.model.specs.declared.Atom.{Atom}
 use Rattle.model.specs.declared.Invariant.{Invariant}
 use Rattle.model.specs.declared.Model.{Model}
 use Rattle.model.specs.Record.{invariant_at}
@@ -12,7 +12,7 @@ use Rattle.compose.specs.Joined.{joined_atoms}
 use Rattle.compose.proofs.invariant_row.Given as goal
 
 -- the invariant of location j
-abbrev pub row : List AtomSlot → ℕ → ℕ → Model → ℕ → Invariant
+abbrev pub row : List Atom → ℕ → ℕ → Model → ℕ → Invariant
 row first clocks vars b j = record { atoms = joined_atoms clocks vars first (invariant_at b j) }
 
 abbrev pub invariant-loop-j : goal.invariant-loop-j

@@ -9,7 +9,7 @@ use Rattle.model.specs.Record.{blank_reset}
 use Rattle.form.proofs.resets_formed.Given as goal
 
 abbrev pub invariant-loop-i : goal.invariant-loop-i
-invariant-loop-i l = (l.i ≤ 4) × (all_below (λ j. reset_slot_formed l.clocks (get_or l.slots j blank_reset).update j) l.i ≡ true)
+invariant-loop-i l = (l.i ≤ 4) × (all_below (λ j. reset_slot_formed l.clocks (get_or l.slots j blank_reset) j) l.i ≡ true)
 
 abbrev pub decreases-loop-i : goal.decreases-loop-i
 decreases-loop-i l = 4 - l.i

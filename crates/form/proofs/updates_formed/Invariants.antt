@@ -9,7 +9,7 @@ use Rattle.model.specs.Record.{blank_update}
 use Rattle.form.proofs.updates_formed.Given as goal
 
 abbrev pub invariant-loop-i : goal.invariant-loop-i
-invariant-loop-i l = (l.i ≤ 4) × (all_below (λ j. update_slot_formed l.vars (get_or l.slots j blank_update).update j) l.i ≡ true)
+invariant-loop-i l = (l.i ≤ 4) × (all_below (λ j. update_slot_formed l.vars (get_or l.slots j blank_update) j) l.i ≡ true)
 
 abbrev pub decreases-loop-i : goal.decreases-loop-i
 decreases-loop-i l = 4 - l.i

@@ -17,7 +17,7 @@ returns c =
       clocks = 4;
       vars = 4;
       counters = replicate 4 (record { greatest = 31; initial = 31 });
-      invariants = replicate 16 (holding (replicate 4 (record { atom = OnClock 3 LessEqual 30 })));
+      invariants = replicate 16 (holding (replicate 4 (OnClock 3 LessEqual 30)));
       used = 32;
       edges = replicate 32 e;
     }) c.full_edge-edge.ensures

@@ -3,7 +3,7 @@ use Rattle.samples.specs.Models.{model_b, edge}
 use Rattle.model.specs.Record.{blank_model}
 use Rattle.model.specs.declared.ClockUpdate.TheVariants.{Unchanged}
 use Rattle.model.specs.declared.Update.TheVariants.{Keep, Sum}
-use Rattle.model.specs.declared.AtomSlot.{AtomSlot}
+use Rattle.model.specs.declared.Atom.{Atom}
 use mathlib.Core.List.{List}
 use mathlib.Core.Path.{◌∙◌, ap}
 use lib.IntN.{pos}
@@ -17,8 +17,8 @@ returns c =
     let on-clock = c.on_clock in
     let b = c.blank-m.ensures in
     let early = c.edge_of-2.ensures
-    ∙ ap (λ (g : List AtomSlot). edge 1 2 g (Sum 0 (pos 1)) Unchanged) c.on_clock-early.ensures in
-    let late = c.edge_of-3.ensures ∙ ap (λ (g : List AtomSlot). edge 1 3 g Keep Unchanged) c.on_clock-late.ensures in
+    ∙ ap (λ (g : List Atom). edge 1 2 g (Sum 0 (pos 1)) Unchanged) c.on_clock-early.ensures in
+    let late = c.edge_of-3.ensures ∙ ap (λ (g : List Atom). edge 1 3 g Keep Unchanged) c.on_clock-late.ensures in
     λ i. record {
       locations = 4;
       initial = (b i).initial;

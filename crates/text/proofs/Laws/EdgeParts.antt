@@ -8,13 +8,10 @@ use lib.ListN.{get_or}
 use borrow.Author.Tests.{le-ltb}
 use Rattle.model.specs.declared.Atom.{Atom}
 use Rattle.model.specs.declared.Atom.TheVariants.{Blank, OnClock, OnCounter}
-use Rattle.model.specs.declared.AtomSlot.{AtomSlot}
 use Rattle.model.specs.declared.Update.{Update}
 use Rattle.model.specs.declared.Update.TheVariants.{Keep, Constant, Sum}
-use Rattle.model.specs.declared.UpdateSlot.{UpdateSlot}
 use Rattle.model.specs.declared.ClockUpdate.{ClockUpdate}
 use Rattle.model.specs.declared.ClockUpdate.TheVariants.{Unchanged, Reset, Copy}
-use Rattle.model.specs.declared.ClockSlot.{ClockSlot}
 use Rattle.model.specs.declared.Edge.{Edge}
 use Rattle.model.specs.Indexed.{all_below}
 use Rattle.model.specs.Record.{blank_update, blank_reset, atom_at}
@@ -84,7 +81,7 @@ weaken_atom clocks vars (OnClock x r c) h =
     none_below x ((and_T (ltb x 0) (leb c 30)).0 g.0).0
 weaken_atom clocks vars (OnCounter v r c) h = none_below v ((and_T (ltb v 0) (leb c 31)).0 h).0
 
-weaken_atoms : (clocks vars : ℕ) (atoms : List AtomSlot) → T (atoms_formed 0 0 atoms) → T (atoms_formed clocks vars atoms)
+weaken_atoms : (clocks vars : ℕ) (atoms : List Atom) → T (atoms_formed 0 0 atoms) → T (atoms_formed clocks vars atoms)
 unfolding atoms_formed each_formed
 weaken_atoms clocks vars atoms h =
     let g = (and_T (each_formed 0 0 atoms) (filled_from_first atoms)).0 h in
@@ -98,11 +95,11 @@ keep_formed vars Keep false h = tt
 keep_formed vars (Constant c) b h = absurd h
 keep_formed vars (Sum w z) b h = absurd h
 
-weaken_updates : (vars : ℕ) (slots : List UpdateSlot) → T (updates_formed 0 slots) → T (updates_formed vars slots)
+weaken_updates : (vars : ℕ) (slots : List Update) → T (updates_formed 0 slots) → T (updates_formed vars slots)
 unfolding updates_formed
 weaken_updates vars slots =
-    let at : ℕ → ℕ → Bool = λ n i. update_slot_formed n (get_or slots i blank_update).update i in
-    all_weaken (at 0) (at vars) 4 (λ i h. keep_formed vars (get_or slots i blank_update).update (ltb i vars) (rw (le-ltb i 0 zero-le) at h))
+    let at : ℕ → ℕ → Bool = λ n i. update_slot_formed n (get_or slots i blank_update) i in
+    all_weaken (at 0) (at vars) 4 (λ i h. keep_formed vars (get_or slots i blank_update) (ltb i vars) (rw (le-ltb i 0 zero-le) at h))
 
 unchanged_formed : (clocks : ℕ) (u : ClockUpdate) (b : Bool) → T (is_unchanged u) → T (cond b (clock_update_formed clocks u) (is_unchanged u))
 unchanged_formed clocks Unchanged true h = tt
@@ -110,11 +107,11 @@ unchanged_formed clocks Unchanged false h = tt
 unchanged_formed clocks Reset b h = absurd h
 unchanged_formed clocks (Copy w) b h = absurd h
 
-weaken_resets : (clocks : ℕ) (slots : List ClockSlot) → T (resets_formed 0 slots) → T (resets_formed clocks slots)
+weaken_resets : (clocks : ℕ) (slots : List ClockUpdate) → T (resets_formed 0 slots) → T (resets_formed clocks slots)
 unfolding resets_formed
 weaken_resets clocks slots =
-    let at : ℕ → ℕ → Bool = λ n i. reset_slot_formed n (get_or slots i blank_reset).update i in
-    all_weaken (at 0) (at clocks) 4 (λ i h. unchanged_formed clocks (get_or slots i blank_reset).update (ltb i clocks) (rw (le-ltb i 0 zero-le) at h))
+    let at : ℕ → ℕ → Bool = λ n i. reset_slot_formed n (get_or slots i blank_reset) i in
+    all_weaken (at 0) (at clocks) 4 (λ i h. unchanged_formed clocks (get_or slots i blank_reset) (ltb i clocks) (rw (le-ltb i 0 zero-le) at h))
 
 pub weaken : (locations clocks vars : ℕ) (e : Edge) → 1 ≤ locations → T (edge_formed 1 0 0 e) → T (edge_formed locations clocks vars e)
 weaken locations clocks vars e l h =

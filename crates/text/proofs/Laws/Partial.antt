@@ -7,9 +7,9 @@ use mathlib.Core.Bool.{◌&&◌}
 use native.Mathlib.Omega.{arith}
 use lib.Dec.{T, eqb, lt→ltb, le→leb}
 use borrow.Author.Tests.{lt-ltb, le-ltb, le-leb}
-use Rattle.model.specs.declared.AtomSlot.{AtomSlot}
-use Rattle.model.specs.declared.UpdateSlot.{UpdateSlot}
-use Rattle.model.specs.declared.ClockSlot.{ClockSlot}
+use Rattle.model.specs.declared.Atom.{Atom}
+use Rattle.model.specs.declared.Update.{Update}
+use Rattle.model.specs.declared.ClockUpdate.{ClockUpdate}
 use Rattle.model.specs.declared.Counter.{Counter}
 use Rattle.model.specs.declared.Invariant.{Invariant}
 use Rattle.model.specs.declared.Edge.{Edge}
@@ -110,7 +110,7 @@ pub with_counter_lem : {v n k : ℕ} {m : Model} → Partial v n k m → (c : Co
 unfolding with_counter
 with_counter_lem p c h = record { head = p.head; counters = fill_next p.counters c h; invariants = p.invariants; edges = p.edges }
 
-pub with_invariant_lem : {v n k : ℕ} {m : Model} → Partial v n k m → (atoms : List AtomSlot) → T (atoms_formed m.clocks 0 atoms)
+pub with_invariant_lem : {v n k : ℕ} {m : Model} → Partial v n k m → (atoms : List Atom) → T (atoms_formed m.clocks 0 atoms)
     → Partial v (n + 1) k (with_invariant m n atoms)
 unfolding with_invariant
 with_invariant_lem p atoms h =
@@ -173,7 +173,7 @@ module _ {v n e : ℕ} {m : Model} (p : Partial v n (e + 1) m) (q : e < 32) wher
     resets_ok = parts.resets_ok;
   })
 
-  pub with_guard_lem : (atoms : List AtomSlot) → T (atoms_formed m.clocks m.vars atoms) → Partial v n (e + 1) (with_guard m e atoms)
+  pub with_guard_lem : (atoms : List Atom) → T (atoms_formed m.clocks m.vars atoms) → Partial v n (e + 1) (with_guard m e atoms)
   unfolding with_guard order_formed listed
   with_guard_lem atoms h = with_edge_lem _ (record {
     source_ok = parts.source_ok;
@@ -185,7 +185,7 @@ module _ {v n e : ℕ} {m : Model} (p : Partial v n (e + 1) m) (q : e < 32) wher
     resets_ok = parts.resets_ok;
   })
 
-  pub with_updates_lem : (slots : List UpdateSlot) (order : List ℕ) → T (updates_formed m.vars slots)
+  pub with_updates_lem : (slots : List Update) (order : List ℕ) → T (updates_formed m.vars slots)
       → ((x : Edge) → x.updates ≡ slots → x.order ≡ order → T (order_formed x))
       → Partial v n (e + 1) (with_updates m e slots order)
   unfolding with_updates
@@ -199,7 +199,7 @@ module _ {v n e : ℕ} {m : Model} (p : Partial v n (e + 1) m) (q : e < 32) wher
     resets_ok = parts.resets_ok;
   })
 
-  pub with_resets_lem : (slots : List ClockSlot) → T (resets_formed m.clocks slots) → Partial v n (e + 1) (with_resets m e slots)
+  pub with_resets_lem : (slots : List ClockUpdate) → T (resets_formed m.clocks slots) → Partial v n (e + 1) (with_resets m e slots)
   unfolding with_resets order_formed listed
   with_resets_lem slots h = with_edge_lem _ (record {
     source_ok = parts.source_ok;

@@ -3,15 +3,13 @@ use Prim.Native.Nat.{ℕ, zero, suc, ◌+◌, ◌≤◌, ◌<◌}
 use mathlib.Core.Path.{◌≡◌, refl, sym, ap, ◌∙◌}
 use mathlib.Core.List.{List, [], ◌∷◌, map, foldl}
 use mathlib.Core.Bool.{true}
-use mathlib.Core.Option
-use mathlib.Core.Option.{Option, some}
+use Rattle.std.specs.Prelude.{option_map, Option, Some}
 use native.Mathlib.Omega.{arith}
 use lib.Dec.{eqb}
 use lib.ListN.{length, get_or, set, replicate, length-set, length-map}
 use lib.Seq.{ext_get_or, get_or-set_same, get_or-set_other}
 use borrow.Author.Tests.{eq-eqb}
 use Rattle.model.specs.declared.Update.{Update}
-use Rattle.model.specs.declared.UpdateSlot.{UpdateSlot}
 use Rattle.model.specs.declared.Counter.{Counter}
 use Rattle.model.specs.declared.Edge.{Edge}
 use Rattle.model.specs.Indexed.{and_then}
@@ -28,7 +26,7 @@ use Rattle.text.proofs.updates.OrderFormed.{counter_at, SetLine, set_line, slot_
 
 -- ---- the update that an item gives its counter
 -- items that do not set a counter leave its slot
-slot_left : (l : List SetRead) (slots : List UpdateSlot) (i : ℕ) → times_set i l ≡ 0
+slot_left : (l : List SetRead) (slots : List Update) (i : ℕ) → times_set i l ≡ 0
     → get_or (foldl placed slots l) i blank_update ≡ get_or slots i blank_update
 unfolding times_set
 slot_left [] slots i h = refl
@@ -39,16 +37,16 @@ slot_left (a ∷ l) slots i h =
     clash e = let one : times_set i (a ∷ l) ≡ 1 + times_set i l = rw e in omega (arith, h, one)
 
 -- a counter that is set once has the update of its item
-slot_of : (l : List SetRead) (slots : List UpdateSlot) (k : ℕ) → length slots ≡ 4 → k < length l → counter_at l k < 4 → times_set (counter_at l k) l ≤ 1
-    → (get_or (foldl placed slots l) (counter_at l k) blank_update).update ≡ update_in (get_or l k Malformed)
+slot_of : (l : List SetRead) (slots : List Update) (k : ℕ) → length slots ≡ 4 → k < length l → counter_at l k < 4 → times_set (counter_at l k) l ≤ 1
+    → (get_or (foldl placed slots l) (counter_at l k) blank_update) ≡ update_in (get_or l k Malformed)
 unfolding times_set
 slot_of [] slots k four p below once = absurd (omega (arith, p))
 slot_of (a ∷ l) slots zero four p below once =
     let own : eqb (counter_of a) (counter_of a) ≡ true = eq-eqb (counter_of a) (counter_of a) refl in
     let rest : times_set (counter_of a) l ≡ 0 = omega (arith, rw own at once) in
-    ap (λ (x : UpdateSlot). x.update)
+    ap (λ Z. Z)
     (slot_left l (placed slots a) (counter_of a) rest
-    ∙ get_or-set_same slots (counter_of a) (record { update = update_in a }) blank_update (omega (arith, below, four)))
+    ∙ get_or-set_same slots (counter_of a) (update_in a) blank_update (omega (arith, below, four)))
 slot_of (a ∷ l) slots (suc k) four p below once =
     slot_of l (placed slots a) k (length-set slots (counter_of a) _ ∙ four) (omega (arith, p)) below (omega (arith, once))
 
@@ -81,14 +79,14 @@ module _ (vars : ℕ) (items : List SetRead) (few : vars ≤ 4) (clean : fault_n
   pub update_is : (k : ℕ) → k < length items → update_at x (counter_at items k) ≡ update_in (get_or items k Malformed)
   unfolding update_slots
   update_is k p =
-      ap (λ (slots : List UpdateSlot). (get_or slots (counter_at items k) blank_update).update) updates
+      ap (λ (slots : List Update). (get_or slots (counter_at items k) blank_update)) updates
       ∙ slot_of items (replicate 4 blank_update) k refl p (line.below k p) (line.once (counter_at items k) (line.below k p))
 
   -- the counters after the listed updates are the fold over the items
   pub updated_items : (counters : List Counter) (vs : List ℕ) → updated counters x vs (listed x) ≡ after_items counters vs items
   updated_items counters vs =
-      updated_fold counters x vs ∙ ap (foldl (then_update counters x) (some vs)) written_is
-      ∙ fold_same (then_update counters x) (next_item counters) items (some vs) one
+      updated_fold counters x vs ∙ ap (foldl (then_update counters x) (Some vs)) written_is
+      ∙ fold_same (then_update counters x) (next_item counters) items (Some vs) one
     where
       one : (k : ℕ) → k < length items → (now : Option (List ℕ))
           → then_update counters x now (counter_at items k) ≡ next_item counters now (get_or items k Malformed)
@@ -98,7 +96,7 @@ module _ (vars : ℕ) (items : List SetRead) (few : vars ≤ 4) (clean : fault_n
           a = get_or items k Malformed
 
           after : List ℕ → ℕ → Update → Option (List ℕ)
-          after vs i u = Option.map (set vs i) (new_counter (λ w. get_or vs w 0) (get_or counters i blank_counter).greatest (get_or vs i 0) u)
+          after vs i u = option_map (set vs i) (new_counter (λ w. get_or vs w 0) (get_or counters i blank_counter).greatest (get_or vs i 0) u)
 
           same : (vs : List ℕ) → applied counters x vs (counter_at items k) ≡ after_item counters vs a
           same vs = unfold applied in ap (after vs (counter_at items k)) (update_is k p) ∙ ap (λ (i : ℕ). after vs i (update_in a)) (counter_of_lem items k p)

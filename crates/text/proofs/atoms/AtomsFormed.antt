@@ -14,7 +14,7 @@ use Rattle.text.specs.declared.bytes.NumberRead.TheVariants.{Malformed as NoNumb
 use Rattle.text.proofs.bytes.Flags.{any_head, any_tail, passed}
 use Rattle.model.specs.declared.Relation.{Relation}
 use Rattle.model.specs.declared.Relation.TheVariants.{Less, LessEqual, Equal, GreaterEqual, Greater, NotEqual}
-use Rattle.model.specs.declared.AtomSlot.{AtomSlot}
+use Rattle.model.specs.declared.Atom.{Atom}
 use Rattle.model.specs.Record.{blank_atom, atom_at}
 use Rattle.model.specs.Form.{is_not_equal, atom_formed, is_blank, no_gap, each_formed, filled_from_first, atoms_formed}
 use Rattle.model.proofs.IndexedLaws.{and_T, all_below_lem}
@@ -94,7 +94,7 @@ blank_at (suc n) zero = refl
 blank_at (suc n) (suc k) = blank_at n k
 
 -- ---- the slots of a list of items
-abbrev filled_to : ℕ → List AtomRead → List AtomSlot
+abbrev filled_to : ℕ → List AtomRead → List Atom
 filled_to n l = map slot_of l ++ replicate n blank_atom
 
 no_gap_lem : (l : List AtomRead) (n k : ℕ) → any_of is_malformed l ≡ false → T (no_gap (atom_at (filled_to n l) k) (atom_at (filled_to n l) (suc k)))

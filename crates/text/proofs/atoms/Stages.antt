@@ -11,7 +11,7 @@ use lib.Dec.{ltb, leb}
 use borrow.Author.Tests.{lt-ltb, le-ltb, leb-true, leb-false, ltb-false}
 use Rattle.text.specs.bytes.Faulty.{fault_number, any_of}
 use Rattle.text.proofs.bytes.Flags.{flag, unflagged, any_head, any_tail, same_faults, passed, if_faultless}
-use Rattle.model.specs.declared.AtomSlot.{AtomSlot}
+use Rattle.model.specs.declared.Atom.{Atom}
 use Rattle.model.specs.Record.{blank_atom}
 use Rattle.text.specs.declared.atoms.AtomRead.{AtomRead}
 use Rattle.text.specs.declared.atoms.AtomRead.TheVariants.{Malformed, ClockAtom, CounterAtom}
@@ -60,7 +60,7 @@ module _ (clocks vars : ℕ) (p : clocks < 256) (q : vars < 256) where
   stored_is (ClockAtom x r c) o u = rw (lt-ltb x 256 (omega (arith, leb-false clocks x u)), lt-ltb c 256 (omega (arith, ltb-false 30 c o)))
   stored_is (CounterAtom v r c) o u = rw (lt-ltb v 256 (omega (arith, leb-false vars v u)), lt-ltb c 256 (omega (arith, ltb-false 31 c o)))
 
-  slots_are : (l : List AtomRead) (s : AtomsRead) (front : List AtomSlot) → length front ≡ s.count → s.count + length l ≤ 4
+  slots_are : (l : List AtomRead) (s : AtomsRead) (front : List Atom) → length front ≡ s.count → s.count + length l ≤ 4
       → s.atoms ≡ front ++ replicate (4 - s.count) blank_atom
       → any_of is_outside l ≡ false → any_of (is_undeclared clocks vars) l ≡ false
       → (foldl (absorbed clocks vars) s l).atoms ≡ (front ++ map slot_of l) ++ replicate (4 - (s.count + length l)) blank_atom

@@ -18,9 +18,9 @@ use Rattle.text.specs.declared.line.CounterDue.{CounterDue}
 use Rattle.text.specs.line.Values.{number_faults, reference_faults, greatest_of, initial_of, counter_faults, counter_in}
 use Rattle.text.specs.line.DueLines.{DueLine, value_in, NumberLine, ReferenceLine, CounterLine}
 use Rattle.text.proofs.line.DueLaws.{number_fits, reference_fits, greatest_fits, initial_fits}
-use Rattle.model.specs.declared.AtomSlot.{AtomSlot}
-use Rattle.model.specs.declared.UpdateSlot.{UpdateSlot}
-use Rattle.model.specs.declared.ClockSlot.{ClockSlot}
+use Rattle.model.specs.declared.Atom.{Atom}
+use Rattle.model.specs.declared.Update.{Update}
+use Rattle.model.specs.declared.ClockUpdate.{ClockUpdate}
 use Rattle.model.specs.declared.Counter.{Counter}
 use Rattle.model.specs.declared.Model.{Model}
 use Rattle.text.specs.declared.lines.Reading.{Reading}
@@ -55,7 +55,7 @@ module _ {key t : List ℕ} {r q : Reading} {m : Model} (p : Placed t r) where
 
   -- ---- items: atoms, updates, resets
   module _ {d : Due} (due : DueLine key t r.at d) where
-    pub atoms_reads : (items : List ℕ → List AtomRead) (put : Model → List AtomSlot → Model) {l : AtomValue}
+    pub atoms_reads : (items : List ℕ → List AtomRead) (put : Model → List Atom → Model) {l : AtomValue}
         → l ≡ atom_value r.model.clocks r.model.vars (items (value_in t d))
         → m ≡ put r.model l.atoms → told q ≡ settled (told r) d l.faults m
         → Reads (read_line key (λ m v. atom_faults m.clocks m.vars (items v)) (λ m v. put m (atom_slots (items v)))) t r q
@@ -64,17 +64,17 @@ module _ {key t : List ℕ} {r q : Reading} {m : Model} (p : Placed t r) where
         value_reads (λ m v. atom_faults m.clocks m.vars (items v)) (λ v. atom_slots (items v)) put p due (ap (λ (x : AtomValue). x.faults) e)
         (λ h. ap (λ (x : AtomValue). x.atoms) e ∙ rw (eq-eqb _ 0 h))
 
-    pub set_reads : (put : Model → List UpdateSlot → List ℕ → Model) {l : SetValue} → l ≡ set_value r.model.vars (set_items (value_in t d))
+    pub set_reads : (put : Model → List Update → List ℕ → Model) {l : SetValue} → l ≡ set_value r.model.vars (set_items (value_in t d))
         → m ≡ put r.model l.updates l.order → told q ≡ settled (told r) d l.faults m
         → Reads (read_line key (λ m v. set_faults m.vars (set_items v)) (λ m v. put m (update_slots (set_items v)) (order_slots (set_items v)))) t r q
     unfolding set_value
     set_reads put e =
-        let Slots : Type 0 = List UpdateSlot × List ℕ in
+        let Slots : Type 0 = List Update × List ℕ in
         value_reads (λ m v. set_faults m.vars (set_items v)) (λ v. (update_slots (set_items v), order_slots (set_items v)))
         (λ (m : Model) (x : Slots). put m x.0 x.1) p due (ap (λ (x : SetValue). x.faults) e)
         (λ h. ap (λ (x : SetValue). (x.updates, x.order)) e ∙ rw (eq-eqb _ 0 h))
 
-    pub reset_reads : (put : Model → List ClockSlot → Model) {l : ResetValue} → l ≡ reset_value r.model.clocks (reset_items (value_in t d))
+    pub reset_reads : (put : Model → List ClockUpdate → Model) {l : ResetValue} → l ≡ reset_value r.model.clocks (reset_items (value_in t d))
         → m ≡ put r.model l.resets → told q ≡ settled (told r) d l.faults m
         → Reads (read_line key (λ m v. reset_faults m.clocks (reset_items v)) (λ m v. put m (reset_slots (reset_items v)))) t r q
     unfolding reset_value

@@ -4,7 +4,7 @@ use mathlib.Core.Path.{◌≡◌}
 use mathlib.Core.List.{List}
 use lib.ListN.{length}
 use lib.Seq.{set_out}
-use Rattle.model.specs.declared.AtomSlot.{AtomSlot}
+use Rattle.model.specs.declared.Atom.{Atom}
 use Rattle.model.specs.declared.Counter.{Counter}
 use Rattle.model.specs.declared.Edge.{Edge}
 use Rattle.model.specs.declared.Model.{Model}
@@ -14,7 +14,7 @@ pub counter_out : (m : Model) (i : ℕ) (c : Counter) → length m.counters ≤ 
 unfolding with_counter
 counter_out m i c h = rw (set_out m.counters i c h)
 
-pub invariant_out : (m : Model) (l : ℕ) (atoms : List AtomSlot) → length m.invariants ≤ l → m ≡ with_invariant m l atoms
+pub invariant_out : (m : Model) (l : ℕ) (atoms : List Atom) → length m.invariants ≤ l → m ≡ with_invariant m l atoms
 unfolding with_invariant
 invariant_out m l atoms h = rw (set_out m.invariants l (record { atoms = atoms }) h)
 

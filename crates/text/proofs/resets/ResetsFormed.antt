@@ -8,7 +8,7 @@ use lib.ListN.{replicate}
 use borrow.Author.Tests.{leb-false}
 use Rattle.text.specs.bytes.Faulty.{fault_number, any_of}
 use Rattle.text.proofs.bytes.Flags.{or_left, or_right, any_neither, passed}
-use Rattle.model.specs.declared.ClockSlot.{ClockSlot}
+use Rattle.model.specs.declared.ClockUpdate.{ClockUpdate}
 use Rattle.model.specs.Record.{blank_reset}
 use Rattle.model.specs.Form.{clock_update_formed, is_unchanged, resets_formed}
 use Rattle.model.proofs.IndexedLaws.{all_below_lem}
@@ -17,8 +17,8 @@ use Rattle.text.specs.declared.resets.ResetRead.TheVariants.{Malformed, ToZero, 
 use Rattle.text.specs.resets.Resets.{is_malformed, is_undeclared, clock_of, reset_faults, update_in, reset_slots}
 use Rattle.text.proofs.Laws.Slots.{Filled, fill_both, fill_all}
 
-abbrev Formed : ℕ → List ClockSlot → Type 0
-Formed clocks = Filled (λ x. clock_update_formed clocks x.update) (λ x. is_unchanged x.update) blank_reset 4 clocks
+abbrev Formed : ℕ → List ClockUpdate → Type 0
+Formed clocks = Filled (clock_update_formed clocks) is_unchanged blank_reset 4 clocks
 
 -- an item that fails a test of items by themselves
 abbrev pub unfit : ℕ → ResetRead → Bool

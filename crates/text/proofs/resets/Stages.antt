@@ -11,7 +11,6 @@ use Rattle.text.specs.bytes.Faulty.{fault_number}
 use Rattle.text.proofs.bytes.Flags.{flag, unflagged, unrising, or_right, same_faults, if_faultless}
 use Rattle.text.proofs.Laws.Slots.{put_all}
 use Rattle.model.specs.declared.ClockUpdate.{ClockUpdate}
-use Rattle.model.specs.declared.ClockSlot.{ClockSlot}
 use Rattle.model.specs.Record.{blank_reset}
 use Rattle.text.specs.declared.resets.ResetRead.{ResetRead}
 use Rattle.text.specs.declared.resets.ResetRead.TheVariants.{Malformed, ToZero, ToCopy}
@@ -41,7 +40,7 @@ module _ (clocks : ℕ) (p : clocks < 256) where
   filled : (items : List ResetRead) → fault_number (reset_faults clocks items) ≡ 0 → (foldl (absorbed clocks) no_resets items).resets ≡ reset_slots items
   unfolding reset_slots no_resets absorbed put
   filled items h =
-      let slot : ClockUpdate → ClockSlot = λ u. record { update = u } in
+      let slot : ClockUpdate → ClockUpdate = λ u. u in
       put_all (unfit clocks) clock_of (λ a. slot (update_in a)) (absorbed clocks) (λ s. s.resets) (λ a. slot (stored_update a)) 4
       (λ s a. refl) (λ a u. ap slot (stored_is a u)) items (none_unfit clocks items h) no_resets refl
 

@@ -9,7 +9,7 @@ use lib.Dec.{T, ltb, leb, eqb, leb→le}
 use lib.ListN.{length, get_or, replicate, length-set, length-map, get_or-eq_default}
 use borrow.Author.Tests.{lt-ltb, le-ltb, ltb-true, ltb-false, eq-eqb, ne_eqb, not-false}
 use Rattle.model.specs.declared.Edge.{Edge}
-use Rattle.model.specs.declared.UpdateSlot.{UpdateSlot}
+use Rattle.model.specs.declared.Update.{Update}
 use Rattle.model.specs.Indexed.{all_below, sum_below}
 use Rattle.model.specs.Record.{blank_update, update_at, counter_in}
 use Rattle.model.specs.Automaton.{is_keep, listed, place_in}
@@ -65,7 +65,7 @@ set_or_more : (b c : Bool) (n : ℕ) → ((b || c) || ltb 0 n) ≡ (c || ltb 0 (
 set_or_more true c n = rw (lt-ltb 0 (1 + n) (omega arith)) (sym (or-true c))
 set_or_more false c n = let e : 0 + n ≡ n = omega arith in ap (λ (m : ℕ). c || ltb 0 m) (sym e)
 
-slots_set : (l : List SetRead) (slots : List UpdateSlot) → length slots ≡ 4 → (i : ℕ) → i < 4
+slots_set : (l : List SetRead) (slots : List Update) → length slots ≡ 4 → (i : ℕ) → i < 4
     → is_set (foldl placed slots l) i ≡ (is_set slots i || ltb 0 (times_set i l))
 unfolding times_set
 slots_set [] slots long i p = sym (or-false (is_set slots i))
@@ -74,7 +74,7 @@ slots_set (a ∷ l) slots long i p =
     ∙ rw (set_more slots a (update_in a) long (put_keeps a) i p) (set_or_more (eqb i (counter_of a)) (is_set slots i) (times_set i l))
 
 -- an update is not keep exactly where its counter is set
-kept_or_set : (items : List SetRead) (i : ℕ) → i < 4 → not (is_keep (get_or (update_slots items) i blank_update).update) ≡ ltb 0 (times_set i items)
+kept_or_set : (items : List SetRead) (i : ℕ) → i < 4 → not (is_keep (get_or (update_slots items) i blank_update)) ≡ ltb 0 (times_set i items)
 unfolding update_slots
 kept_or_set items i p =
     let blank = replicate 4 blank_update in

@@ -12,7 +12,6 @@ use Rattle.text.specs.bytes.Faulty.{fault_number, any_of}
 use Rattle.text.proofs.bytes.Flags.{flag, unflagged, or_left, or_right, any_head, any_tail, same_faults, if_faultless}
 use Rattle.text.proofs.Laws.Slots.{put_is, put_all}
 use Rattle.model.specs.declared.Update.{Update}
-use Rattle.model.specs.declared.UpdateSlot.{UpdateSlot}
 use Rattle.model.specs.Indexed.{all_below}
 use Rattle.model.specs.Record.{blank_update}
 use Rattle.model.specs.Automaton.{is_keep}
@@ -44,7 +43,7 @@ module _ (vars : ℕ) where
   twice (a ∷ l) s n =
       let slots = s.updates in
       let k = counter_of a in
-      let x : UpdateSlot = record { update = stored_update a } in
+      let x : Update = stored_update a in
       let next : (step s a).updates ≡ set slots k x = put_is slots k 4 x n in
       twice l (step s a) (ap length next ∙ length-set slots k x ∙ n)
       ∙ rw next
@@ -74,7 +73,7 @@ module _ (vars : ℕ) (p : vars < 256) where
   filled : (items : List SetRead) → fault_number (set_faults vars items) ≡ 0 → (foldl (absorbed vars) no_sets items).updates ≡ update_slots items
   unfolding update_slots no_sets absorbed put
   filled items h =
-      let slot : Update → UpdateSlot = λ u. record { update = u } in
+      let slot : Update → Update = λ u. u in
       put_all (unfit vars) counter_of (λ a. slot (update_in a)) (absorbed vars) (λ s. s.updates) (λ a. slot (stored_update a)) 4
       (λ s a. refl) (λ a u. ap slot (stored_is a u)) items (none_unfit vars items h) no_sets refl
 

@@ -9,7 +9,6 @@ use lib.ListN.{length, set, replicate, get_or-replicate}
 use lib.Seq.{get_or-set_same, get_or-set_other}
 use borrow.Author.Tests.{lt-ltb, ltb-true, lt-leb, eq-eqb, ne_eqb, eqb-true}
 use Rattle.model.specs.declared.Update.{Update}
-use Rattle.model.specs.declared.UpdateSlot.{UpdateSlot}
 use Rattle.model.specs.Indexed.{all_below}
 use Rattle.model.specs.Record.{blank_update}
 use Rattle.model.specs.Automaton.{is_keep}
@@ -27,16 +26,16 @@ sets_one (ToConstant v c) i l e = refl
 sets_one (ToSum v w negative n) i l e = refl
 
 -- after an item is put into its slot, its counter is set too
-pub set_more : (slots : List UpdateSlot) (a : SetRead) (u : Update) → length slots ≡ 4 → is_keep u ≡ is_malformed a → (i : ℕ) → i < 4
-    → is_set (set slots (counter_of a) (record { update = u })) i ≡ (eqb i (counter_of a) || is_set slots i)
+pub set_more : (slots : List Update) (a : SetRead) (u : Update) → length slots ≡ 4 → is_keep u ≡ is_malformed a → (i : ℕ) → i < 4
+    → is_set (set slots (counter_of a) (u)) i ≡ (eqb i (counter_of a) || is_set slots i)
 set_more slots a u long keep i l =
     three_ways i (counter_of a)
     (λ s. other (λ e. omega (arith, s, e)))
     same
     (λ s. other (λ e. omega (arith, s, e)))
   where
-    x : UpdateSlot
-    x = record { update = u }
+    x : Update
+    x = u
 
     same : i ≡ counter_of a → is_set (set slots (counter_of a) x) i ≡ (eqb i (counter_of a) || is_set slots i)
     same e = rw (← e, get_or-set_same slots i x blank_update (omega (arith, l, long)), keep, sets_one a i l (sym e), lt-ltb i 4 l, eq-eqb i i refl)
@@ -54,10 +53,10 @@ all_same p q zero h = refl
 all_same p q (suc n) h = ap₂ ◌&&◌ (all_same p q n (λ i l. h i (omega arith))) (h n (omega arith))
 
 -- counter i is set once at most, by the slots and the items after them
-abbrev pub once : List UpdateSlot → List SetRead → ℕ → Bool
+abbrev pub once : List Update → List SetRead → ℕ → Bool
 once slots l i = leb (cond (is_set slots i) 1 0 + times_set i l) 1
 
-pub once_none : (slots : List UpdateSlot) → all_below (once slots []) 4 ≡ true
+pub once_none : (slots : List Update) → all_below (once slots []) 4 ≡ true
 unfolding times_set
 once_none slots = (T_true _).0 ((all_below_lem (once slots []) 4).1 (λ i l. go (is_set slots i)))
   where
@@ -73,16 +72,16 @@ one_or_other false true h n = omega arith
 one_or_other false false h n = omega arith
 
 -- an item is put into its slot: its counter was set before, or each is set as often as with the item among those that follow
-pub once_more : (slots : List UpdateSlot) (a : SetRead) (u : Update) → length slots ≡ 4 → is_keep u ≡ is_malformed a → (l : List SetRead)
-    → (is_set slots (counter_of a) || not (all_below (once (set slots (counter_of a) (record { update = u })) l) 4)) ≡ not (all_below (once slots (a ∷ l)) 4)
+pub once_more : (slots : List Update) (a : SetRead) (u : Update) → length slots ≡ 4 → is_keep u ≡ is_malformed a → (l : List SetRead)
+    → (is_set slots (counter_of a) || not (all_below (once (set slots (counter_of a) (u)) l) 4)) ≡ not (all_below (once slots (a ∷ l)) 4)
 unfolding times_set
 once_more slots a u long keep l = go (is_set slots (counter_of a)) refl
   where
     k : ℕ
     k = counter_of a
 
-    next : List UpdateSlot
-    next = set slots k (record { update = u })
+    next : List Update
+    next = set slots k u
 
     again : is_set slots k ≡ true → once slots (a ∷ l) k ≡ false
     again h = rw (h, eq-eqb k k refl) (lt-leb (1 + (1 + times_set k l)) 1 (omega arith))

@@ -9,7 +9,7 @@ use lib.ListN.{replicate}
 use borrow.Author.Tests.{lt-ltb, le-leb, leb-false, ltb-false}
 use Rattle.text.specs.bytes.Faulty.{fault_number, any_of}
 use Rattle.text.proofs.bytes.Flags.{or_left, or_right, any_neither, passed}
-use Rattle.model.specs.declared.UpdateSlot.{UpdateSlot}
+use Rattle.model.specs.declared.Update.{Update}
 use Rattle.model.specs.Record.{blank_update}
 use Rattle.model.specs.Automaton.{is_keep}
 use Rattle.model.specs.Form.{update_formed, updates_formed}
@@ -19,8 +19,8 @@ use Rattle.text.specs.declared.updates.SetRead.TheVariants.{Malformed, ToConstan
 use Rattle.text.specs.updates.Sets.{is_malformed, is_outside, is_undeclared, counter_of, set_faults, offset_of, update_in, update_slots}
 use Rattle.text.proofs.Laws.Slots.{Filled, fill_both, fill_all}
 
-abbrev Formed : ℕ → List UpdateSlot → Type 0
-Formed vars = Filled (λ x. update_formed vars x.update) (λ x. is_keep x.update) blank_update 4 vars
+abbrev Formed : ℕ → List Update → Type 0
+Formed vars = Filled (update_formed vars) is_keep blank_update 4 vars
 
 size_of : (negative : Bool) (n : ℕ) → nat_abs (offset_of negative n) ≡ n
 size_of false n = refl

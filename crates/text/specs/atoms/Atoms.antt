@@ -9,7 +9,6 @@ use Rattle.model.specs.declared.Relation.{Relation}
 use Rattle.model.specs.declared.Relation.TheVariants.{Less, LessEqual, Equal, GreaterEqual, Greater, NotEqual}
 use Rattle.model.specs.declared.Atom.{Atom}
 use Rattle.model.specs.declared.Atom.TheVariants.{Blank, OnClock, OnCounter}
-use Rattle.model.specs.declared.AtomSlot.{AtomSlot}
 use Rattle.model.specs.Record.{blank_atom}
 use Rattle.text.specs.declared.atoms.RelationRead.{RelationRead}
 use Rattle.text.specs.declared.atoms.RelationRead.TheVariants.{Absent, One, Two}
@@ -120,11 +119,11 @@ atom_in (ClockAtom x r c) = OnClock x r c
 atom_in (CounterAtom v r c) = OnCounter v r c
 
 -- its slot
-abbrev pub slot_of : AtomRead → AtomSlot
-slot_of a = record { atom = atom_in a }
+abbrev pub slot_of : AtomRead → Atom
+slot_of a = atom_in a
 
 -- the slots of all items, and blank ones up to four
-unfoldable pub atom_slots : List AtomRead → List AtomSlot
+unfoldable pub atom_slots : List AtomRead → List Atom
 atom_slots items = map slot_of items ++ replicate (4 - length items) blank_atom
 
 -- the faults of a value, and the slots where it has none

@@ -4,7 +4,6 @@ use Rattle.text.specs.bytes.Bytes.{narrowed, counted}
 use Rattle.text.specs.bytes.Faulty.{no_faults, fault_number}
 use Rattle.model.specs.declared.Atom.{Atom}
 use Rattle.model.specs.declared.Atom.TheVariants.{Blank, OnClock, OnCounter}
-use Rattle.model.specs.declared.AtomSlot.{AtomSlot}
 use Rattle.model.specs.Record.{blank_atom}
 use Rattle.text.specs.declared.atoms.AtomValue.{AtomValue}
 use Rattle.text.specs.declared.atoms.AtomRead.{AtomRead}
@@ -19,8 +18,8 @@ stored_atom (ClockAtom x r c) = OnClock (narrowed x) r (narrowed c)
 stored_atom (CounterAtom v r c) = OnCounter (narrowed v) r (narrowed c)
 
 -- one more atom, in slot k
-unfoldable pub pushed : List AtomSlot → ℕ → Atom → List AtomSlot
-pushed atoms k a = cond (ltb k 4) (set atoms k (record { atom = a })) atoms
+unfoldable pub pushed : List Atom → ℕ → Atom → List Atom
+pushed atoms k a = cond (ltb k 4) (set atoms k a) atoms
 
 -- before the first item
 unfoldable pub no_atoms : AtomsRead

@@ -1,8 +1,8 @@
 -- A model or an edge with one part put in.
 use Rattle.std.specs.Prelude.{ℕ, List, set}
-use Rattle.model.specs.declared.AtomSlot.{AtomSlot}
-use Rattle.model.specs.declared.UpdateSlot.{UpdateSlot}
-use Rattle.model.specs.declared.ClockSlot.{ClockSlot}
+use Rattle.model.specs.declared.Atom.{Atom}
+use Rattle.model.specs.declared.Update.{Update}
+use Rattle.model.specs.declared.ClockUpdate.{ClockUpdate}
 use Rattle.model.specs.declared.Counter.{Counter}
 use Rattle.model.specs.declared.Edge.{Edge}
 use Rattle.model.specs.declared.Invariant.{Invariant}
@@ -23,7 +23,7 @@ model_of l i t c v counters invariants u edges = record {
   edges = edges;
 }
 
-abbrev edge_of : ℕ → ℕ → ℕ → List AtomSlot → List UpdateSlot → List ℕ → List ClockSlot → Edge
+abbrev edge_of : ℕ → ℕ → ℕ → List Atom → List Update → List ℕ → List ClockUpdate → Edge
 edge_of s t label guard updates order resets =
     record { source = s; target = t; label = label; guard = guard; updates = updates; order = order; resets = resets }
 
@@ -50,7 +50,7 @@ with_used m n = model_of m.locations m.initial m.target m.clocks m.vars m.counte
 unfoldable pub with_counter : Model → ℕ → Counter → Model
 with_counter m i c = model_of m.locations m.initial m.target m.clocks m.vars (set m.counters i c) m.invariants m.used m.edges
 
-unfoldable pub with_invariant : Model → ℕ → List AtomSlot → Model
+unfoldable pub with_invariant : Model → ℕ → List Atom → Model
 with_invariant m l atoms =
     let slots = set m.invariants l (record { atoms = atoms }) in
     model_of m.locations m.initial m.target m.clocks m.vars m.counters slots m.used m.edges
@@ -68,12 +68,12 @@ with_edge_target m e n = let edge = edge_at m e in with_edge m e (edge_of edge.s
 unfoldable pub with_label : Model → ℕ → ℕ → Model
 with_label m e n = let edge = edge_at m e in with_edge m e (edge_of edge.source edge.target n edge.guard edge.updates edge.order edge.resets)
 
-unfoldable pub with_guard : Model → ℕ → List AtomSlot → Model
+unfoldable pub with_guard : Model → ℕ → List Atom → Model
 with_guard m e atoms = let edge = edge_at m e in with_edge m e (edge_of edge.source edge.target edge.label atoms edge.updates edge.order edge.resets)
 
 -- the updates, and the order in which they are listed
-unfoldable pub with_updates : Model → ℕ → List UpdateSlot → List ℕ → Model
+unfoldable pub with_updates : Model → ℕ → List Update → List ℕ → Model
 with_updates m e slots order = let edge = edge_at m e in with_edge m e (edge_of edge.source edge.target edge.label edge.guard slots order edge.resets)
 
-unfoldable pub with_resets : Model → ℕ → List ClockSlot → Model
+unfoldable pub with_resets : Model → ℕ → List ClockUpdate → Model
 with_resets m e slots = let edge = edge_at m e in with_edge m e (edge_of edge.source edge.target edge.label edge.guard edge.updates edge.order slots)

@@ -4,7 +4,6 @@ use Rattle.text.specs.bytes.Bytes.{narrowed}
 use Rattle.text.specs.bytes.Faulty.{no_faults, fault_number}
 use Rattle.model.specs.declared.ClockUpdate.{ClockUpdate}
 use Rattle.model.specs.declared.ClockUpdate.TheVariants.{Unchanged, Reset, Copy}
-use Rattle.model.specs.declared.ClockSlot.{ClockSlot}
 use Rattle.model.specs.Record.{blank_reset}
 use Rattle.text.specs.declared.resets.ResetValue.{ResetValue}
 use Rattle.text.specs.declared.resets.ResetRead.{ResetRead}
@@ -19,8 +18,8 @@ stored_update (ToZero x) = Reset
 stored_update (ToCopy x w) = Copy (narrowed w)
 
 -- one more update, in slot k, if there is such a slot
-unfoldable pub put : List ClockSlot → ℕ → ClockUpdate → List ClockSlot
-put slots k u = cond (ltb k 4) (set slots k (record { update = u })) slots
+unfoldable pub put : List ClockUpdate → ℕ → ClockUpdate → List ClockUpdate
+put slots k u = cond (ltb k 4) (set slots k u) slots
 
 -- before the first item
 unfoldable pub no_resets : ResetsRead

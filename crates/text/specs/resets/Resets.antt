@@ -8,7 +8,6 @@ use Rattle.text.specs.declared.bytes.NumberRead.TheVariants.{Malformed as NoNumb
 use Rattle.text.specs.declared.bytes.Faults.{Faults}
 use Rattle.model.specs.declared.ClockUpdate.{ClockUpdate}
 use Rattle.model.specs.declared.ClockUpdate.TheVariants.{Unchanged, Reset, Copy}
-use Rattle.model.specs.declared.ClockSlot.{ClockSlot}
 use Rattle.model.specs.Record.{blank_reset}
 use Rattle.text.specs.declared.resets.ResetValue.{ResetValue}
 use Rattle.text.specs.declared.resets.ResetRead.{ResetRead}
@@ -79,11 +78,11 @@ update_in (ToZero x) = Reset
 update_in (ToCopy x w) = Copy w
 
 -- one more item
-abbrev pub placed : List ClockSlot → ResetRead → List ClockSlot
-placed slots a = set slots (clock_of a) (record { update = update_in a })
+abbrev pub placed : List ClockUpdate → ResetRead → List ClockUpdate
+placed slots a = set slots (clock_of a) (update_in a)
 
 -- all items
-unfoldable pub reset_slots : List ResetRead → List ClockSlot
+unfoldable pub reset_slots : List ResetRead → List ClockUpdate
 reset_slots items = foldl placed (replicate 4 blank_reset) items
 
 -- the faults of a value, and the slots where it has none

@@ -4,7 +4,6 @@ use Rattle.text.specs.bytes.Bytes.{narrowed, counted}
 use Rattle.text.specs.bytes.Faulty.{no_faults, fault_number}
 use Rattle.model.specs.declared.Update.{Update}
 use Rattle.model.specs.declared.Update.TheVariants.{Keep, Constant, Sum}
-use Rattle.model.specs.declared.UpdateSlot.{UpdateSlot}
 use Rattle.model.specs.Record.{blank_update}
 use Rattle.model.specs.Automaton.{is_keep}
 use Rattle.text.specs.declared.updates.SetValue.{SetValue}
@@ -24,12 +23,12 @@ stored_update (ToConstant v c) = Constant (narrowed c)
 stored_update (ToSum v w negative n) = Sum (narrowed w) (stored_offset negative n)
 
 -- one more update, in slot k, if there is such a slot
-unfoldable pub put : List UpdateSlot → ℕ → Update → List UpdateSlot
-put slots k u = cond (ltb k 4) (set slots k (record { update = u })) slots
+unfoldable pub put : List Update → ℕ → Update → List Update
+put slots k u = cond (ltb k 4) (set slots k u) slots
 
 -- counter k is set
-abbrev pub is_set : List UpdateSlot → ℕ → Bool
-is_set slots k = ltb k 4 && not (is_keep (get_or slots k blank_update).update)
+abbrev pub is_set : List Update → ℕ → Bool
+is_set slots k = ltb k 4 && not (is_keep (get_or slots k blank_update))
 
 -- one more counter, in slot n of the order, if it has such a slot
 unfoldable pub listed_at : List ℕ → ℕ → ℕ → List ℕ

@@ -8,7 +8,6 @@ use Rattle.text.specs.declared.bytes.NumberRead.TheVariants.{Malformed as NoNumb
 use Rattle.text.specs.declared.bytes.Faults.{Faults}
 use Rattle.model.specs.declared.Update.{Update}
 use Rattle.model.specs.declared.Update.TheVariants.{Keep, Constant, Sum}
-use Rattle.model.specs.declared.UpdateSlot.{UpdateSlot}
 use Rattle.model.specs.Indexed.{list_below, all_below}
 use Rattle.model.specs.Record.{blank_update}
 use Rattle.text.specs.declared.updates.SetValue.{SetValue}
@@ -111,11 +110,11 @@ update_in (ToConstant v c) = Constant c
 update_in (ToSum v w negative n) = Sum w (offset_of negative n)
 
 -- one more item
-abbrev pub placed : List UpdateSlot → SetRead → List UpdateSlot
-placed slots a = set slots (counter_of a) (record { update = update_in a })
+abbrev pub placed : List Update → SetRead → List Update
+placed slots a = set slots (counter_of a) (update_in a)
 
 -- all items
-unfoldable pub update_slots : List SetRead → List UpdateSlot
+unfoldable pub update_slots : List SetRead → List Update
 update_slots items = foldl placed (replicate 4 blank_update) items
 
 -- the order in which the updates are listed: slot k has the counter that item k sets, and 0 where there is no such item

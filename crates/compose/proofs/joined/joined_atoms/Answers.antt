@@ -30,11 +30,11 @@ loop-k-preserved c =
     elim c.if-k-n.branch [
       | then-k-n w ↦
           let next = stored blank_atom f w.joined-is (omega arith) loop.invariant.1 loop.invariant.2
-          (ap (λ (x : Atom). record { atom = x }) (w.shifted_atom.ensures ∙ in_second n (atom_at a.first) second loop.k w.if-k-n.true)) in
+          (ap (λ (x : Atom). x) (w.shifted_atom.ensures ∙ in_second n (atom_at a.first) second loop.k w.if-k-n.true)) in
           (search rules, next.0, next.1)
       | else-k-n w ↦
           let next = left blank_atom f w.joined-is loop.invariant.1 loop.invariant.2
-          (ap (λ (x : Atom). record { atom = x }) (in_first n (atom_at a.first) second loop.k (omega arith))) in
+          (ap (λ (x : Atom). x) (in_first n (atom_at a.first) second loop.k (omega arith))) in
           (search rules, next.0, next.1)
     ]
 

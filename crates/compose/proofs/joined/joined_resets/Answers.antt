@@ -29,11 +29,11 @@ loop-i-preserved c =
     elim c.if-i-clocks.branch [
       | then-i-clocks w ↦
           let next = stored blank_reset f w.joined-is (omega arith) loop.invariant.1 loop.invariant.2
-          (ap (λ (x : ClockUpdate). record { update = x }) (w.shifted_reset.ensures ∙ in_second a.clocks first second loop.i w.if-i-clocks.true)) in
+          (ap (λ (x : ClockUpdate). x) (w.shifted_reset.ensures ∙ in_second a.clocks first second loop.i w.if-i-clocks.true)) in
           (search rules, next.0, next.1)
       | else-i-clocks w ↦
           let next = left blank_reset f w.joined-is loop.invariant.1 loop.invariant.2
-          (ap (λ (x : ClockUpdate). record { update = x }) (in_first a.clocks first second loop.i (omega arith))) in
+          (ap (λ (x : ClockUpdate). x) (in_first a.clocks first second loop.i (omega arith))) in
           (search rules, next.0, next.1)
     ]
 

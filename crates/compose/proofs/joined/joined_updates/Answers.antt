@@ -29,11 +29,11 @@ loop-i-preserved c =
     elim c.if-i-vars.branch [
       | then-i-vars w ↦
           let next = stored blank_update f w.joined-is (omega arith) loop.invariant.1 loop.invariant.2
-          (ap (λ (x : Update). record { update = x }) (w.shifted_update.ensures ∙ in_second a.vars first second loop.i w.if-i-vars.true)) in
+          (ap (λ (x : Update). x) (w.shifted_update.ensures ∙ in_second a.vars first second loop.i w.if-i-vars.true)) in
           (search rules, next.0, next.1)
       | else-i-vars w ↦
           let next = left blank_update f w.joined-is loop.invariant.1 loop.invariant.2
-          (ap (λ (x : Update). record { update = x }) (in_first a.vars first second loop.i (omega arith))) in
+          (ap (λ (x : Update). x) (in_first a.vars first second loop.i (omega arith))) in
           (search rules, next.0, next.1)
     ]
 

@@ -10,7 +10,7 @@ use Rattle.emission.proofs.edge.put_resets.Given as goal
 
 abbrev pub invariant-loop-i : goal.invariant-loop-i
 invariant-loop-i l = (l.i ≤ l.i-end) × WroteClauses (each l.i (λ h. part_clauses l.x (reset_part l.b l.o h
-    (get_or l.resets h blank_reset).update))) l.initial.out l.out l.initial.end l.end
+    (get_or l.resets h blank_reset)))) l.initial.out l.out l.initial.end l.end
 
 abbrev pub decreases-loop-i : goal.decreases-loop-i
 decreases-loop-i l = l.i-end - l.i

@@ -10,7 +10,7 @@ use Rattle.emission.proofs.edge.put_updates.Given as goal
 
 abbrev pub invariant-loop-i : goal.invariant-loop-i
 invariant-loop-i l = (l.i ≤ l.i-end) × WroteClauses (each l.i (λ h. part_clauses l.x
-    (update_part l.b l.o l.order h (get_or l.updates h blank_update).update))) l.initial.out l.out l.initial.end l.end
+    (update_part l.b l.o l.order h (get_or l.updates h blank_update)))) l.initial.out l.out l.initial.end l.end
 
 abbrev pub decreases-loop-i : goal.decreases-loop-i
 decreases-loop-i l = l.i-end - l.i

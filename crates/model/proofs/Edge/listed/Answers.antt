@@ -1,41 +1,22 @@
--- `listed`: the loop has counted the first counters that are set.
-use Rattle.model.proofs.IndexedLaws.{sum_none, sum_more}
-use lib.ListN.{get_or}
-use Rattle.model.specs.Automaton.{is_keep, listed}
-use Rattle.model.specs.Record.{blank_update}
-use borrow.Author.Rules.{rules}
-use native.Mathlib.Omega.{arith}
-use Prim.Native.Nat.{ℕ}
-use mathlib.Core.Bool.{Bool, true, false, cond}
-use mathlib.Core.Path.{◌≡◌, sym, ◌∙◌}
+use Rattle.std.proofs.Common.{rules, tests, not, cond, ◌∙◌, ◌≡◌, Bool, true, false, ℕ, refl}
+use Rattle.std.proofs.lemmas.Iterator.{YieldsList-from_slice}
+use Rattle.std.proofs.lemmas.Iterator.Consumers.{count_from_yields_List, YieldsList-from_filter}
+use Rattle.std.proofs.lemmas.List.Sums.{length-filter}
+use Rattle.model.specs.Automaton.{listed, is_keep}
+use Rattle.model.specs.Record.{blank_update, update_at}
+use Rattle.model.proofs.ByIndex.{sum_by_index}
+use Rattle.model.proofs.IndexedLaws.{sum_same}
+use Rattle.model.proofs.Known.{updates_long}
 use Rattle.model.proofs.Edge.listed.Goals as goal
-use Rattle.model.proofs.Edge.listed.Goals.{then-not-is_keep, else-not-is_keep}
 
-set_one : {b : Bool} → b ≡ false → ◌≡◌ {A = ℕ} (cond b 0 1) 1
-set_one e = rw e
-
-kept_none : {b : Bool} → b ≡ true → ◌≡◌ {A = ℕ} (cond b 0 1) 0
-kept_none e = rw e
-
-pub loop-i-init : goal.loop-i-init
-loop-i-init c = (search rules, search rules, sym (sum_none _))
-
-pub loop-i-preserved : goal.loop-i-preserved
-loop-i-preserved c =
-    let l = c.loop-i in
-    let keep = c.is_keep.ensures in
-    let updates = c.args.self.updates in
-    let term = sum_more (λ i. cond (is_keep (get_or updates i blank_update).update) 0 1) l.i in (
-      search rules,
-      elim c.if-not-is_keep.branch [ then-not-is_keep w ↦ omega arith | else-not-is_keep w ↦ omega arith ],
-      elim c.if-not-is_keep.branch [
-        | then-not-is_keep w ↦ omega (arith, term, l.invariant.2, set_one (sym keep ∙ w.if-not-is_keep.true))
-        | else-not-is_keep w ↦ omega (arith, term, l.invariant.2, kept_none (sym keep ∙ w.if-not-is_keep.false))
-      ],
-    )
+one_or_none : (b : Bool) → ◌≡◌ {A = ℕ} (cond (not b) 1 0) (cond b 0 1)
+one_or_none true = refl
+one_or_none false = refl
 
 pub returns : goal.returns
 unfolding listed
 returns c =
-    let e : c.loop-i.i ≡ 4 = omega arith in
-    rw e at c.loop-i.invariant.2
+    let e = c.args.self in
+    let g = count_from_yields_List _ _ c.count.ensures.ran (YieldsList-from_filter _ (λ u. not (is_keep u)) (YieldsList-from_slice e.updates cc) c.filter.ensures.closure (λ x r q k. search (rules, tests))) in
+    g ∙ length-filter (λ u. not (is_keep u)) e.updates ∙ rw (updates_long e _ c.well_formed.0) at (sum_by_index blank_update (λ u. cond (not (is_keep u)) 1 0) e.updates)
+    ∙ sum_same (λ i. cond (not (is_keep (update_at e i))) 1 0) (λ i. cond (is_keep (update_at e i)) 0 1) 4 (λ i l. one_or_none (is_keep (update_at e i)))

@@ -1,12 +1,7 @@
--- `updated`: the counters after the listed updates so far; the first that leaves its range makes the answer.
-use Prim.Native.Nat.{◌≤◌, ◌-◌}
-use mathlib.Core.Option.{some}
-use mathlib.Core.Path.{◌≡◌}
+-- `updated`: so far every listed update gave the counters; the first that leaves its range makes the answer.
+use Rattle.std.proofs.Common.{◌≡◌, Some}
 use Rattle.model.specs.Automaton.{updated}
 use Rattle.model.proofs.Edge.updated.Given as goal
 
-abbrev pub invariant-loop-k : goal.invariant-loop-k
-invariant-loop-k l = (l.k ≤ l.n) × (updated l.counters l.self l.values l.k ≡ some l.now)
-
-abbrev pub decreases-loop-k : goal.decreases-loop-k
-decreases-loop-k l = l.n - l.k
+abbrev pub invariant-loop-counter : goal.invariant-loop-counter
+invariant-loop-counter l = updated l.fn.counters l.fn.self l.fn.values l.counter-index ≡ Some l.now

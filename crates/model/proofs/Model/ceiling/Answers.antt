@@ -1,6 +1,5 @@
--- `ceiling`: one more than the larger of both greatest constants, at most 256, since each is a byte.
+use Rattle.std.proofs.Common.{rules}
 use Rattle.model.specs.Automaton.{ceiling}
-use borrow.Author.Rules.{rules}
 use Rattle.model.proofs.Model.ceiling.Goals as goal
 
 pub returns : goal.returns

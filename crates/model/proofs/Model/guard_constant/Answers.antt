@@ -1,19 +1,16 @@
--- `guard_constant`: the loop holds the greatest constant of the guards so far.
-use borrow.Author.Rules.{rules}
-use Prim.Native.Nat.{max}
-use mathlib.Core.Path.{◌≡◌, sym, ◌∙◌, ap₂}
-use native.Mathlib.Omega.{arith}
-use Rattle.model.proofs.IndexedLaws.{max_none, max_more}
+use Rattle.std.proofs.Common.{rules, tests, max, ◌∙◌}
+use Rattle.std.proofs.lemmas.Iterator.{YieldsList-from_slice}
+use Rattle.std.proofs.lemmas.Iterator.Consumers.{fold_from_yields_List}
+use Rattle.model.specs.Automaton.{greatest_constant}
+use Rattle.model.specs.Record.{past_edge}
+use Rattle.model.specs.declared.Edge.{Edge}
+use Rattle.model.proofs.ByIndex.{max_by_index}
+use Rattle.model.proofs.Known.{lengths}
 use Rattle.model.proofs.Model.guard_constant.Goals as goal
 
-pub loop-e-init : goal.loop-e-init
-loop-e-init c = (search rules, sym (max_none _))
-
-pub loop-e-preserved : goal.loop-e-preserved
-loop-e-preserved c =
-    let loop-inv₁ = c.loop-e.invariant.1 in
-    (search rules, c.larger-most.ensures ∙ ap₂ max loop-inv₁ c.greatest_constant.ensures ∙ sym (max_more _ _))
-
 pub returns : goal.returns
-returns c = let e : c.loop-e.e ≡ 32 = omega arith in
-    rw e at c.loop-e.invariant.1
+returns c =
+    let m = c.args.self in
+    fold_from_yields_List _ (λ a (e : Edge). max a (greatest_constant e.guard)) 0 _ c.fold.ensures.ran (YieldsList-from_slice m.edges cc)
+      (λ a x b q k. search (rules, tests))
+    ∙ rw (lengths m _ c.well_formed.0).edges at (max_by_index past_edge (λ e. greatest_constant e.guard) m.edges)

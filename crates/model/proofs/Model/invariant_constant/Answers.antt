@@ -1,19 +1,16 @@
--- `invariant_constant`: the loop holds the greatest constant of the invariants so far.
-use borrow.Author.Rules.{rules}
-use Prim.Native.Nat.{max}
-use mathlib.Core.Path.{◌≡◌, sym, ◌∙◌, ap₂}
-use native.Mathlib.Omega.{arith}
-use Rattle.model.proofs.IndexedLaws.{max_none, max_more}
+use Rattle.std.proofs.Common.{rules, tests, max, ◌∙◌}
+use Rattle.std.proofs.lemmas.Iterator.{YieldsList-from_slice}
+use Rattle.std.proofs.lemmas.Iterator.Consumers.{fold_from_yields_List}
+use Rattle.model.specs.Automaton.{greatest_constant}
+use Rattle.model.specs.Record.{past_invariant}
+use Rattle.model.specs.declared.Invariant.{Invariant}
+use Rattle.model.proofs.ByIndex.{max_by_index}
+use Rattle.model.proofs.Known.{lengths}
 use Rattle.model.proofs.Model.invariant_constant.Goals as goal
 
-pub loop-l-init : goal.loop-l-init
-loop-l-init c = (search rules, sym (max_none _))
-
-pub loop-l-preserved : goal.loop-l-preserved
-loop-l-preserved c =
-    let loop-inv₁ = c.loop-l.invariant.1 in
-    (search rules, c.larger-most.ensures ∙ ap₂ max loop-inv₁ c.greatest_constant.ensures ∙ sym (max_more _ _))
-
 pub returns : goal.returns
-returns c = let e : c.loop-l.l ≡ 16 = omega arith in
-    rw e at c.loop-l.invariant.1
+returns c =
+    let m = c.args.self in
+    fold_from_yields_List _ (λ a (v : Invariant). max a (greatest_constant v.atoms)) 0 _ c.fold.ensures.ran (YieldsList-from_slice m.invariants cc)
+      (λ a x b q k. search (rules, tests))
+    ∙ rw (lengths m _ c.well_formed.0).invariants at (max_by_index past_invariant (λ v. greatest_constant v.atoms) m.invariants)

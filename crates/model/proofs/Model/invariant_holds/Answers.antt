@@ -1,21 +1,19 @@
--- `invariant_holds` asks `all_hold` of the location's atoms; past the last location the definition's invariant is blank and holds.
-use lib.ListN.{length}
-use Prim.Native.Nat.{◌≤◌}
+use Rattle.std.proofs.Common.{rules, arith, length, ◌≤◌}
 use lib.ListN.{get_or-eq_default}
-use native.Mathlib.Omega.{arith}
+use Rattle.std.proofs.lemmas.Grind.{common_steps}
+use Rattle.std.proofs.lemmas.Option.{get_or_from_slice_get}
 use Rattle.model.specs.Record.{past_invariant}
-use Rattle.model.specs.Automaton.{invariant_holds, all_hold}
 use Rattle.model.specs.Indexed.{all_below}
+use Rattle.model.specs.Automaton.{all_hold, invariant_holds}
 use Rattle.model.proofs.Known.{lengths}
 use Rattle.model.proofs.Model.invariant_holds.Goals as goal
 
-pub returns-then-at-lt-LOCATIONS : goal.returns-then-at-lt-LOCATIONS
+pub returns-in-Some : goal.returns-in-Some
 unfolding invariant_holds
-returns-then-at-lt-LOCATIONS c = c.all_hold.ensures
+returns-in-Some c = grind (arith, common_steps, c.in-Some.ensures.lookup)
 
-pub returns-else-at-lt-LOCATIONS : goal.returns-else-at-lt-LOCATIONS
+pub returns-in-None : goal.returns-in-None
 unfolding invariant_holds all_hold all_below
-returns-else-at-lt-LOCATIONS c =
-    let t1 = c.args.self in
-    let h : length t1.invariants ≤ c.args.s.location = omega (arith, (lengths t1 _ c.well_formed.0).invariants) in
-    rw (get_or-eq_default t1.invariants past_invariant h)
+returns-in-None c = let m = c.args.self in let h = c.in-None.ensures.lookup in
+    let short : length m.invariants ≤ c.args.s.location = omega (arith, h) in
+    rw (get_or-eq_default m.invariants past_invariant short)

@@ -1,20 +1,14 @@
--- `greatest_constant`: the loop holds the greatest clock constant of the atoms so far.
-use borrow.Author.Rules.{rules}
-use Prim.Native.Nat.{max}
-use mathlib.Core.Path.{◌≡◌, sym, ◌∙◌, ap₂}
-use native.Mathlib.Omega.{arith}
-use Rattle.model.specs.Automaton.{greatest_constant}
-use Rattle.model.proofs.IndexedLaws.{max_none, max_more}
+use Rattle.std.proofs.Common.{rules, tests, max, ◌∙◌}
+use Rattle.std.proofs.lemmas.Iterator.{YieldsList-from_slice}
+use Rattle.std.proofs.lemmas.Iterator.Consumers.{fold_from_yields_List}
+use Rattle.model.specs.Automaton.{greatest_constant, clock_constant}
+use Rattle.model.specs.Record.{blank_atom}
+use Rattle.model.proofs.ByIndex.{max_by_index}
 use Rattle.model.proofs.atoms.greatest_constant.Goals as goal
-
-pub loop-k-init : goal.loop-k-init
-loop-k-init c = (search rules, sym (max_none _))
-
-pub loop-k-preserved : goal.loop-k-preserved
-loop-k-preserved c =
-    (search rules, c.larger-most.ensures ∙ ap₂ max c.loop-k.invariant.1 c.clock_constant.ensures ∙ sym (max_more _ _))
 
 pub returns : goal.returns
 unfolding greatest_constant
-returns c = let e : c.loop-k.k ≡ 4 = omega arith in
-    rw e at c.loop-k.invariant.1
+returns c =
+    let atoms = c.args.atoms in
+    fold_from_yields_List _ (λ m a. max m (clock_constant a)) 0 _ c.fold.ensures.ran (YieldsList-from_slice atoms cc) (λ a x b q k. search (rules, tests))
+    ∙ rw c.well_formed.0.1.0.1 at (max_by_index blank_atom clock_constant atoms)
