@@ -5,16 +5,15 @@ ghost use Rattle.model.specs.Form.{atom_formed, each_formed, update_formed, upda
 ghost use Rattle.compose.specs.Joined.{shifted_atom, shifted_update, shifted_reset, atom_count, joined_atoms, joined_updates, joined_place, joined_order, joined_resets, standing, joined_edge};
 
 use form::is_blank;
-use model::{Atom, AtomSlot, ClockSlot, ClockUpdate, Edge, Model, Update, UpdateSlot};
+use model::{Atom, ClockUpdate, Edge, Model, Update};
 
 // How many atoms an invariant or a guard has.
-pub(crate) fn atom_count(atoms: [AtomSlot; Model::ATOMS]) -> usize
+pub(crate) fn atom_count(atoms: [Atom; Model::ATOMS]) -> usize
     ensures { result ≡ atom_count atoms }
 {
     let mut n = 0;
     for k in 0..Model::ATOMS {
-        let s = atoms[k];
-        let atom = s.atom;
+        let atom = atoms[k];
         if !is_blank(atom) {
             n += 1;
         }
@@ -51,11 +50,11 @@ fn shifted_atom(a: Atom, clocks: u8, vars: u8) -> Atom
 
 // The atoms of two invariants or of two guards.
 pub(crate) fn joined_atoms(
-    first: [AtomSlot; Model::ATOMS],
-    second: [AtomSlot; Model::ATOMS],
+    first: [Atom; Model::ATOMS],
+    second: [Atom; Model::ATOMS],
     clocks: u8,
     vars: u8,
-) -> [AtomSlot; Model::ATOMS]
+) -> [Atom; Model::ATOMS]
     requires { (clocks ≤ 4) × (vars ≤ 4) × T (each_formed 4 4 second) }
     ensures { result ≡ joined_atoms clocks vars first second }
 {
@@ -63,11 +62,8 @@ pub(crate) fn joined_atoms(
     let mut joined = first;
     for k in 0..Model::ATOMS {
         if k >= n {
-            let s = second[k - n];
-            let atom = s.atom;
-            joined[k] = AtomSlot {
-                atom: shifted_atom(atom, clocks, vars),
-            };
+            let atom = second[k - n];
+            joined[k] = shifted_atom(atom, clocks, vars);
         }
     }
     joined
@@ -87,18 +83,15 @@ fn shifted_update(u: Update, vars: u8) -> Update
     }
 }
 
-fn joined_updates(e: Edge, f: Edge, vars: u8) -> [UpdateSlot; Model::COUNTERS]
+fn joined_updates(e: Edge, f: Edge, vars: u8) -> [Update; Model::COUNTERS]
     requires { (vars ≤ 4) × T (updates_formed 4 f.updates) }
     ensures { result ≡ joined_updates vars e f }
 {
     let mut joined = e.updates;
     for i in 0..Model::COUNTERS {
         if i >= vars as usize {
-            let s = f.updates[i - vars as usize];
-            let update = s.update;
-            joined[i] = UpdateSlot {
-                update: shifted_update(update, vars),
-            };
+            let update = f.updates[i - vars as usize];
+            joined[i] = shifted_update(update, vars);
         }
     }
     joined
@@ -144,18 +137,15 @@ fn shifted_reset(u: ClockUpdate, clocks: u8) -> ClockUpdate
     }
 }
 
-fn joined_resets(e: Edge, f: Edge, clocks: u8) -> [ClockSlot; Model::CLOCKS]
+fn joined_resets(e: Edge, f: Edge, clocks: u8) -> [ClockUpdate; Model::CLOCKS]
     requires { (clocks ≤ 4) × T (resets_formed 4 f.resets) }
     ensures { result ≡ joined_resets clocks e f }
 {
     let mut joined = e.resets;
     for i in 0..Model::CLOCKS {
         if i >= clocks as usize {
-            let s = f.resets[i - clocks as usize];
-            let update = s.update;
-            joined[i] = ClockSlot {
-                update: shifted_reset(update, clocks),
-            };
+            let update = f.resets[i - clocks as usize];
+            joined[i] = shifted_reset(update, clocks);
         }
     }
     joined
@@ -169,14 +159,10 @@ pub(crate) fn standing(location: u8) -> Edge
         source: location,
         target: location,
         label: 0,
-        guard: [AtomSlot { atom: Atom::Blank }; Model::ATOMS],
-        updates: [UpdateSlot {
-            update: Update::Keep,
-        }; Model::COUNTERS],
+        guard: [Atom::Blank; Model::ATOMS],
+        updates: [Update::Keep; Model::COUNTERS],
         order: [0u8; Model::COUNTERS],
-        resets: [ClockSlot {
-            update: ClockUpdate::Unchanged,
-        }; Model::CLOCKS],
+        resets: [ClockUpdate::Unchanged; Model::CLOCKS],
     }
 }
 

@@ -14,7 +14,7 @@ ghost use Rattle.compose.specs.Parts.{first_edge, second_edge, edge_byte, stays,
 use crate::joined::{atom_count, joined_atoms, standing};
 use crate::moves::{Move, Moves, edge_of, moves_of, paired};
 use form::well_formed;
-use model::{Atom, AtomSlot, Counter, Edge, Invariant, Model};
+use model::{Atom, Counter, Edge, Invariant, Model};
 
 mod joined;
 pub mod moves;
@@ -207,7 +207,7 @@ fn joined_counters(a: Model, b: Model) -> [Counter; Model::COUNTERS]
 fn invariant_row(
     list: Invariants,
     at: usize,
-    first: [AtomSlot; Model::ATOMS],
+    first: [Atom; Model::ATOMS],
     b: Model,
     clocks: u8,
     vars: u8,
@@ -231,7 +231,7 @@ fn joined_invariants(a: Model, b: Model) -> Invariants
     ensures { result.slots ≡ placed (replicate 16 blank_invariant) 0 (joined_invariants a b) }
 {
     let blank = Invariant {
-        atoms: [AtomSlot { atom: Atom::Blank }; Model::ATOMS],
+        atoms: [Atom::Blank; Model::ATOMS],
     };
     let mut list = Invariants {
         slots: [blank; Model::LOCATIONS],

@@ -7,19 +7,18 @@ ghost use Rattle.counts.specs.Counted.{Counted};
 
 use crate::Count;
 use crate::part::count_part;
-use model::{AtomSlot, Edge, Model};
+use model::{Atom, Edge, Model};
 use parts::GroupTable;
 
 // The values that fail the atoms of an invariant or a guard.
-pub fn atoms_count(b: GroupTable, atoms: [AtomSlot; Model::ATOMS]) -> Count
+pub fn atoms_count(b: GroupTable, atoms: [Atom; Model::ATOMS]) -> Count
     requires { Bounded b }
     ensures { (x o : ℕ) → Counted (each 4 (atom_piece b o x atoms)) result.clauses result.words }
 {
     let mut clauses: usize = 0;
     let mut words: usize = 0;
     for k in 0..Model::ATOMS {
-        let s = atoms[k];
-        let atom = s.atom;
+        let atom = atoms[k];
         let a = count_part(b.atom_part(0, atom));
         clauses += a.clauses;
         words += a.words;

@@ -82,8 +82,7 @@ fn put_updates(
     let counters = b.counters;
     let mut end = at;
     for i in 0..b.vars {
-        let s = updates[i];
-        let update = s.update;
+        let update = updates[i];
         let c = counters[i];
         end = put_update(b, first, size, x, o, order, i, c.greatest, update, out, end);
     }
@@ -141,8 +140,7 @@ fn put_resets(
     let resets = e.resets;
     let mut end = at;
     for i in 0..b.groups - (1 + b.vars) {
-        let s = resets[i];
-        let update = s.update;
+        let update = resets[i];
         end = put_reset(b, first, size, x, o, i, update, out, end);
     }
     end

@@ -8,7 +8,7 @@ ghost use Rattle.emission.specs.Written.{RoomFor, WroteClauses};
 
 use crate::words::{put_exclusion, put_implication, put_joint_implication, put_negated_unit};
 use model::Relation;
-use new_values::{NewValue, shift};
+use new_values::shift;
 use parts::smaller;
 
 // The value `v`, whose variable is `y`: not `x`, not that value, where it fails the comparison.
@@ -113,8 +113,8 @@ fn put_shifted_value(
 {
     let new = shift(offset, greatest, v as u8);
     match new {
-        NewValue::OutOfRange => put_exclusion(x, y, out, at),
-        NewValue::Value(u) => {
+        None => put_exclusion(x, y, out, at),
+        Some(u) => {
             let shifted = after as u16 + u as u16;
             put_joint_implication(x, y, shifted as usize, out, at)
         }

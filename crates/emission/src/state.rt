@@ -15,7 +15,7 @@ ghost use Rattle.emission.specs.Writable.{Lent, AtomFits, InvariantsFit, invaria
 
 use crate::rules::put_excluded;
 use crate::words::put_group;
-use model::{Atom, AtomSlot, Invariant, Model, Relation};
+use model::{Atom, Invariant, Model, Relation};
 use parts::GroupTable;
 
 // The group clauses of each group.
@@ -115,7 +115,7 @@ pub fn put_atoms(
     size: &[u16],
     o: usize,
     x: usize,
-    atoms: [AtomSlot; Model::ATOMS],
+    atoms: [Atom; Model::ATOMS],
     out: &mut [i32],
     at: usize,
 ) -> usize
@@ -124,8 +124,7 @@ pub fn put_atoms(
 {
     let mut end = at;
     for k in 0..Model::ATOMS {
-        let s = atoms[k];
-        let atom = s.atom;
+        let atom = atoms[k];
         end = put_atom(vars, first, size, o, x, atom, out, end);
     }
     end

@@ -134,8 +134,7 @@ fn put_steps(m: Model, first: State, run: &[u8], out: &mut [u8], at: usize) -> u
     let mut end = at;
     for t in 0..run.len() {
         let byte = run[t];
-        let stepped = advance(m, top, s, byte);
-        let next = stepped.state;
+        let next = advance(m, top, s, byte).unwrap();
         end = put_step(m, z, byte, next, out, end);
         s = next;
     }

@@ -6,10 +6,7 @@ ghost use Rattle.model.specs.Automaton.{listed};
 ghost use Rattle.model.specs.Form.{is_not_equal, atom_formed, is_blank, no_gap, each_formed, filled_from_first, atoms_formed, counter_formed, is_blank_counter, counter_slot_formed, counters_formed, invariants_formed, update_formed, clock_update_formed, is_unchanged, update_slot_formed, updates_formed, order_slot_formed, order_formed, reset_slot_formed, resets_formed, edge_formed, is_blank_edge, edges_formed, head_formed, well_formed, slot_in_group, counters_in_group, clocks_in_group, state_formed};
 
 use model::updates::place_in;
-use model::{
-    Atom, AtomSlot, ClockSlot, ClockUpdate, Counter, Edge, Model, Relation, State, Update,
-    UpdateSlot,
-};
+use model::{Atom, ClockUpdate, Counter, Edge, Model, Relation, State, Update};
 
 fn is_not_equal(r: Relation) -> bool
     ensures { result ≡ is_not_equal r }
@@ -77,12 +74,11 @@ fn no_gap(before: Atom, after: Atom) -> bool
     }
 }
 
-fn each_formed(atoms: [AtomSlot; Model::ATOMS], clocks: u8, vars: u8) -> bool
+fn each_formed(atoms: [Atom; Model::ATOMS], clocks: u8, vars: u8) -> bool
     ensures { result ≡ each_formed clocks vars atoms }
 {
     for k in 0..Model::ATOMS {
-        let a = atoms[k];
-        let atom = a.atom;
+        let atom = atoms[k];
         if !atom_formed(atom, clocks, vars) {
             return false;
         }
@@ -90,14 +86,12 @@ fn each_formed(atoms: [AtomSlot; Model::ATOMS], clocks: u8, vars: u8) -> bool
     true
 }
 
-fn filled_from_first(atoms: [AtomSlot; Model::ATOMS]) -> bool
+fn filled_from_first(atoms: [Atom; Model::ATOMS]) -> bool
     ensures { result ≡ filled_from_first atoms }
 {
     for k in 0..Model::ATOMS - 1 {
-        let a = atoms[k];
-        let before = a.atom;
-        let b = atoms[k + 1];
-        let after = b.atom;
+        let before = atoms[k];
+        let after = atoms[k + 1];
         if !no_gap(before, after) {
             return false;
         }
@@ -105,7 +99,7 @@ fn filled_from_first(atoms: [AtomSlot; Model::ATOMS]) -> bool
     true
 }
 
-fn atoms_formed(atoms: [AtomSlot; Model::ATOMS], clocks: u8, vars: u8) -> bool
+fn atoms_formed(atoms: [Atom; Model::ATOMS], clocks: u8, vars: u8) -> bool
     ensures { result ≡ atoms_formed clocks vars atoms }
 {
     if !each_formed(atoms, clocks, vars) {
@@ -149,7 +143,7 @@ fn counters_formed(counters: [Counter; Model::COUNTERS], vars: u8) -> bool
 }
 
 fn invariant_slot_formed(
-    atoms: [AtomSlot; Model::ATOMS],
+    atoms: [Atom; Model::ATOMS],
     l: usize,
     locations: u8,
     clocks: u8,
@@ -198,12 +192,11 @@ fn update_slot_formed(u: Update, i: usize, vars: u8) -> bool
     }
 }
 
-fn updates_formed(slots: [UpdateSlot; Model::COUNTERS], vars: u8) -> bool
+fn updates_formed(slots: [Update; Model::COUNTERS], vars: u8) -> bool
     ensures { result ≡ updates_formed vars slots }
 {
     for i in 0..Model::COUNTERS {
-        let s = slots[i];
-        let u = s.update;
+        let u = slots[i];
         if !update_slot_formed(u, i, vars) {
             return false;
         }
@@ -224,8 +217,7 @@ fn order_slot_formed(e: Edge, n: usize, k: usize) -> bool
     if counter as usize >= Model::COUNTERS {
         return false;
     }
-    let s = e.updates[counter as usize];
-    let update = s.update;
+    let update = e.updates[counter as usize];
     let kept = update.is_keep();
     !kept & (place_in(order, counter) == k)
 }
@@ -272,12 +264,11 @@ fn reset_slot_formed(u: ClockUpdate, i: usize, clocks: u8) -> bool
     }
 }
 
-fn resets_formed(slots: [ClockSlot; Model::CLOCKS], clocks: u8) -> bool
+fn resets_formed(slots: [ClockUpdate; Model::CLOCKS], clocks: u8) -> bool
     ensures { result ≡ resets_formed clocks slots }
 {
     for i in 0..Model::CLOCKS {
-        let s = slots[i];
-        let u = s.update;
+        let u = slots[i];
         if !reset_slot_formed(u, i, clocks) {
             return false;
         }

@@ -13,12 +13,12 @@ module _ {ℓ} {A : Type ℓ} where
   any_of p [] = false
   any_of p (x ∷ xs) = p x || any_of p xs
 
+module _ {A : Type 0} where
   -- the list of a value that may be missing
   abbrev pub to_list : Option A → List A
   to_list None = []
   to_list (Some x) = x ∷ []
 
-module _ {A : Type 0} where
   -- every element has the property
   abbrev pub All : (A → Type 0) → List A → Type 0
   All P [] = Unit {0}

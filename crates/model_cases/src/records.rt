@@ -1,9 +1,7 @@
 // Changes to a record: any byte in any field.
 ghost use Rattle.std.specs.Prelude.{◌<◌};
 
-use model::{
-    Atom, AtomSlot, ClockSlot, ClockUpdate, Counter, Invariant, Model, Relation, Update, UpdateSlot,
-};
+use model::{Atom, ClockUpdate, Counter, Invariant, Model, Relation, Update};
 
 // 0 n: a model to begin with.
 fn base(n: u8) -> Model {
@@ -41,24 +39,20 @@ fn relation(n: u8) -> Relation {
 }
 
 // sort index relation constant: no atom, or one on a clock or on a counter.
-fn atom(sort: u8, index: u8, relate: u8, constant: u8) -> AtomSlot {
+fn atom(sort: u8, index: u8, relate: u8, constant: u8) -> Atom {
     let relation = relation(relate);
     match sort {
-        0 => AtomSlot { atom: Atom::Blank },
-        1 => AtomSlot {
-            atom: Atom::OnClock {
+        0 => Atom::Blank,
+        1 => Atom::OnClock {
                 clock: index,
                 relation,
                 constant,
             },
-        },
-        _ => AtomSlot {
-            atom: Atom::OnCounter {
+        _ => Atom::OnCounter {
                 counter: index,
                 relation,
                 constant,
             },
-        },
     }
 }
 
@@ -71,33 +65,21 @@ const OFFSETS: [i8; 69] = [
 ];
 
 // sort number offset: keep, a constant, or a source plus an offset, by its index.
-fn update(sort: u8, n: u8, raised: u8) -> UpdateSlot {
+fn update(sort: u8, n: u8, raised: u8) -> Update {
     let offset = OFFSETS[(raised % 69) as usize];
     match sort {
-        0 => UpdateSlot {
-            update: Update::Keep,
-        },
-        1 => UpdateSlot {
-            update: Update::Constant(n),
-        },
-        _ => UpdateSlot {
-            update: Update::Sum { source: n, offset },
-        },
+        0 => Update::Keep,
+        1 => Update::Constant(n),
+        _ => Update::Sum { source: n, offset },
     }
 }
 
 // sort source: unchanged, a reset, or a copy of a clock.
-fn reset(sort: u8, source: u8) -> ClockSlot {
+fn reset(sort: u8, source: u8) -> ClockUpdate {
     match sort {
-        0 => ClockSlot {
-            update: ClockUpdate::Unchanged,
-        },
-        1 => ClockSlot {
-            update: ClockUpdate::Reset,
-        },
-        _ => ClockSlot {
-            update: ClockUpdate::Copy { source },
-        },
+        0 => ClockUpdate::Unchanged,
+        1 => ClockUpdate::Reset,
+        _ => ClockUpdate::Copy { source },
     }
 }
 
@@ -110,7 +92,7 @@ fn with_counter(mut m: Model, i: usize, greatest: u8, initial: u8) -> Model
 }
 
 // 3 l k atom
-fn with_invariant(mut m: Model, l: usize, k: usize, a: AtomSlot) -> Model
+fn with_invariant(mut m: Model, l: usize, k: usize, a: Atom) -> Model
     requires { (l < 16) × (k < 4) }
 {
     let mut v = m.invariants[l];
@@ -131,7 +113,7 @@ fn with_ends(mut m: Model, e: usize, source: u8, target: u8) -> Model
 }
 
 // 5 e k atom
-fn with_guard(mut m: Model, e: usize, k: usize, a: AtomSlot) -> Model
+fn with_guard(mut m: Model, e: usize, k: usize, a: Atom) -> Model
     requires { (e < 32) × (k < 4) }
 {
     let mut edge = m.edges[e];
@@ -141,7 +123,7 @@ fn with_guard(mut m: Model, e: usize, k: usize, a: AtomSlot) -> Model
 }
 
 // 6 e k update
-fn with_update(mut m: Model, e: usize, k: usize, u: UpdateSlot) -> Model
+fn with_update(mut m: Model, e: usize, k: usize, u: Update) -> Model
     requires { (e < 32) × (k < 4) }
 {
     let mut edge = m.edges[e];
@@ -151,7 +133,7 @@ fn with_update(mut m: Model, e: usize, k: usize, u: UpdateSlot) -> Model
 }
 
 // 7 e k reset
-fn with_reset(mut m: Model, e: usize, k: usize, u: ClockSlot) -> Model
+fn with_reset(mut m: Model, e: usize, k: usize, u: ClockUpdate) -> Model
     requires { (e < 32) × (k < 4) }
 {
     let mut edge = m.edges[e];

@@ -300,20 +300,17 @@ impl GroupTable {
             };
         }
         if j < 6 {
-            let s = e.guard[j - 2];
-            let atom = s.atom;
+            let atom = e.guard[j - 2];
             return self.atom_part(o, atom);
         }
         let i = j - 6;
         if i < self.vars {
-            let s = e.updates[i];
-            let update = s.update;
+            let update = e.updates[i];
             let order = e.order;
             return self.update_part(o, order, i, update);
         }
         let x = i - self.vars;
-        let s = e.resets[x];
-        let update = s.update;
+        let update = e.resets[x];
         self.reset_part(o, x, update)
     }
 }

@@ -4,23 +4,18 @@
 ghost use Rattle.std.specs.Prelude.{◌≡◌};
 ghost use Rattle.samples.specs.Models.{on_clock, edge, model_a, waiting_a, model_b, full_edge, full_model};
 
-use model::{
-    Atom, AtomSlot, ClockSlot, ClockUpdate, Counter, Edge, Invariant, Model, Relation, Update,
-    UpdateSlot,
-};
+use model::{Atom, ClockUpdate, Counter, Edge, Invariant, Model, Relation, Update};
 
 // Four slots of which the first holds an atom on a clock.
-pub fn on_clock(clock: u8, relation: Relation, constant: u8) -> [AtomSlot; Model::ATOMS]
+pub fn on_clock(clock: u8, relation: Relation, constant: u8) -> [Atom; Model::ATOMS]
     ensures { result ≡ on_clock clock relation constant }
 {
-    let mut atoms = [AtomSlot { atom: Atom::Blank }; Model::ATOMS];
-    atoms[0] = AtomSlot {
-        atom: Atom::OnClock {
+    let mut atoms = [Atom::Blank; Model::ATOMS];
+    atoms[0] = Atom::OnClock {
             clock,
             relation,
             constant,
-        },
-    };
+        };
     atoms
 }
 
@@ -28,20 +23,16 @@ pub fn on_clock(clock: u8, relation: Relation, constant: u8) -> [AtomSlot; Model
 pub fn edge_of(
     source: u8,
     target: u8,
-    guard: [AtomSlot; Model::ATOMS],
+    guard: [Atom; Model::ATOMS],
     update: Update,
     reset: ClockUpdate,
 ) -> Edge
     ensures { result ≡ edge source target guard update reset }
 {
-    let mut updates = [UpdateSlot {
-        update: Update::Keep,
-    }; Model::COUNTERS];
-    updates[0] = UpdateSlot { update };
-    let mut resets = [ClockSlot {
-        update: ClockUpdate::Unchanged,
-    }; Model::CLOCKS];
-    resets[0] = ClockSlot { update: reset };
+    let mut updates = [Update::Keep; Model::COUNTERS];
+    updates[0] = update;
+    let mut resets = [ClockUpdate::Unchanged; Model::CLOCKS];
+    resets[0] = reset;
     Edge {
         source,
         target,
@@ -56,7 +47,7 @@ pub fn edge_of(
 pub fn model_a() -> Model
     ensures { result ≡ model_a }
 {
-    let none = [AtomSlot { atom: Atom::Blank }; Model::ATOMS];
+    let none = [Atom::Blank; Model::ATOMS];
     let mut m = Model::blank();
     m.locations = 2;
     m.target = 1;
@@ -80,7 +71,7 @@ pub fn waiting_a() -> Model
 pub fn model_b() -> Model
     ensures { result ≡ model_b }
 {
-    let none = [AtomSlot { atom: Atom::Blank }; Model::ATOMS];
+    let none = [Atom::Blank; Model::ATOMS];
     let mut m = Model::blank();
     m.locations = 4;
     m.target = 3;
@@ -110,19 +101,13 @@ pub fn model_b() -> Model
 fn full_edge() -> Edge
     ensures { result ≡ full_edge }
 {
-    let test = AtomSlot {
-        atom: Atom::OnCounter {
+    let test = Atom::OnCounter {
             counter: 3,
             relation: Relation::Equal,
             constant: Model::COUNTER_VALUE,
-        },
-    };
-    let update = UpdateSlot {
-        update: Update::Constant(Model::COUNTER_VALUE),
-    };
-    let reset = ClockSlot {
-        update: ClockUpdate::Reset,
-    };
+        };
+    let update = Update::Constant(Model::COUNTER_VALUE);
+    let reset = ClockUpdate::Reset;
     Edge {
         source: 15,
         target: 15,
@@ -138,13 +123,11 @@ fn full_edge() -> Edge
 pub fn full_model() -> Model
     ensures { result ≡ full_model }
 {
-    let atom = AtomSlot {
-        atom: Atom::OnClock {
+    let atom = Atom::OnClock {
             clock: 3,
             relation: Relation::LessEqual,
             constant: Model::CLOCK_CONSTANT,
-        },
-    };
+        };
     let counter = Counter {
         greatest: Model::COUNTER_VALUE,
         initial: Model::COUNTER_VALUE,

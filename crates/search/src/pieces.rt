@@ -16,7 +16,7 @@ ghost use Rattle.parts.specs.PartsOf.{atom_part};
 ghost use Rattle.parts.specs.Pieces.{Known, BlockIn, StepIn, group_piece, atom_piece, delay_piece, delay_pieces, front_piece};
 
 use crate::truth::{PieceCheck, check_group, check_part, is_true};
-use model::{AtomSlot, Model};
+use model::{Atom, Model};
 use parts::GroupTable;
 
 // The group clauses of the state block that begins at `o`.
@@ -46,7 +46,7 @@ fn check_atoms(
     a: &[u8],
     o: usize,
     x: usize,
-    atoms: [AtomSlot; Model::ATOMS],
+    atoms: [Atom; Model::ATOMS],
     at: usize,
 ) -> PieceCheck
     requires { Bounded b × (o ≤ most_variables) × (x < length a.now)
@@ -55,8 +55,7 @@ fn check_atoms(
 {
     let mut count = at;
     for k in 0..Model::ATOMS {
-        let slot = atoms[k];
-        let atom = slot.atom;
+        let atom = atoms[k];
         let s = check_part(a, x, b.atom_part(o, atom), count);
         if !s.ok {
             return s;

@@ -7,7 +7,7 @@ ghost use Rattle.search.specs.Limits.{most_group_clauses, most_part_clauses, mos
 ghost use Rattle.parts.specs.Rules.{rule_clauses, value_clauses, part_clauses, Fits};
 
 use model::Relation;
-use new_values::{NewValue, shift};
+use new_values::shift;
 use parts::{Part, Rule, smaller};
 
 // A piece of the list has been checked: whether all its clauses are true, and the count of clauses where the check stopped.
@@ -153,8 +153,8 @@ fn check_shifted(
     ensures { Checked a.now (rule_clauses x y after v (Rule.Shift offset greatest)) at 1 result }
 {
     match shift(offset, greatest, v) {
-        NewValue::OutOfRange => counted(not_both(a, x, y), at),
-        NewValue::Value(u) => counted(both_lead(a, x, y, after + u as usize), at),
+        None => counted(not_both(a, x, y), at),
+        Some(u) => counted(both_lead(a, x, y, after + u as usize), at),
     }
 }
 

@@ -7,7 +7,7 @@ ghost use Rattle.text.specs.atoms.OnePass.{stored_atom, pushed, absorbed, no_ato
 
 use crate::bytes;
 use crate::bytes::{Faults, NumberRead};
-use model::{Atom, AtomSlot, Model, Relation};
+use model::{Atom, Model, Relation};
 
 // The relation that some bytes begin with, and how many of them it takes.
 #[derive(Clone, Copy)]
@@ -37,7 +37,7 @@ pub enum AtomRead {
 #[derive(Clone, Copy)]
 pub struct AtomValue {
     pub faults: Faults,
-    pub atoms: [AtomSlot; Model::ATOMS],
+    pub atoms: [Atom; Model::ATOMS],
 }
 
 // What one pass over the items collects.
@@ -45,7 +45,7 @@ pub struct AtomValue {
 pub(crate) struct AtomsRead {
     faults: Faults,
     count: usize,
-    atoms: [AtomSlot; Model::ATOMS],
+    atoms: [Atom; Model::ATOMS],
 }
 
 fn relation(a: u8, b: u8) -> RelationRead
@@ -293,12 +293,12 @@ fn item(s: &[u8], counters: bool) -> AtomRead
     if counters { a } else { a.on_clocks() }
 }
 
-fn push(atoms: [AtomSlot; Model::ATOMS], k: usize, a: Atom) -> [AtomSlot; Model::ATOMS]
+fn push(atoms: [Atom; Model::ATOMS], k: usize, a: Atom) -> [Atom; Model::ATOMS]
     ensures { result ≡ pushed atoms k a }
 {
     let mut slots = atoms;
     if k < Model::ATOMS {
-        slots[k] = AtomSlot { atom: a };
+        slots[k] = a;
     }
     slots
 }
@@ -308,7 +308,7 @@ impl AtomsRead {
         ensures { result ≡ no_atoms }
     {
         let faults = Faults::none();
-        let slot = AtomSlot { atom: Atom::Blank };
+        let slot = Atom::Blank;
         AtomsRead {
             faults,
             count: 0,
@@ -346,7 +346,7 @@ impl AtomsRead {
             let atoms = self.atoms;
             AtomValue { faults, atoms }
         } else {
-            let slot = AtomSlot { atom: Atom::Blank };
+            let slot = Atom::Blank;
             AtomValue {
                 faults,
                 atoms: [slot; Model::ATOMS],

@@ -7,7 +7,7 @@ ghost use Rattle.text.specs.lines.Readings.{Placed, Reads};
 
 use crate::lines::Reading;
 use crate::{atoms, line, resets, updates};
-use model::{AtomSlot, ClockSlot, Model, UpdateSlot};
+use model::{Atom, ClockUpdate, Model, Update};
 
 fn with_source(m: Model, e: usize, n: u8) -> Model
     ensures { result ≡ with_source m e n }
@@ -45,7 +45,7 @@ fn with_label(m: Model, e: usize, n: u8) -> Model
     next
 }
 
-fn with_guard(m: Model, e: usize, atoms: [AtomSlot; Model::ATOMS]) -> Model
+fn with_guard(m: Model, e: usize, atoms: [Atom; Model::ATOMS]) -> Model
     ensures { result ≡ with_guard m e atoms }
 {
     let mut next = m;
@@ -60,7 +60,7 @@ fn with_guard(m: Model, e: usize, atoms: [AtomSlot; Model::ATOMS]) -> Model
 fn with_updates(
     m: Model,
     e: usize,
-    updates: [UpdateSlot; Model::COUNTERS],
+    updates: [Update; Model::COUNTERS],
     order: [u8; Model::COUNTERS],
 ) -> Model
     ensures { result ≡ with_updates m e updates order }
@@ -75,7 +75,7 @@ fn with_updates(
     next
 }
 
-fn with_resets(m: Model, e: usize, resets: [ClockSlot; Model::CLOCKS]) -> Model
+fn with_resets(m: Model, e: usize, resets: [ClockUpdate; Model::CLOCKS]) -> Model
     ensures { result ≡ with_resets m e resets }
 {
     let mut next = m;

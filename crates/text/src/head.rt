@@ -7,7 +7,7 @@ ghost use Rattle.text.specs.lines.Readings.{Placed, Reads};
 
 use crate::lines::Reading;
 use crate::{atoms, line};
-use model::{AtomSlot, Counter, Invariant, Model};
+use model::{Atom, Counter, Invariant, Model};
 
 fn with_counter(m: Model, i: usize, c: Counter) -> Model
     ensures { result ≡ with_counter m i c }
@@ -19,7 +19,7 @@ fn with_counter(m: Model, i: usize, c: Counter) -> Model
     next
 }
 
-fn with_invariant(m: Model, l: usize, atoms: [AtomSlot; Model::ATOMS]) -> Model
+fn with_invariant(m: Model, l: usize, atoms: [Atom; Model::ATOMS]) -> Model
     ensures { result ≡ with_invariant m l atoms }
 {
     let mut next = m;

@@ -7,7 +7,7 @@ ghost use Rattle.text.specs.resets.OnePass.{stored_update, put, absorbed, no_res
 
 use crate::bytes;
 use crate::bytes::{Faults, NumberRead};
-use model::{ClockSlot, ClockUpdate, Model};
+use model::{ClockUpdate, Model};
 
 // One item of the line.
 #[derive(Clone, Copy)]
@@ -21,7 +21,7 @@ pub enum ResetRead {
 #[derive(Clone, Copy)]
 pub struct ResetValue {
     pub faults: Faults,
-    pub resets: [ClockSlot; Model::CLOCKS],
+    pub resets: [ClockUpdate; Model::CLOCKS],
 }
 
 // What one pass over the items collects. `least` is the least clock that may be set next.
@@ -29,7 +29,7 @@ pub struct ResetValue {
 pub(crate) struct ResetsRead {
     faults: Faults,
     least: u32,
-    resets: [ClockSlot; Model::CLOCKS],
+    resets: [ClockUpdate; Model::CLOCKS],
 }
 
 fn reset_named(x: NumberRead) -> ResetRead
@@ -147,12 +147,12 @@ impl ResetRead {
     }
 }
 
-fn put(slots: [ClockSlot; Model::CLOCKS], k: usize, u: ClockUpdate) -> [ClockSlot; Model::CLOCKS]
+fn put(slots: [ClockUpdate; Model::CLOCKS], k: usize, u: ClockUpdate) -> [ClockUpdate; Model::CLOCKS]
     ensures { result ≡ put slots k u }
 {
     let mut resets = slots;
     if k < Model::CLOCKS {
-        resets[k] = ClockSlot { update: u };
+        resets[k] = u;
     }
     resets
 }
@@ -162,9 +162,7 @@ impl ResetsRead {
         ensures { result ≡ no_resets }
     {
         let faults = Faults::none();
-        let slot = ClockSlot {
-            update: ClockUpdate::Unchanged,
-        };
+        let slot = ClockUpdate::Unchanged;
         ResetsRead {
             faults,
             least: 0,
@@ -202,9 +200,7 @@ impl ResetsRead {
             let resets = self.resets;
             ResetValue { faults, resets }
         } else {
-            let slot = ClockSlot {
-                update: ClockUpdate::Unchanged,
-            };
+            let slot = ClockUpdate::Unchanged;
             ResetValue {
                 faults,
                 resets: [slot; Model::CLOCKS],

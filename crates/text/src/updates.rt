@@ -7,7 +7,7 @@ ghost use Rattle.text.specs.updates.OnePass.{stored_offset, stored_update, put, 
 
 use crate::bytes;
 use crate::bytes::{Faults, NumberRead};
-use model::{Model, Update, UpdateSlot};
+use model::{Model, Update};
 
 // One item of the line.
 #[derive(Clone, Copy)]
@@ -29,7 +29,7 @@ pub enum SetRead {
 #[derive(Clone, Copy)]
 pub struct SetValue {
     pub faults: Faults,
-    pub updates: [UpdateSlot; Model::COUNTERS],
+    pub updates: [Update; Model::COUNTERS],
     pub order: [u8; Model::COUNTERS],
 }
 
@@ -37,7 +37,7 @@ pub struct SetValue {
 #[derive(Clone, Copy)]
 pub(crate) struct SetsRead {
     faults: Faults,
-    updates: [UpdateSlot; Model::COUNTERS],
+    updates: [Update; Model::COUNTERS],
     count: usize,
     order: [u8; Model::COUNTERS],
 }
@@ -254,23 +254,22 @@ impl SetRead {
     }
 }
 
-fn put(slots: [UpdateSlot; Model::COUNTERS], k: usize, u: Update) -> [UpdateSlot; Model::COUNTERS]
+fn put(slots: [Update; Model::COUNTERS], k: usize, u: Update) -> [Update; Model::COUNTERS]
     ensures { result ≡ put slots k u }
 {
     let mut updates = slots;
     if k < Model::COUNTERS {
-        updates[k] = UpdateSlot { update: u };
+        updates[k] = u;
     }
     updates
 }
 
 // Whether counter k is set.
-fn is_set(slots: [UpdateSlot; Model::COUNTERS], k: usize) -> bool
+fn is_set(slots: [Update; Model::COUNTERS], k: usize) -> bool
     ensures { result ≡ is_set slots k }
 {
     if k < Model::COUNTERS {
-        let slot = slots[k];
-        let update = slot.update;
+        let update = slots[k];
         !update.is_keep()
     } else {
         false
@@ -293,9 +292,7 @@ impl SetsRead {
         ensures { result ≡ no_sets }
     {
         let faults = Faults::none();
-        let slot = UpdateSlot {
-            update: Update::Keep,
-        };
+        let slot = Update::Keep;
         SetsRead {
             faults,
             updates: [slot; Model::COUNTERS],
@@ -344,9 +341,7 @@ impl SetsRead {
                 order,
             }
         } else {
-            let slot = UpdateSlot {
-                update: Update::Keep,
-            };
+            let slot = Update::Keep;
             SetValue {
                 faults,
                 updates: [slot; Model::COUNTERS],

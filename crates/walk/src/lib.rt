@@ -2,13 +2,13 @@
 #![tactic(auto)]
 
 ghost use Rattle.std.specs.Prelude.{◌≡◌, ◌≤◌, T, length};
-ghost use Rattle.model.specs.Automaton.{ceiling, step, stepped};
+ghost use Rattle.model.specs.Automaton.{ceiling, step};
 ghost use Rattle.model.specs.Form.{well_formed};
 ghost use Rattle.walk.specs.StepCall.{step_report, step_number, step_told};
 ghost use Rattle.walk.specs.Walker.{walk_steps, walk_report, walk_told};
 
 use form::{state_formed, well_formed};
-use model::{Model, State, Stepped};
+use model::{Model, State};
 
 // What became of one step byte.
 #[derive(Clone, Copy)]
@@ -84,9 +84,9 @@ impl Verdict {
 }
 
 // One step byte of a well-formed model with the ceiling `top`.
-pub fn advance(m: Model, top: u8, s: State, byte: u8) -> Stepped
+pub fn advance(m: Model, top: u8, s: State, byte: u8) -> Option<State>
     requires { T (well_formed m) × (top ≡ ceiling m) }
-    ensures { result ≡ stepped s (step m s byte) }
+    ensures { result ≡ step m s byte }
 {
     if byte <= top {
         return s.delay(m, top, byte);
@@ -96,10 +96,7 @@ pub fn advance(m: Model, top: u8, s: State, byte: u8) -> Stepped
         let edge = m.edges[e];
         return s.edge(m, edge);
     }
-    Stepped {
-        allowed: false,
-        state: s,
-    }
+    None
 }
 
 // The step call: 20, 10, 27, 28.
@@ -126,16 +123,15 @@ pub fn step(m: Model, s: State, byte: u8) -> StepAnswer
         };
     }
     let next = advance(m, z.ceiling as u8, s, byte);
-    let state = next.state;
-    if !next.allowed {
-        return StepAnswer {
+    match next {
+        Some(state) => StepAnswer {
+            outcome: StepOutcome::Taken,
+            state,
+        },
+        None => StepAnswer {
             outcome: StepOutcome::NotAllowed,
             state: s,
-        };
-    }
-    StepAnswer {
-        outcome: StepOutcome::Taken,
-        state,
+        },
     }
 }
 
@@ -153,12 +149,10 @@ fn walk_from(m: Model, first: State, run: &[u8]) -> Verdict
         if choices <= byte as usize {
             return Verdict::NoSuchChoice { step: t as u8 + 1 };
         }
-        let next = advance(m, top, s, byte);
-        if !next.allowed {
-            return Verdict::NotAllowed { step: t as u8 + 1 };
+        match advance(m, top, s, byte) {
+            Some(next) => s = next,
+            None => return Verdict::NotAllowed { step: t as u8 + 1 },
         }
-        let state = next.state;
-        s = state;
     }
     if s.location != m.target {
         return Verdict::NotInTarget;
