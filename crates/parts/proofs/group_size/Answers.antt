@@ -16,8 +16,7 @@ returns-then-g-m c =
     (size_counter _ _ c.if-g-eq0.false here, omega (arith, (formed _ c.requires.0).greatest_le _ here))
 
 pub returns-else-g-m : goal.returns-else-g-m
-returns-else-g-m c =
-    (
-      ap (λ (n : ℕ). n + 1) c.requires.1 ∙ size_clock _ _ c.if-g-eq0.false (omega (arith, c.if-g-m.false)),
-      omega (arith, c.requires.1, (formed _ c.requires.0).ceiling_le),
-    )
+returns-else-g-m c = (
+  ap (λ (n : ℕ). n + 1) c.requires.1 ∙ size_clock _ _ c.if-g-eq0.false (omega (arith, c.if-g-m.false)),
+  omega (arith, c.requires.1, (formed _ c.requires.0).ceiling_le),
+)
