@@ -69,7 +69,8 @@ two_or_more c (pos (suc n)) e z = omega (arith, e)
 two_or_more c (negsuc n) e z = omega (arith, e)
 
 -- the word at place i, whose code is c
-module _ (ws : List ℤ) (i c : ℕ) (l : i < length ws) (fits : SFits w32 (get_or ws i (pos 0))) (read : c ≡ code_of (to_z w32 (of_z w32 (get_or ws i (pos 0))))) where
+module _ (ws : List ℤ) (i c : ℕ) (l : i < length ws) (fits : SFits w32 (get_or ws i (pos 0)))
+    (read : c ≡ code_of (to_z w32 (of_z w32 (get_or ws i (pos 0))))) where
   e : c ≡ code_of (get_or ws i (pos 0))
   e = grind (arith, to_z-of_z)
 
@@ -231,50 +232,53 @@ pub record Following (ws : List ℤ) (n : ℕ) (hs ms : List ℕ) (at s end j : 
   pub shows : Shows ms s taken
   pub same : follows ws n (literals (drop n ws) []) hs ≡ follows ws at taken (drop j hs)
 
-module _ (ws : List ℤ) (n : ℕ) (hs ms : List ℕ) (at s end j h : ℕ) (v : Following ws n hs ms at s end j) (l : j < length hs) (e : h ≡ get_or hs j 0) where
+module _ {ws : List ℤ} {n : ℕ} {hs ms : List ℕ} {at s end j : ℕ} (v : Following ws n hs ms at s end j) (l : j < length hs) where
   abbrev whole : Bool
   whole = follows ws n (literals (drop n ws) []) hs
 
+  abbrev h : ℕ
+  h = get_or hs j 0
+
   pub turn_late : begins ws at h ≡ false → false ≡ whole
-  turn_late t = sym (v.same ∙ hint_late ws at v.taken hs j h l e t)
+  turn_late t = sym (v.same ∙ hint_late ws at v.taken hs j h l refl t)
 
   -- the hint names a clause before the lemma, of which r is left
-  module _ (begun : begins ws at h ≡ true) (r : ℕ) (left_is : r ≡ left (marked ms s) 0 (drop h ws)) where
+  module _ (begun : begins ws at h ≡ true) {r : ℕ} (left_is : r ≡ left (marked ms s) 0 (drop h ws)) where
     remains_is : r ≡ left (λ c. is_in c v.taken) 0 (drop h ws)
     remains_is = left_is ∙ shows_left ms s v.taken v.shows 0 (drop h ws)
 
     pub turn_more : r ≡ 1 → false ≡ whole
-    turn_more o = sym (v.same ∙ hint_more ws at v.taken hs j h l e begun (sym remains_is ∙ o))
+    turn_more o = sym (v.same ∙ hint_more ws at v.taken hs j h l refl begun (sym remains_is ∙ o))
 
     pub turn_done : r ≡ 0 → end ≡ at → true ≡ whole
-    turn_done o z = sym (v.same ∙ hint_done ws at v.taken hs j h l e begun (sym remains_is ∙ o) (omega (arith, v.ends)))
+    turn_done o z = sym (v.same ∙ hint_done ws at v.taken hs j h l refl begun (sym remains_is ∙ o) (omega (arith, v.ends)))
 
     pub turn_ends : r ≡ 0 → (end ≡ at → ⊥) → length ws ≤ end + 1 → false ≡ whole
     turn_ends o z g =
-        sym (v.same ∙ hint_ends ws at v.taken hs j h l e begun (sym remains_is ∙ o) (λ q. z (omega (arith, v.ends, q))) (omega (arith, v.ends)))
+        sym (v.same ∙ hint_ends ws at v.taken hs j h l refl begun (sym remains_is ∙ o) (λ q. z (omega (arith, v.ends, q))) (omega (arith, v.ends)))
 
-    pub turn_next : r ≡ 0 → (end ≡ at → ⊥) → end + 1 < length ws → (new : List ℕ) (s' end' : ℕ) → end' ≡ end + 1 + span (drop (end + 1) ws)
+    pub turn_next : r ≡ 0 → (end ≡ at → ⊥) → end + 1 < length ws → {new : List ℕ} {s' end' : ℕ} → end' ≡ end + 1 + span (drop (end + 1) ws)
         → Shows new s' (literals (drop (end + 1) ws) []) → Following ws n hs new (end + 1) s' end' (j + 1)
-    turn_next o z g new s' end' ends shows =
+    turn_next o z g ends shows =
         let to : next_at ws at ≡ end + 1 = omega (arith, v.ends) in
         record {
           in_words = g;
           ends = ends;
           taken = literals (drop (end + 1) ws) [];
           shows = shows;
-          same = v.same ∙ hint_next ws at v.taken hs j h l e begun (sym remains_is ∙ o) (λ q. z (omega (arith, v.ends, q))) (omega arith)
+          same = v.same ∙ hint_next ws at v.taken hs j h l refl begun (sym remains_is ∙ o) (λ q. z (omega (arith, v.ends, q))) (omega arith)
               ∙ ap (λ (p : ℕ). follows ws p (literals (drop p ws) []) (drop (j + 1) hs)) to;
         }
 
-    pub turn_only : 2 ≤ r → (o : ℕ) → o ≡ opposite r → o < length ms → Following ws n hs (set ms o s) at s end (j + 1)
-    turn_only p o o_is m =
+    pub turn_only : 2 ≤ r → {o : ℕ} → o ≡ opposite r → o < length ms → Following ws n hs (set ms o s) at s end (j + 1)
+    turn_only p o_is m =
         record {
           in_words = v.in_words;
           ends = v.ends;
-          taken = o ∷ v.taken;
-          shows = shows_set ms s v.taken v.shows o m;
-          same = v.same ∙ hint_only ws at v.taken hs j h l e begun (λ q. omega (arith, remains_is, q)) (λ q. omega (arith, remains_is, q))
-              ∙ ap (λ (x : ℕ). follows ws at (x ∷ v.taken) (drop (j + 1) hs)) (ap opposite (sym remains_is) ∙ sym o_is);
+          taken = opposite r ∷ v.taken;
+          shows = rw o_is (shows_set ms s v.taken v.shows (opposite r) (rw o_is at m));
+          same = v.same ∙ hint_only ws at v.taken hs j h l refl begun (λ q. omega (arith, remains_is, q)) (λ q. omega (arith, remains_is, q))
+              ∙ ap (λ (x : ℕ). follows ws at (opposite x ∷ v.taken) (drop (j + 1) hs)) (sym remains_is);
         }
 
 -- ---- the call

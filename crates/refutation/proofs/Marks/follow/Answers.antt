@@ -22,16 +22,16 @@ pub begins-requires : goal.begins-requires
 begins-requires c = omega (arith, c.loop-hint.invariant.follows.in_words)
 
 pub returns-then-not-begins : goal.returns-then-not-begins
-returns-then-not-begins c = turn_late _ _ _ _ _ _ _ _ _ c.loop-hint.invariant.follows c.loop-hint-test.true refl (sym c.begins.ensures ∙ c.if-not-begins.true)
+returns-then-not-begins c = turn_late c.loop-hint.invariant.follows c.loop-hint-test.true (sym c.if-not-begins.ensures)
 
 pub left-requires : goal.left-requires
 left-requires c =
     rw c.loop-hint.invariant.kept
-    (omega (arith, c.loop-hint.invariant.follows.in_words, begins_before _ _ _ (is_T _ (sym c.begins.ensures ∙ c.if-not-begins.false))))
+    (omega (arith, c.loop-hint.invariant.follows.in_words, begins_before _ _ _ (is_T _ (sym c.if-not-begins.ensures))))
 
 pub returns-in-Several : goal.returns-in-Several
 returns-in-Several c =
-    turn_more _ _ _ _ _ _ _ _ _ c.loop-hint.invariant.follows c.loop-hint-test.true refl (sym c.begins.ensures ∙ c.if-not-begins.false) 1
+    turn_more c.loop-hint.invariant.follows c.loop-hint-test.true (sym c.if-not-begins.ensures)
     (rw c.loop-hint.invariant.kept at c.in-Several.ensures.number) refl
 
 pub bounds-self-opposite : goal.bounds-self-opposite
@@ -39,15 +39,19 @@ bounds-self-opposite c = rw c.opposite.ensures (opposite_below _ c.in-One.ensure
 
 pub returns-in-Nothing : goal.returns-in-Nothing
 returns-in-Nothing c =
-    turn_done _ _ _ _ _ _ _ _ _ c.loop-hint.invariant.follows c.loop-hint-test.true refl (sym c.begins.ensures ∙ c.if-not-begins.false) 0
+    turn_done c.loop-hint.invariant.follows c.loop-hint-test.true (sym c.if-not-begins.ensures)
     (rw c.loop-hint.invariant.kept at c.in-Nothing.ensures.number) refl c.if-end-at.true
 
 pub overflow_add-at : goal.overflow_add-at
-overflow_add-at c = record { fits = omega (arith, c.loop-hint.invariant.follows.ends, span_fits (drop c.loop-hint.at c.args.self.now.words.now), length-drop c.loop-hint.at c.args.self.now.words.now) }
+overflow_add-at c =
+    let words = c.args.self.now.words.now in
+    record {
+      fits = omega (arith, c.loop-hint.invariant.follows.ends, span_fits (drop c.loop-hint.at words), length-drop c.loop-hint.at words);
+    }
 
 pub returns-then-at-words : goal.returns-then-at-words
 returns-then-at-words c =
-    turn_ends _ _ _ _ _ _ _ _ _ c.loop-hint.invariant.follows c.loop-hint-test.true refl (sym c.begins.ensures ∙ c.if-not-begins.false) 0
+    turn_ends c.loop-hint.invariant.follows c.loop-hint-test.true (sym c.if-not-begins.ensures)
     (rw c.loop-hint.invariant.kept at c.in-Nothing.ensures.number) refl c.if-end-at.false c.if-at-words.true
 
 pub take-end-requires-in-Nothing-2 : goal.take-end-requires-in-Nothing-2
@@ -58,13 +62,14 @@ loop-hint-preserved c =
     elim c.match-left.branch [
       | in-One w ↦ rw (w.self-is, w.at-is, w.end-is) (record {
         kept = c.loop-hint.invariant.kept;
-        follows = turn_only _ _ _ _ _ _ _ _ _ c.loop-hint.invariant.follows c.loop-hint-test.true refl (sym c.begins.ensures ∙ c.if-not-begins.false) _
-            (rw c.loop-hint.invariant.kept at w.in-One.ensures.number) w.in-One.ensures.below.0 _ w.opposite.ensures (omega (arith, w.opposite.ensures, opposite_below _ w.in-One.ensures.below.1));
+        follows = turn_only c.loop-hint.invariant.follows c.loop-hint-test.true (sym c.if-not-begins.ensures)
+            (rw c.loop-hint.invariant.kept at w.in-One.ensures.number) w.in-One.ensures.below.0 w.opposite.ensures
+            (omega (arith, w.opposite.ensures, opposite_below _ w.in-One.ensures.below.1));
       })
       | in-Nothing-2+else-at-words w ↦ rw (w.self-is, w.at-is, w.end-is) (record {
         kept = w.take-end-in-Nothing-2.ensures.same ∙ c.loop-hint.invariant.kept;
-        follows = turn_next _ _ _ _ _ _ _ _ _ c.loop-hint.invariant.follows c.loop-hint-test.true refl (sym c.begins.ensures ∙ c.if-not-begins.false) 0
-            (rw c.loop-hint.invariant.kept at w.in-Nothing-2.ensures.number) refl w.if-end-at.false w.if-at-words.false _ _ _
+        follows = turn_next c.loop-hint.invariant.follows c.loop-hint-test.true (sym c.if-not-begins.ensures)
+            (rw c.loop-hint.invariant.kept at w.in-Nothing-2.ensures.number) refl w.if-end-at.false w.if-at-words.false
             (rw c.loop-hint.invariant.kept at w.take-end-in-Nothing-2.ensures.ends) (rw c.loop-hint.invariant.kept at w.take-end-in-Nothing-2.ensures.shows);
       })
     ]

@@ -26,7 +26,10 @@ loop-word-preserved c =
           ] in rw w.only-is (record {
             same = c.loop-word.invariant.same ∙ left_takes _ _ _ c.loop-word-test.true (search rules) c.code-literal.ensures _ _ c.if-literal-eq0.false
                 (ne_eqb _ _ w.if-self-literal.true) same;
-            alone = (not_one _ _ _ c.loop-word-test.true (search rules) c.code-literal.ensures c.if-literal-eq0.false, has_mark _ _ _ c.loop-word-test.true (search rules) c.code-literal.ensures _ refl (below_rest _ _ _ c.args.self.now.within));
+            alone = (
+              not_one _ _ _ c.loop-word-test.true (search rules) c.code-literal.ensures c.if-literal-eq0.false,
+              has_mark _ _ _ c.loop-word-test.true (search rules) c.code-literal.ensures _ refl (below_rest _ _ _ c.args.self.now.within),
+            );
           })
       | else-self-literal w ↦ rw w.only-is (record {
         same = c.loop-word.invariant.same ∙ left_skip _ _ _ c.loop-word-test.true (search rules) c.code-literal.ensures _ _ c.if-literal-eq0.false
