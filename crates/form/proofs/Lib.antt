@@ -1,1 +1,1 @@
-pub mod FormParts
+pub mod BoundLaws

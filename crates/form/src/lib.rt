@@ -3,23 +3,11 @@
 
 ghost use Rattle.std.specs.Prelude.{◌≡◌, cond, ◌<◌, ltb};
 ghost use Rattle.model.specs.Automaton.{listed};
-ghost use Rattle.model.specs.Form.{is_not_equal, atom_formed, is_blank, no_gap, each_formed, filled_from_first, atoms_formed, counter_formed, is_blank_counter, counter_slot_formed, counters_formed, invariants_formed, update_formed, clock_update_formed, is_unchanged, update_slot_formed, updates_formed, order_slot_formed, order_formed, reset_slot_formed, resets_formed, edge_formed, is_blank_edge, edges_formed, head_formed, well_formed, slot_in_group, counters_in_group, clocks_in_group, state_formed};
+ghost use Rattle.form.specs.BoundCheck.{list_refusal_number, bound_checked};
+ghost use Rattle.model.specs.Form.{atom_formed, is_blank, no_gap, each_formed, filled_from_first, atoms_formed, counter_formed, is_blank_counter, counter_slot_formed, counters_formed, invariants_formed, update_formed, clock_update_formed, update_slot_formed, updates_formed, order_slot_formed, order_formed, reset_slot_formed, resets_formed, edge_formed, is_blank_edge, edges_formed, head_formed, well_formed, slot_in_group, counters_in_group, clocks_in_group, state_formed};
 
 use model::updates::place_in;
 use model::{Atom, ClockUpdate, Counter, Edge, Model, Relation, State, Update};
-
-fn is_not_equal(r: Relation) -> bool
-    ensures { result ≡ is_not_equal r }
-{
-    match r {
-        Relation::NotEqual => true,
-        Relation::Less => false,
-        Relation::LessEqual => false,
-        Relation::Equal => false,
-        Relation::GreaterEqual => false,
-        Relation::Greater => false,
-    }
-}
 
 fn atom_formed(a: Atom, clocks: u8, vars: u8) -> bool
     ensures { result ≡ atom_formed clocks vars a }
@@ -31,15 +19,10 @@ fn atom_formed(a: Atom, clocks: u8, vars: u8) -> bool
             relation,
             constant,
         } => {
-            if clock >= clocks {
-                return false;
-            }
-            constant <= Model::CLOCK_CONSTANT && !is_not_equal(relation)
+            clock < clocks && constant <= Model::CLOCK_CONSTANT && relation != Relation::NotEqual
         }
         Atom::OnCounter {
-            counter,
-            relation: _,
-            constant,
+            counter, constant, ..
         } => counter < vars && constant <= Model::COUNTER_VALUE,
     }
 }
@@ -48,64 +31,35 @@ fn atom_formed(a: Atom, clocks: u8, vars: u8) -> bool
 pub fn is_blank(a: Atom) -> bool
     ensures { result ≡ is_blank a }
 {
-    match a {
-        Atom::Blank => true,
-        Atom::OnClock {
-            clock: _,
-            relation: _,
-            constant: _,
-        } => false,
-        Atom::OnCounter {
-            counter: _,
-            relation: _,
-            constant: _,
-        } => false,
-    }
+    matches!(a, Atom::Blank)
 }
 
 // No atom stands after a blank slot.
 fn no_gap(before: Atom, after: Atom) -> bool
     ensures { result ≡ no_gap before after }
 {
-    if is_blank(before) {
-        is_blank(after)
-    } else {
-        true
-    }
+    !is_blank(before) || is_blank(after)
 }
 
 fn each_formed(atoms: [Atom; Model::ATOMS], clocks: u8, vars: u8) -> bool
     ensures { result ≡ each_formed clocks vars atoms }
 {
-    for k in 0..Model::ATOMS {
-        let atom = atoms[k];
-        if !atom_formed(atom, clocks, vars) {
-            return false;
-        }
-    }
-    true
+    atoms
+        .iter()
+        .all(|atom| atom_formed(*atom, clocks, vars))
 }
 
 fn filled_from_first(atoms: [Atom; Model::ATOMS]) -> bool
     ensures { result ≡ filled_from_first atoms }
 {
-    for k in 0..Model::ATOMS - 1 {
-        let before = atoms[k];
-        let after = atoms[k + 1];
-        if !no_gap(before, after) {
-            return false;
-        }
-    }
-    true
+    let [first, second, third, fourth] = atoms;
+    no_gap(first, second) && no_gap(second, third) && no_gap(third, fourth)
 }
 
 fn atoms_formed(atoms: [Atom; Model::ATOMS], clocks: u8, vars: u8) -> bool
     ensures { result ≡ atoms_formed clocks vars atoms }
 {
-    if !each_formed(atoms, clocks, vars) {
-        return false;
-    }
-    filled_from_first(atoms)
+    each_formed(atoms, clocks, vars) && filled_from_first(atoms)
 }
 
 fn counter_formed(c: Counter) -> bool
@@ -133,13 +87,10 @@ fn counter_slot_formed(c: Counter, i: usize, vars: u8) -> bool
 fn counters_formed(counters: [Counter; Model::COUNTERS], vars: u8) -> bool
     ensures { result ≡ counters_formed vars counters }
 {
-    for i in 0..Model::COUNTERS {
-        let c = counters[i];
-        if !counter_slot_formed(c, i, vars) {
-            return false;
-        }
-    }
-    true
+    counters
+        .iter()
+        .enumerate()
+        .all(|(i, counter)| counter_slot_formed(*counter, i, vars))
 }
 
 fn invariant_slot_formed(
@@ -160,14 +111,10 @@ fn invariant_slot_formed(
 fn invariants_formed(m: Model) -> bool
     ensures { result ≡ invariants_formed m }
 {
-    for l in 0..Model::LOCATIONS {
-        let v = m.invariants[l];
-        let atoms = v.atoms;
-        if !invariant_slot_formed(atoms, l, m.locations, m.clocks) {
-            return false;
-        }
-    }
-    true
+    m.invariants
+        .iter()
+        .enumerate()
+        .all(|(l, invariant)| invariant_slot_formed(invariant.atoms, l, m.locations, m.clocks))
 }
 
 fn update_formed(u: Update, vars: u8) -> bool
@@ -195,13 +142,10 @@ fn update_slot_formed(u: Update, i: usize, vars: u8) -> bool
 fn updates_formed(slots: [Update; Model::COUNTERS], vars: u8) -> bool
     ensures { result ≡ updates_formed vars slots }
 {
-    for i in 0..Model::COUNTERS {
-        let u = slots[i];
-        if !update_slot_formed(u, i, vars) {
-            return false;
-        }
-    }
-    true
+    slots
+        .iter()
+        .enumerate()
+        .all(|(i, update)| update_slot_formed(*update, i, vars))
 }
 
 // Slot `k` of the order, of which the first `n` are used.
@@ -209,48 +153,29 @@ fn order_slot_formed(e: Edge, n: usize, k: usize) -> bool
     requires { (n ≡ listed e) × (k < 4) }
     ensures { result ≡ order_slot_formed e k }
 {
-    let order = e.order;
-    let counter = order[k];
+    let counter = e.order[k];
     if k >= n {
         return counter == 0;
     }
-    if counter as usize >= Model::COUNTERS {
-        return false;
+    match e.updates.get(counter as usize) {
+        Some(update) => !update.is_keep() && place_in(e.order, counter) == k,
+        None => false,
     }
-    let update = e.updates[counter as usize];
-    let kept = update.is_keep();
-    !kept & (place_in(order, counter) == k)
 }
 
 fn order_formed(e: Edge) -> bool
     ensures { result ≡ order_formed e }
 {
     let n = e.listed();
-    for k in 0..Model::COUNTERS {
-        if !order_slot_formed(e, n, k) {
-            return false;
-        }
-    }
-    true
+    (0..Model::COUNTERS).all(|k| order_slot_formed(e, n, k))
 }
 
 fn clock_update_formed(u: ClockUpdate, clocks: u8) -> bool
     ensures { result ≡ clock_update_formed clocks u }
 {
     match u {
-        ClockUpdate::Unchanged => true,
-        ClockUpdate::Reset => true,
+        ClockUpdate::Unchanged | ClockUpdate::Reset => true,
         ClockUpdate::Copy { source } => source < clocks,
-    }
-}
-
-fn is_unchanged(u: ClockUpdate) -> bool
-    ensures { result ≡ is_unchanged u }
-{
-    match u {
-        ClockUpdate::Unchanged => true,
-        ClockUpdate::Reset => false,
-        ClockUpdate::Copy { source: _ } => false,
     }
 }
 
@@ -260,57 +185,36 @@ fn reset_slot_formed(u: ClockUpdate, i: usize, clocks: u8) -> bool
     if i < clocks as usize {
         clock_update_formed(u, clocks)
     } else {
-        is_unchanged(u)
+        u == ClockUpdate::Unchanged
     }
 }
 
 fn resets_formed(slots: [ClockUpdate; Model::CLOCKS], clocks: u8) -> bool
     ensures { result ≡ resets_formed clocks slots }
 {
-    for i in 0..Model::CLOCKS {
-        let u = slots[i];
-        if !reset_slot_formed(u, i, clocks) {
-            return false;
-        }
-    }
-    true
+    slots
+        .iter()
+        .enumerate()
+        .all(|(i, update)| reset_slot_formed(*update, i, clocks))
 }
 
 fn edge_formed(e: Edge, locations: u8, clocks: u8, vars: u8) -> bool
     ensures { result ≡ edge_formed locations clocks vars e }
 {
-    if e.source >= locations {
-        return false;
-    }
-    if e.target >= locations {
-        return false;
-    }
-    if e.label > Model::LABEL {
-        return false;
-    }
-    let guard = e.guard;
-    if !atoms_formed(guard, clocks, vars) {
-        return false;
-    }
-    let updates = e.updates;
-    if !updates_formed(updates, vars) {
-        return false;
-    }
-    if !order_formed(e) {
-        return false;
-    }
-    let resets = e.resets;
-    resets_formed(resets, clocks)
+    e.source < locations
+        && e.target < locations
+        && e.label <= Model::LABEL
+        && atoms_formed(e.guard, clocks, vars)
+        && updates_formed(e.updates, vars)
+        && order_formed(e)
+        && resets_formed(e.resets, clocks)
 }
 
 // Label 0, and what is formed where nothing but location 0 is declared.
 fn is_blank_edge(e: Edge) -> bool
     ensures { result ≡ is_blank_edge e }
 {
-    if e.label != 0 {
-        return false;
-    }
-    edge_formed(e, 1, 0, 0)
+    e.label == 0 && edge_formed(e, 1, 0, 0)
 }
 
 fn edge_slot_formed(edge: Edge, e: usize, used: u8, locations: u8, clocks: u8, vars: u8) -> bool
@@ -326,54 +230,60 @@ fn edge_slot_formed(edge: Edge, e: usize, used: u8, locations: u8, clocks: u8, v
 fn edges_formed(m: Model) -> bool
     ensures { result ≡ edges_formed m }
 {
-    for e in 0..Model::EDGES {
-        let edge = m.edges[e];
-        if !edge_slot_formed(edge, e, m.used, m.locations, m.clocks, m.vars) {
-            return false;
-        }
-    }
-    true
+    m.edges
+        .iter()
+        .enumerate()
+        .all(|(e, edge)| edge_slot_formed(*edge, e, m.used, m.locations, m.clocks, m.vars))
 }
 
 fn head_formed(m: Model) -> bool
     ensures { result ≡ head_formed m }
 {
-    if m.locations < 1 {
-        return false;
-    }
-    if m.locations > Model::LOCATIONS as u8 {
-        return false;
-    }
-    if m.initial >= m.locations {
-        return false;
-    }
-    if m.target >= m.locations {
-        return false;
-    }
-    if m.clocks > Model::CLOCKS as u8 {
-        return false;
-    }
-    if m.vars > Model::COUNTERS as u8 {
-        return false;
-    }
-    m.used <= Model::EDGES as u8
+    1 <= m.locations
+        && m.locations <= Model::LOCATIONS as u8
+        && m.initial < m.locations
+        && m.target < m.locations
+        && m.clocks <= Model::CLOCKS as u8
+        && m.vars <= Model::COUNTERS as u8
+        && m.used <= Model::EDGES as u8
 }
 
 // Refusal 20 is for a record of which this is false.
 pub fn well_formed(m: Model) -> bool
     ensures { result ≡ well_formed m }
 {
-    if !head_formed(m) {
-        return false;
+    head_formed(m)
+        && counters_formed(m.counters, m.vars)
+        && invariants_formed(m)
+        && edges_formed(m)
+}
+
+// Why a record and a bound are refused.
+#[derive(Clone, Copy, Debug, PartialEq, Eq)]
+pub enum ListRefusal {
+    NotWellFormed = 20,
+    BoundTooLarge = 21,
+}
+
+impl ListRefusal {
+    pub fn number(self) -> u8
+        ensures { result ≡ list_refusal_number self }
+    {
+        self as u8
     }
-    let counters = m.counters;
-    if !counters_formed(counters, m.vars) {
-        return false;
+}
+
+// A record and a bound of a list: 20, 21.
+pub fn check_bound(m: Model, bound: usize) -> Result<(), ListRefusal>
+    ensures { result ≡ bound_checked m bound }
+{
+    if !well_formed(m) {
+        return Err(ListRefusal::NotWellFormed);
     }
-    if !invariants_formed(m) {
-        return false;
+    if bound > Model::STEPS {
+        return Err(ListRefusal::BoundTooLarge);
     }
-    edges_formed(m)
+    Ok(())
 }
 
 // A declared slot shows 0 to `greatest`, any other 0.
@@ -390,38 +300,24 @@ fn slot_in_group(declared: u8, greatest: usize, v: u8, i: usize) -> bool
 fn counters_in_group(s: State, vars: u8, counters: [Counter; Model::COUNTERS]) -> bool
     ensures { result ≡ counters_in_group vars counters s }
 {
-    let values = s.counters;
-    for i in 0..Model::COUNTERS {
-        let c = counters[i];
-        if !slot_in_group(vars, c.greatest as usize, values[i], i) {
-            return false;
-        }
-    }
-    true
+    (0..Model::COUNTERS)
+        .all(|i| slot_in_group(vars, counters[i].greatest as usize, s.counters[i], i))
 }
 
 fn clocks_in_group(s: State, clocks: u8, top: usize) -> bool
     ensures { result ≡ clocks_in_group clocks top s }
 {
-    let values = s.clocks;
-    for i in 0..Model::CLOCKS {
-        if !slot_in_group(clocks, top, values[i], i) {
-            return false;
-        }
-    }
-    true
+    s.clocks
+        .iter()
+        .enumerate()
+        .all(|(i, value)| slot_in_group(clocks, top, *value, i))
 }
 
 // Refusal 10 is for a state of which this is false.
 pub fn state_formed(m: Model, s: State) -> bool
     ensures { result ≡ state_formed m s }
 {
-    if s.location >= m.locations {
-        return false;
-    }
-    let counters = m.counters;
-    if !counters_in_group(s, m.vars, counters) {
-        return false;
-    }
-    clocks_in_group(s, m.clocks, m.ceiling())
+    s.location < m.locations
+        && counters_in_group(s, m.vars, m.counters)
+        && clocks_in_group(s, m.clocks, m.ceiling())
 }

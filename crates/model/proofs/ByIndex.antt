@@ -1,7 +1,7 @@
 -- What the library says of a list, element after element, and what the definitions say by the index: all, the greatest, the sum, the first, the list.
 use Rattle.std.specs.Prelude.{ℕ, zero, suc, ◌+◌, ◌<◌, ◌≤◌, max, Bool, true, false, not, cond, ◌&&◌, T, List, [], ◌∷◌, ◌++◌, map, length, get_or, ◌≡◌}
 use Rattle.std.specs.Array.{IsFromFnResult, IsFromFnResultFrom, IsMapOf, MapsFrom}
-use Rattle.std.specs.List.{list_all, fold, sum_by, count_by, filter, prefix_len, position_or_len, range_with_len, slice_index_or}
+use Rattle.std.specs.List.{list_all, fold, sum_by, count_by, filter, prefix_len, position_or_len, range_with_len, enumerate_from, slice_index_or}
 use Rattle.std.specs.Fn.{Called}
 use Rattle.std.proofs.Common.{arith, refl, sym, ap, subst, rules, ◌∙◌, ◌⊎◌}
 use Rattle.std.proofs.lemmas.List.FromFn.{length-range_with_len, get_or-range_with_len}
@@ -10,6 +10,7 @@ use Rattle.std.proofs.lemmas.List.{ext_get_or}
 use denote.Param.Members.{Mut}
 use native.Mathlib.Numerals.{add-one}
 use mathlib.Core.Logic.{⊎_elim}
+use mathlib.Core.Path.{ap₂}
 use Rattle.model.specs.Indexed.{list_below, all_below, max_below, sum_below, first_below}
 use Rattle.model.proofs.IndexedLaws.{First, first_law, first_is, first_none, T_true, below_cases, lt_or_le, sum_same, length_list, get_d_list}
 
@@ -18,6 +19,11 @@ all_front : (p : ℕ → Bool) (n : ℕ) → all_below p (suc n) ≡ p 0 && all_
 unfolding all_below
 all_front p zero = grind (arith, common_steps)
 all_front p (suc n) = rw (all_front p n) (grind (arith, common_steps))
+
+all_same : (p q : ℕ → Bool) (n : ℕ) → ((k : ℕ) → p k ≡ q k) → all_below p n ≡ all_below q n
+unfolding all_below
+all_same p q zero h = refl
+all_same p q (suc n) h = rw (all_same p q n h, h n)
 
 sum_front : (f : ℕ → ℕ) (n : ℕ) → sum_below f (suc n) ≡ f 0 + sum_below (λ k. f (suc k)) n
 unfolding sum_below
@@ -56,6 +62,18 @@ module _ {A : Type 0} (d : A) where
   all_by_index p [] = refl
   all_by_index p (x ∷ xs) = ap (λ (b : Bool). p x && b) (all_by_index p xs) ∙ sym (all_front (λ k. p (get_or (x ∷ xs) k d)) (length xs))
 
+  -- each element with its index
+  enumerated : (p : ℕ → A → Bool) (n : ℕ) (l : List A) → list_all (λ q. p q.0 q.1) (enumerate_from n l) ≡ all_below (λ i. p (n + i) (get_or l i d)) (length l)
+  unfolding all_below
+  enumerated p n [] = refl
+  enumerated p n (x ∷ l) =
+      let here : n ≡ n + 0 = omega arith in
+      ap₂ (λ (a b : Bool). a && b) (ap (λ (k : ℕ). p k x) here) (enumerated p (n + 1) l ∙ all_same (λ i. p (n + 1 + i) (get_or l i d)) (λ i. p (n + suc i) (get_or l i d)) (length l) (λ i. ap (λ (k : ℕ). p k (get_or l i d)) (omega arith)))
+      ∙ sym (all_front (λ i. p (n + i) (get_or (x ∷ l) i d)) (length l))
+
+  pub all_enumerated : (p : ℕ → A → Bool) (xs : List A) → list_all (λ q. p q.0 q.1) (enumerate_from 0 xs) ≡ all_below (λ i. p i (get_or xs i d)) (length xs)
+  all_enumerated p xs = enumerated p 0 xs ∙ all_same (λ i. p (0 + i) (get_or xs i d)) (λ i. p i (get_or xs i d)) (length xs) (λ i. ap (λ (k : ℕ). p k (get_or xs i d)) (omega arith))
+
   sum_from : (f : A → ℕ) (b : ℕ) (xs : List A) → fold (λ a x. a + f x) b xs ≡ b + sum_below (λ k. f (get_or xs k d)) (length xs)
   unfolding sum_below
   sum_from f b [] = omega arith
@@ -83,7 +101,18 @@ module _ {A : Type 0} (d : A) where
       by true e = rw e refl
       by false e = rw e (omega arith)
 
--- the numbers below n, one after the other
+-- the numbers from a on, one after the other
+all_from : (p : ℕ → Bool) (a n : ℕ) → list_all p (range_with_len a n) ≡ all_below (λ k. p (a + k)) n
+unfolding all_below
+all_from p a zero = refl
+all_from p a (suc n) =
+    let here : a ≡ a + 0 = omega arith in
+    ap₂ (λ (b c : Bool). b && c) (ap p here) (all_from p (a + 1) n ∙ all_same (λ k. p (a + 1 + k)) (λ k. p (a + suc k)) n (λ k. ap p (omega arith)))
+    ∙ sym (all_front (λ k. p (a + k)) n)
+
+pub all_range : (p : ℕ → Bool) (n : ℕ) → list_all p (range_with_len 0 n) ≡ all_below p n
+all_range p n = all_from p 0 n ∙ all_same (λ k. p (0 + k)) p n (λ k. ap p (omega arith))
+
 pub sum_by_range : (f : ℕ → ℕ) (a n : ℕ) → sum_by f (range_with_len a n) ≡ sum_below (λ k. f (a + k)) n
 sum_by_range f a n =
     rw (sum_by_index 0 f (range_with_len a n), length-range_with_len a n)

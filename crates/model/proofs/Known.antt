@@ -6,8 +6,10 @@ use mir.Val.{Val}
 use denote.Laws.{Is}
 use Rattle.model.specs.declared.Model.{Model}
 use Rattle.model.specs.declared.Edge.{Edge}
+use Rattle.model.specs.declared.State.{State}
 use Rattle.model.specs.contracts.Model as ModelT
 use Rattle.model.specs.contracts.Edge as EdgeT
+use Rattle.model.specs.contracts.State as StateT
 
 pub record Lengths (m : Model) : Type 0 where
   pub counters : length m.counters ≡ 4
@@ -26,3 +28,6 @@ updates_long e vs g = g.1.1.1.1.1.1.0.1.0.1
 
 pub order_long : (e : Edge) (vs : List Val) → Is EdgeT.the_row e vs → length e.order ≡ 4
 order_long e vs g = g.1.1.1.1.1.1.1.0.1.0.1
+
+pub clocks_long : (s : State) (vs : List Val) → Is StateT.the_row s vs → length s.clocks ≡ 4
+clocks_long s vs g = g.1.1.1.1.0.1.0.1

@@ -8,22 +8,12 @@ use lib.Dec.{T, ltb, leb, eqb}
 use lib.ListN.{length}
 use Rattle.model.specs.declared.Model.{Model}
 use Rattle.model.specs.declared.State.{State}
-use Rattle.model.specs.declared.Stepped.{Stepped}
-use Rattle.model.specs.Automaton.{choices, step, stepped, initial_state, invariant_holds}
+use Rattle.model.specs.Automaton.{choices, step, initial_state, invariant_holds}
 use Rattle.model.specs.Run.{start}
 use Rattle.model.specs.Form.{well_formed, state_formed}
 use Rattle.model.specs.Refusal.{refusal, accepted}
 use Rattle.walk.specs.StepCall.{step_report, step_reported}
 use Rattle.walk.specs.Walker.{walk_steps, walk_report}
-
--- ---- what an advanced state tells of the step
-pub taken_some : (s : State) (o : Option State) (a : Stepped) → a ≡ stepped s o → a.allowed ≡ true → o ≡ Some a.state
-taken_some s None a e h = let z : ◌≡◌ {A = Bool} false true = cc in absurd (subst T (sym z) tt)
-taken_some s (Some t) a e h = rw e
-
-pub refused_none : (s : State) (o : Option State) (a : Stepped) → a ≡ stepped s o → a.allowed ≡ false → o ≡ None
-refused_none s None a e h = refl
-refused_none s (Some t) a e h = let z : ◌≡◌ {A = Bool} true false = cc in absurd (subst T z tt)
 
 -- ---- the step call
 module _ (m : Model) (s : State) (b : ℕ) where

@@ -1,5 +1,5 @@
 -- What the run walker answers.
-use Rattle.std.specs.Prelude.{ℕ, ◌+◌, List, [], ◌∷◌, not, cond, ltb, leb, eqb, length}
+use Rattle.std.specs.Prelude.{ℕ, ◌+◌, List, [], ◌∷◌, not, cond, ltb, leb, eqb, length, Result, Ok, Err}
 use Rattle.model.specs.declared.Model.{Model}
 use Rattle.model.specs.declared.State.{State}
 use Rattle.model.specs.Indexed.{maybe}
@@ -7,8 +7,8 @@ use Rattle.model.specs.Automaton.{choices, step}
 use Rattle.model.specs.Run.{start}
 use Rattle.model.specs.Form.{well_formed}
 use Rattle.model.specs.Refusal.{Refusal, refusal, accepted}
-use Rattle.walk.specs.declared.Verdict.{Verdict}
-use Rattle.walk.specs.declared.Verdict.TheVariants.{Accepted, NotWellFormed, TooLong, InitialInvariantFails, NoSuchChoice, NotAllowed, NotInTarget}
+use Rattle.walk.specs.declared.RunRefusal.{RunRefusal}
+use Rattle.walk.specs.declared.RunRefusal.TheVariants.{NotWellFormed, TooLong, InitialInvariantFails, NoSuchChoice, NotAllowed, NotInTarget}
 
 -- from state s, per step t: 27 byte is H or more, 28 step not allowed, both with the step; then 30 end is not the target
 unfoldable pub walk_steps : Model → ℕ → State → List ℕ → Refusal
@@ -22,12 +22,16 @@ walk_report m r =
     (cond (ltb 64 (length r)) (refusal 21 0)
     (maybe (start m) (refusal 29 0) (λ s. walk_steps m 1 s r)))
 
--- the number and the place of each case of the answer
-abbrev pub walk_told : Verdict → Refusal
-walk_told Accepted = accepted
-walk_told NotWellFormed = refusal 20 0
-walk_told TooLong = refusal 21 0
-walk_told InitialInvariantFails = refusal 29 0
-walk_told (NoSuchChoice t) = refusal 27 t
-walk_told (NotAllowed t) = refusal 28 t
-walk_told NotInTarget = refusal 30 0
+-- the number and the place of each refusal
+abbrev pub run_refusal : RunRefusal → Refusal
+run_refusal NotWellFormed = refusal 20 0
+run_refusal TooLong = refusal 21 0
+run_refusal InitialInvariantFails = refusal 29 0
+run_refusal (NoSuchChoice t) = refusal 27 t
+run_refusal (NotAllowed t) = refusal 28 t
+run_refusal NotInTarget = refusal 30 0
+
+-- what a walk tells
+abbrev pub walk_told : Result (Unit {0}) RunRefusal → Refusal
+walk_told (Ok u) = accepted
+walk_told (Err e) = run_refusal e

@@ -1,11 +1,13 @@
--- `atoms_formed`: each atom is well formed, and then no gap, as the definition joins them.
-use Rattle.model.proofs.IndexedLaws.{told_false, told_true}
-use mathlib.Core.Path.{refl, sym}
-use Rattle.form.proofs.FormParts.{atoms_is}
+-- `atoms_formed`: the conjunction of its tests.
+use Rattle.std.proofs.Common.{arith}
+use Rattle.std.proofs.lemmas.Grind.{common_steps}
+use Rattle.model.specs.Form.{atoms_formed}
 use Rattle.form.proofs.atoms_formed.Goals as goal
 
-pub returns-then-not-each_formed : goal.returns-then-not-each_formed
-returns-then-not-each_formed c = atoms_is _ _ _ (told_false c.each_formed.ensures c.if-not-each_formed.true-raw) refl
+pub returns-then-each_formed : goal.returns-then-each_formed
+unfolding atoms_formed
+returns-then-each_formed c = grind (arith, common_steps)
 
-pub returns : goal.returns
-returns c = atoms_is _ _ _ (told_true c.each_formed.ensures c.if-not-each_formed.false-raw) (sym c.filled_from_first.ensures)
+pub returns-else-each_formed : goal.returns-else-each_formed
+unfolding atoms_formed
+returns-else-each_formed c = grind (arith, common_steps)

@@ -1,23 +1,17 @@
--- `clocks_in_group`: so far every clock was within its group; the first that is not makes the answer false.
-use borrow.Author.Rules.{rules}
-use Rattle.model.proofs.IndexedLaws.{all_none, all_stops, all_goes}
-use Rattle.model.specs.Form.{clocks_in_group}
-use native.Mathlib.Omega.{arith}
-use mathlib.Core.Path.{◌≡◌, sym}
+-- `clocks_in_group`: all of the slots, each with its index.
+use Rattle.std.proofs.Common.{rules, tests, ◌∙◌}
+use Rattle.std.proofs.lemmas.Iterator.{YieldsList-from_slice}
+use Rattle.std.proofs.lemmas.Iterator.Consumers.{YieldsList-from_enumerate}
+use Rattle.std.proofs.lemmas.Iterator.Search.{all_from_yields_List}
+use Rattle.model.specs.Form.{clocks_in_group, slot_in_group}
+use Rattle.model.proofs.Known.{clocks_long}
+use Rattle.model.proofs.ByIndex.{all_enumerated}
 use Rattle.form.proofs.clocks_in_group.Goals as goal
-
-pub loop-i-init : goal.loop-i-init
-loop-i-init c = (search rules, all_none _)
-
-pub returns-then-not-slot_in_group : goal.returns-then-not-slot_in_group
-unfolding clocks_in_group
-returns-then-not-slot_in_group c = all_stops _ c.loop-i.i 4 c.loop-i-test.true c.slot_in_group.ensures c.if-not-slot_in_group.true-raw
-
-pub loop-i-preserved : goal.loop-i-preserved
-loop-i-preserved c = (search rules, all_goes _ _ c.loop-i.invariant.1 c.slot_in_group.ensures c.if-not-slot_in_group.false-raw)
 
 pub returns : goal.returns
 unfolding clocks_in_group
 returns c =
-    let e : c.loop-i.i ≡ 4 = omega arith in
-    sym (rw e at c.loop-i.invariant.1)
+    let a = c.args in
+    let slots = a.s.clocks in
+    all_from_yields_List (λ q. slot_in_group a.clocks a.top q.1 q.0) _ _ _ c.all.ensures.ran (YieldsList-from_enumerate (YieldsList-from_slice slots cc) cc) (λ x b q k. search (rules, tests))
+    ∙ rw (clocks_long a.s _ c.well_formed.0) at (all_enumerated 0 (λ i x. slot_in_group a.clocks a.top x i) slots)

@@ -1,25 +1,17 @@
--- `counters_in_group`: so far every counter was within its group; the first that is not makes the answer false.
-use borrow.Author.Rules.{rules}
-use Rattle.model.proofs.IndexedLaws.{all_none, all_stops, all_goes}
-use Rattle.model.specs.Form.{counters_in_group}
-use native.Mathlib.Omega.{arith}
-use mathlib.Core.Path.{◌≡◌, sym}
+-- `counters_in_group`: all of the indexes.
+use Rattle.std.proofs.Common.{rules, tests, arith, ◌∙◌}
+use Rattle.std.proofs.lemmas.Iterator.{YieldsList-from_range}
+use Rattle.std.proofs.lemmas.Iterator.Search.{all_from_yields_List}
+use Rattle.std.proofs.Common.{get_or}
+use Rattle.model.specs.Record.{blank_counter}
+use Rattle.model.specs.Automaton.{value, counter}
+use Rattle.model.specs.Form.{counters_in_group, slot_in_group}
+use Rattle.model.proofs.ByIndex.{all_range}
 use Rattle.form.proofs.counters_in_group.Goals as goal
-
-pub loop-i-init : goal.loop-i-init
-loop-i-init c = (search rules, all_none _)
-
-pub returns-then-not-slot_in_group : goal.returns-then-not-slot_in_group
-unfolding counters_in_group
-returns-then-not-slot_in_group c =
-    let loop-i = c.loop-i.i in
-    all_stops _ loop-i 4 c.loop-i-test.true c.slot_in_group.ensures c.if-not-slot_in_group.true-raw
-
-pub loop-i-preserved : goal.loop-i-preserved
-loop-i-preserved c = (search rules, all_goes _ _ c.loop-i.invariant.1 c.slot_in_group.ensures c.if-not-slot_in_group.false-raw)
 
 pub returns : goal.returns
 unfolding counters_in_group
 returns c =
-    let e : c.loop-i.i ≡ 4 = omega arith in
-    sym (rw e at c.loop-i.invariant.1)
+    let a = c.args in
+    all_from_yields_List (λ i. slot_in_group a.vars (get_or a.counters i blank_counter).greatest (value a.s (counter i)) i) _ _ _ c.all.ensures.ran (YieldsList-from_range 0 4 4 (cc) (omega arith)) (λ x b q k. search (rules, tests))
+    ∙ all_range (λ i. slot_in_group a.vars (get_or a.counters i blank_counter).greatest (value a.s (counter i)) i) 4

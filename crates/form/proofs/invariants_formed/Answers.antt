@@ -1,25 +1,20 @@
--- `invariants_formed`: so far every invariant slot was well formed; the first that is not makes the answer false.
-use borrow.Author.Rules.{rules}
-use Rattle.model.specs.Form.{invariants_formed}
-use Rattle.model.proofs.IndexedLaws.{all_none, all_stops, all_goes}
-use native.Mathlib.Omega.{arith}
-use mathlib.Core.Path.{◌≡◌, sym}
+-- `invariants_formed`: all of the slots, each with its index.
+use Rattle.std.proofs.Common.{rules, tests, ◌∙◌}
+use Rattle.std.proofs.lemmas.Iterator.{YieldsList-from_slice}
+use Rattle.std.proofs.lemmas.Iterator.Consumers.{YieldsList-from_enumerate}
+use Rattle.std.proofs.lemmas.Iterator.Search.{all_from_yields_List}
+use Rattle.std.proofs.Common.{cond, ltb}
+use Rattle.model.specs.declared.Invariant.{Invariant}
+use Rattle.model.specs.Record.{past_invariant}
+use Rattle.model.specs.Form.{invariants_formed, atoms_formed}
+use Rattle.model.proofs.Known.{lengths}
+use Rattle.model.proofs.ByIndex.{all_enumerated}
 use Rattle.form.proofs.invariants_formed.Goals as goal
-
-pub loop-l-init : goal.loop-l-init
-loop-l-init c = (search rules, all_none _)
-
-pub returns-then-not-invariant_slot_formed : goal.returns-then-not-invariant_slot_formed
-unfolding invariants_formed
-returns-then-not-invariant_slot_formed c =
-    let loop-l = c.loop-l.l in
-    all_stops _ loop-l 16 c.loop-l-test.true c.invariant_slot_formed.ensures c.if-not-invariant_slot_formed.true-raw
-
-pub loop-l-preserved : goal.loop-l-preserved
-loop-l-preserved c = (search rules, all_goes _ _ c.loop-l.invariant.1 c.invariant_slot_formed.ensures c.if-not-invariant_slot_formed.false-raw)
 
 pub returns : goal.returns
 unfolding invariants_formed
 returns c =
-    let e : c.loop-l.l ≡ 16 = omega arith in
-    sym (rw e at c.loop-l.invariant.1)
+    let a = c.args in
+    let slots = a.m.invariants in
+    all_from_yields_List (λ q. cond (ltb q.0 a.m.locations) (atoms_formed a.m.clocks 0 q.1.atoms) (atoms_formed 0 0 q.1.atoms)) _ _ _ c.all.ensures.ran (YieldsList-from_enumerate (YieldsList-from_slice slots cc) cc) (λ x b q k. search (rules, tests))
+    ∙ rw (lengths a.m _ c.well_formed.0).invariants at (all_enumerated past_invariant (λ i x. cond (ltb i a.m.locations) (atoms_formed a.m.clocks 0 x.atoms) (atoms_formed 0 0 x.atoms)) slots)

@@ -1,26 +1,14 @@
--- `order_formed`: so far every slot of the order was well formed; the first that is not makes the answer false.
-use Rattle.model.proofs.IndexedLaws.{all_none, all_stops, all_goes}
-use Rattle.model.specs.Form.{order_formed}
-use borrow.Author.Rules.{rules}
-use native.Mathlib.Omega.{arith}
-use mathlib.Core.Path.{◌≡◌, sym}
+-- `order_formed`: all of the indexes.
+use Rattle.std.proofs.Common.{rules, tests, arith, ◌∙◌}
+use Rattle.std.proofs.lemmas.Iterator.{YieldsList-from_range}
+use Rattle.std.proofs.lemmas.Iterator.Search.{all_from_yields_List}
+use Rattle.model.specs.Form.{order_formed, order_slot_formed}
+use Rattle.model.proofs.ByIndex.{all_range}
 use Rattle.form.proofs.order_formed.Goals as goal
-
-pub loop-k-init : goal.loop-k-init
-loop-k-init c = (search rules, all_none _)
-
-pub order_slot_formed-requires : goal.order_slot_formed-requires
-order_slot_formed-requires c = (c.listed-n.ensures, omega arith)
-
-pub returns-then-not-order_slot_formed : goal.returns-then-not-order_slot_formed
-unfolding order_formed
-returns-then-not-order_slot_formed c = all_stops _ c.loop-k.k 4 (omega arith) c.order_slot_formed.ensures c.if-not-order_slot_formed.true-raw
-
-pub loop-k-preserved : goal.loop-k-preserved
-loop-k-preserved c = (search rules, all_goes _ _ c.loop-k.invariant.1 c.order_slot_formed.ensures c.if-not-order_slot_formed.false-raw)
 
 pub returns : goal.returns
 unfolding order_formed
 returns c =
-    let e : c.loop-k.k ≡ 4 = omega arith in
-    sym (rw e at c.loop-k.invariant.1)
+    let a = c.args in
+    all_from_yields_List (order_slot_formed a.e) _ _ _ c.all.ensures.ran (YieldsList-from_range 0 4 4 (cc) (omega arith)) (λ x b q k. search (rules, tests))
+    ∙ all_range (order_slot_formed a.e) 4

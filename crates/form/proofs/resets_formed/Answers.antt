@@ -1,24 +1,17 @@
--- `resets_formed`: so far every reset slot was well formed; the first that is not makes the answer false.
-use borrow.Author.Rules.{rules}
-use mathlib.Core.Path.{◌≡◌, sym}
-use native.Mathlib.Omega.{arith}
-use Rattle.model.proofs.IndexedLaws.{all_none, all_stops, all_goes}
-use Rattle.model.specs.Form.{resets_formed}
+-- `resets_formed`: all of the slots, each with its index.
+use Rattle.std.proofs.Common.{rules, tests, ◌∙◌}
+use Rattle.std.proofs.lemmas.Iterator.{YieldsList-from_slice}
+use Rattle.std.proofs.lemmas.Iterator.Consumers.{YieldsList-from_enumerate}
+use Rattle.std.proofs.lemmas.Iterator.Search.{all_from_yields_List}
+use Rattle.model.specs.Record.{blank_reset}
+use Rattle.model.specs.Form.{resets_formed, reset_slot_formed}
+use Rattle.model.proofs.ByIndex.{all_enumerated}
 use Rattle.form.proofs.resets_formed.Goals as goal
-
-pub loop-i-init : goal.loop-i-init
-loop-i-init c = (search rules, all_none _)
-
-pub returns-then-not-reset_slot_formed : goal.returns-then-not-reset_slot_formed
-unfolding resets_formed
-returns-then-not-reset_slot_formed c =
-    let loop-i = c.loop-i.i in
-    all_stops _ loop-i 4 c.loop-i-test.true c.reset_slot_formed.ensures c.if-not-reset_slot_formed.true-raw
-
-pub loop-i-preserved : goal.loop-i-preserved
-loop-i-preserved c = (search rules, all_goes _ _ c.loop-i.invariant.1 c.reset_slot_formed.ensures c.if-not-reset_slot_formed.false-raw)
 
 pub returns : goal.returns
 unfolding resets_formed
-returns c = let e : c.loop-i.i ≡ 4 = omega arith in
-    sym (rw e at c.loop-i.invariant.1)
+returns c =
+    let a = c.args in
+    let slots = a.slots in
+    all_from_yields_List (λ q. reset_slot_formed a.clocks q.1 q.0) _ _ _ c.all.ensures.ran (YieldsList-from_enumerate (YieldsList-from_slice slots cc) cc) (λ x b q k. search (rules, tests))
+    ∙ rw c.well_formed.0.1.0.1 at (all_enumerated blank_reset (λ i x. reset_slot_formed a.clocks x i) slots)
