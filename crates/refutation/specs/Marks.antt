@@ -1,7 +1,7 @@
 -- A table of marks, one for each code: the literals that are taken to be false bear the lemma's stamp.
-use Rattle.std.specs.Prelude.{◌≡◌, Bool, List, [], ℤ, pos, ℕ, ◌+◌, ◌<◌, ◌≤◌, eqb, length, get_or, drop}
+use Rattle.std.specs.Prelude.{◌≡◌, Bool, List, ℤ, pos, ℕ, ◌<◌, ◌≤◌, eqb, length, get_or}
 use Rattle.refutation.specs.Codes.{code_of}
-use Rattle.refutation.specs.Refutation.{is_in, span, literals}
+use Rattle.refutation.specs.Refutation.{is_in}
 
 -- The literal bears the stamp.
 abbrev pub marked : List ℕ → ℕ → ℕ → Bool
@@ -11,21 +11,10 @@ marked ms s c = eqb (get_or ms c 0) s
 abbrev pub Most : List ℕ → ℕ → Type 0
 Most ms s = (c : ℕ) → get_or ms c 0 ≤ s
 
--- Every mark is below s.
-abbrev pub Fresh : List ℕ → ℕ → Type 0
-Fresh ms s = (c : ℕ) → get_or ms c 0 < s
-
 -- The code of every word lies below n.
 abbrev pub Below : List ℤ → ℕ → Type 0
 Below ws n = (i : ℕ) → i < length ws → code_of (get_or ws i (pos 0)) < n
 
--- The literals that bear the stamp s are those of fs, and no mark is above s.
+-- The literals that bear the stamp s are those of fs.
 pub record Shows (ms : List ℕ) (s : ℕ) (fs : List ℕ) : Type 0 where
   pub stamped : (c : ℕ) → marked ms s c ≡ is_in c fs
-  pub most : Most ms s
-
--- The literals of the clause at place `from` were given the stamp s, and `end` is where the clause closes.
-pub record Taken (ws : List ℤ) (from : ℕ) (old new : List ℕ) (s end : ℕ) : Type 0 where
-  pub ends : end ≡ from + span (drop from ws)
-  pub long : length new ≡ length old
-  pub shows : Shows new s (literals (drop from ws) [])

@@ -1,10 +1,10 @@
 -- What the question for the ceiling M answers.
-use Rattle.std.specs.Prelude.{ℕ, not, cond}
+use Rattle.std.specs.Prelude.{ℕ, not, cond, Result, Ok, Err}
 use Rattle.model.specs.declared.Model.{Model}
 use Rattle.model.specs.Automaton.{ceiling}
 use Rattle.model.specs.Form.{well_formed}
-use Rattle.totals.specs.declared.CeilingAnswer.{CeilingAnswer}
-use Rattle.totals.specs.declared.CeilingAnswer.TheVariants.{NotWellFormed, Ceiling}
+use Rattle.form.specs.BoundCheck.{list_refusal_number}
+use Rattle.form.specs.declared.ListRefusal.{ListRefusal}
 
 -- a number of the table of refusals, or 0, and M, or 0 after a refusal
 pub record CeilingReport : Type 0 where
@@ -19,6 +19,6 @@ unfoldable pub ceiling_report : Model → CeilingReport
 ceiling_report m = cond (not (well_formed m)) (ceiling_reported 20 0) (ceiling_reported 0 (ceiling m))
 
 -- the numbers of each case of the answer
-abbrev pub ceiling_told : CeilingAnswer → CeilingReport
-ceiling_told NotWellFormed = ceiling_reported 20 0
-ceiling_told (Ceiling c) = ceiling_reported 0 c
+abbrev pub ceiling_told : Result ℕ ListRefusal → CeilingReport
+ceiling_told (Ok c) = ceiling_reported 0 c
+ceiling_told (Err e) = ceiling_reported (list_refusal_number e) 0

@@ -1,10 +1,11 @@
 -- What the question for S, H and N answers.
-use Rattle.std.specs.Prelude.{ℕ, not, cond, ltb}
+use Rattle.std.specs.Prelude.{ℕ, not, cond, ltb, Result, Ok, Err}
 use Rattle.model.specs.declared.Model.{Model}
 use Rattle.model.specs.Automaton.{state_size, choices, variables}
 use Rattle.model.specs.Form.{well_formed}
-use Rattle.totals.specs.declared.TotalsAnswer.{TotalsAnswer}
-use Rattle.totals.specs.declared.TotalsAnswer.TheVariants.{NotWellFormed, BoundTooLarge, Totals}
+use Rattle.form.specs.BoundCheck.{list_refusal_number}
+use Rattle.form.specs.declared.ListRefusal.{ListRefusal}
+use Rattle.totals.specs.declared.BlockTotals.{BlockTotals}
 
 -- a number of the table of refusals, or 0, and S, H and N, or 0 after a refusal
 pub record TotalsReport : Type 0 where
@@ -24,7 +25,6 @@ totals_report m k =
     (totals_reported 0 (state_size m) (choices m) (variables m k)))
 
 -- the numbers of each case of the answer
-abbrev pub totals_told : TotalsAnswer → TotalsReport
-totals_told NotWellFormed = totals_reported 20 0 0 0
-totals_told BoundTooLarge = totals_reported 21 0 0 0
-totals_told (Totals s h v) = totals_reported 0 s h v
+abbrev pub totals_told : Result BlockTotals ListRefusal → TotalsReport
+totals_told (Ok t) = totals_reported 0 t.state t.choices t.variables
+totals_told (Err e) = totals_reported (list_refusal_number e) 0 0 0

@@ -1,30 +1,18 @@
 -- `refuted`: no lemma, a variable without a mark, or what `follow` answers with a table of zeros.
-use Rattle.refutation.proofs.Laws.{call_short, call_outside, call_below, call_answer, zeros_fresh}
-use mathlib.Core.Bool.{not}
-use mathlib.Core.Path.{ap}
-use Prim.Native.Nat.{ℕ}
-use lib.ListN.{length-replicate}
+use Rattle.std.proofs.Common.{sym, ◌∙◌}
+use Rattle.refutation.proofs.Laws.{call_short, call_outside, call_answer, within_is, zeros}
 use Rattle.refutation.proofs.refuted.Goals as goal
+use Rattle.refutation.proofs.refuted.Goals.{then-n-words-via-then-n-words, then-n-words-via-else-n-words+then-not-all_within}
 
 pub returns-then-n-words : goal.returns-then-n-words
-returns-then-n-words c = call_short _ _ _ c.if-n-words.true
+returns-then-n-words c =
+    elim c.then-n-words.branch [
+      | then-n-words-via-then-n-words w ↦ call_short _ _ _ w.if-n-words.true
+      | then-n-words-via-else-n-words+then-not-all_within w ↦ call_outside _ _ _ w.if-n-words.false (sym w.all_within.ensures ∙ w.if-not-all_within.true)
+    ]
 
-pub returns-then-not-all_within : goal.returns-then-not-all_within
-returns-then-not-all_within c = call_outside _ _ _ c.if-n-words.false _ c.all_within.ensures (ap not c.if-not-all_within.true)
-
-pub follow-requires : goal.follow-requires
-follow-requires c =
-    let if1 = c.if-n-words in
-    let args = c.args in
-    let all_within = c.all_within in (
-      if1.false,
-      call_below args.words.now args.n args.hints.now if1.false _ all_within.ensures (ap not c.if-not-all_within.false),
-      length-replicate {A = ℕ} 43554 0,
-      zeros_fresh 43554,
-    )
+pub invariant_of-marks : goal.invariant_of-marks
+invariant_of-marks c = record { within = within_is _ (sym c.all_within.ensures ∙ c.if-not-all_within.false); most = zeros 43554 }
 
 pub returns : goal.returns
-returns c =
-    let if1 = c.if-n-words in
-    let all_within = c.all_within in
-    call_answer _ _ _ if1.false _ all_within.ensures (ap not c.if-not-all_within.false) _ c.follow.ensures
+returns c = c.follow.ensures ∙ sym (call_answer _ _ _ c.if-n-words.false (sym c.all_within.ensures ∙ c.if-not-all_within.false))
