@@ -14,18 +14,18 @@ ghost use Rattle.emission.specs.EmitCall.{emit_report, emit_left};
 ghost use Rattle.refute.specs.RefuteCall.{refute_report};
 ghost use Rattle.sizing.specs.SizeCall.{refused_sizes, emitted_sizes, size_told};
 ghost use Rattle.wirdoku.specs.TextCall.{answer_told, counted_sizes, shape_of, refused_shape, file_reply, refused_file, state_answer, zero_state, step_answer, refute_reply, refused_refute};
-ghost use Rattle.wirdoku.specs.PairCall.{if_both, pair_report, refused_pair, if_pair, pair_told, pair_answer, parts_answer, refused_parts};
+ghost use Rattle.wirdoku.specs.PairCall.{if_both, both_read, text_refused, both_told, pair_report, if_pair, pair_refusal, pair_told, pair_answer, parts_answer, refused_parts};
 
 use crate::calls::{
     counted, decoded, encoded, filed, refused_file, refused_refute, refused_shape, refused_sizes,
     refuted, shape_of, state_answer, stepped, told, walked, zero_state,
 };
 use crate::{Answer, FileReply, RefuteReply, Shape, StateAnswer};
-use compose::{compose, part_steps};
+use compose::{ComposeRefusal, compose, part_steps};
 use emission::emit;
 use model::{Model, State};
 use sizing::{SizeAnswer, emitted};
-use text::read_model;
+use text::{ReadRefusal, read_model};
 
 // The number of the refusal, or 0; the text that is refused, 1 or 2, or 0; its line, or 0.
 #[repr(C)]
@@ -46,36 +46,60 @@ pub struct PartSteps {
     pub second: u8,
 }
 
-// Why two texts are refused: the number, the text, 1 or 2, or 0, and its line, or 0.
+// Why there is no composed model: a text is refused, or the two models can't be composed.
 #[derive(Clone, Copy, Debug, PartialEq, Eq)]
-struct PairRefusal {
-    number: u8,
-    text: u8,
-    line: usize,
+enum PairRefusal {
+    First(ReadRefusal),
+    Second(ReadRefusal),
+    NotComposed(ComposeRefusal),
 }
 
-// Reads one of the two texts.
-fn read_part(text: &[u8], which: u8) -> Result<Model, PairRefusal>
-    ensures { part_told which result ≡ read_report text.now }
+impl PairRefusal {
+    fn number(self) -> u8
+        ensures { result ≡ (pair_refusal self).number }
+    {
+        match self {
+            PairRefusal::First(refusal) | PairRefusal::Second(refusal) => refusal.number(),
+            PairRefusal::NotComposed(refusal) => refusal.number(),
+        }
+    }
+
+    // The text that is refused, 1 or 2, or 0.
+    fn text(self) -> u8
+        ensures { result ≡ (pair_refusal self).text }
+    {
+        match self {
+            PairRefusal::First(_) => 1,
+            PairRefusal::Second(_) => 2,
+            PairRefusal::NotComposed(_) => 0,
+        }
+    }
+
+    fn line(self) -> usize
+        ensures { result ≡ (pair_refusal self).line }
+    {
+        match self {
+            PairRefusal::First(refusal) | PairRefusal::Second(refusal) => refusal.line(),
+            PairRefusal::NotComposed(_) => 0,
+        }
+    }
+}
+
+// The models of both texts: the first text, the second.
+fn read_both(first: &[u8], second: &[u8]) -> Result<(Model, Model), PairRefusal>
+    ensures { both_told result ≡ if_both (read_report first.now) (read_report second.now) both_read text_refused }
 {
-    read_model(text).map_err(|refusal| PairRefusal {
-        number: refusal.number(),
-        text: which,
-        line: refusal.line(),
-    })
+    let a = read_model(first).map_err(PairRefusal::First)?;
+    let b = read_model(second).map_err(PairRefusal::Second)?;
+    Ok((a, b))
 }
 
-// Reads both texts and composes their models: the first text, the second, 38.
+// The composed model of both texts: the first text, the second, 38.
 fn read_pair(first: &[u8], second: &[u8]) -> Result<Model, PairRefusal>
     ensures { pair_told result ≡ pair_report (read_report first.now) (read_report second.now) }
 {
-    let a = read_part(first, 1)?;
-    let b = read_part(second, 2)?;
-    compose(a, b).map_err(|refusal| PairRefusal {
-        number: refusal.number(),
-        text: 0,
-        line: 0,
-    })
+    let (a, b) = read_both(first, second)?;
+    compose(a, b).map_err(PairRefusal::NotComposed)
 }
 
 // Reads both texts and composes their models: the first text, the second, 38.
@@ -89,9 +113,9 @@ pub fn wirdoku_pair_read(first: &[u8], second: &[u8]) -> PairAnswer
             line: 0,
         },
         Err(refusal) => PairAnswer {
-            number: refusal.number,
-            text: refusal.text,
-            line: refusal.line,
+            number: refusal.number(),
+            text: refusal.text(),
+            line: refusal.line(),
         },
     }
 }
@@ -102,7 +126,7 @@ pub fn wirdoku_pair_shape(first: &[u8], second: &[u8]) -> Shape
 {
     match read_pair(first, second) {
         Ok(model) => shape_of(model),
-        Err(refusal) => refused_shape(refusal.number, refusal.line),
+        Err(refusal) => refused_shape(refusal.number(), refusal.line()),
     }
 }
 
@@ -112,7 +136,7 @@ pub fn wirdoku_pair_counts(first: &[u8], second: &[u8], bound: usize) -> SizeAns
 {
     match read_pair(first, second) {
         Ok(model) => counted(model, bound),
-        Err(refusal) => refused_sizes(refusal.number, refusal.line),
+        Err(refusal) => refused_sizes(refusal.number(), refusal.line()),
     }
 }
 
@@ -123,7 +147,7 @@ pub fn wirdoku_pair_emit(first: &[u8], second: &[u8], bound: usize, out: &mut [i
 {
     match read_pair(first, second) {
         Ok(model) => emitted(emit(model, bound, out)),
-        Err(refusal) => refused_sizes(refusal.number, refusal.line),
+        Err(refusal) => refused_sizes(refusal.number(), refusal.line()),
     }
 }
 
@@ -134,7 +158,7 @@ pub fn wirdoku_pair_dimacs(first: &[u8], second: &[u8], bound: usize, out: &mut 
 {
     match read_pair(first, second) {
         Ok(model) => filed(model, bound, out),
-        Err(refusal) => refused_file(refusal.number, refusal.line),
+        Err(refusal) => refused_file(refusal.number(), refusal.line()),
     }
 }
 
@@ -144,7 +168,7 @@ pub fn wirdoku_pair_initial(first: &[u8], second: &[u8]) -> StateAnswer
 {
     match read_pair(first, second) {
         Ok(model) => state_answer(0, 0, model.initial_state()),
-        Err(refusal) => state_answer(refusal.number, refusal.line, zero_state()),
+        Err(refusal) => state_answer(refusal.number(), refusal.line(), zero_state()),
     }
 }
 
@@ -154,7 +178,7 @@ pub fn wirdoku_pair_step(first: &[u8], second: &[u8], state: State, byte: u8) ->
 {
     match read_pair(first, second) {
         Ok(model) => stepped(model, state, byte),
-        Err(refusal) => state_answer(refusal.number, refusal.line, state),
+        Err(refusal) => state_answer(refusal.number(), refusal.line(), state),
     }
 }
 
@@ -164,7 +188,7 @@ pub fn wirdoku_pair_walk(first: &[u8], second: &[u8], run: &[u8]) -> Answer
 {
     match read_pair(first, second) {
         Ok(model) => walked(model, run),
-        Err(refusal) => told(refusal.number, refusal.line),
+        Err(refusal) => told(refusal.number(), refusal.line()),
     }
 }
 
@@ -181,7 +205,7 @@ pub fn wirdoku_pair_assignment_to_run(
 {
     match read_pair(first, second) {
         Ok(model) => decoded(model, bound, assignment, run),
-        Err(refusal) => told(refusal.number, refusal.line),
+        Err(refusal) => told(refusal.number(), refusal.line()),
     }
 }
 
@@ -197,7 +221,7 @@ pub fn wirdoku_pair_run_to_assignment(
 {
     match read_pair(first, second) {
         Ok(model) => encoded(model, run, assignment),
-        Err(refusal) => told(refusal.number, refusal.line),
+        Err(refusal) => told(refusal.number(), refusal.line()),
     }
 }
 
@@ -214,7 +238,7 @@ pub fn wirdoku_pair_refute(
 {
     match read_pair(first, second) {
         Ok(model) => refuted(model, bound, words, hints),
-        Err(refusal) => refused_refute(refusal.number, refusal.line),
+        Err(refusal) => refused_refute(refusal.number(), refusal.line()),
     }
 }
 
@@ -229,30 +253,27 @@ fn refused_parts(number: u8, line: usize) -> PartSteps
     }
 }
 
-// What a step byte of the composed model is in each part: the first text, the second, 38, 27.
-fn read_parts(first: &[u8], second: &[u8], byte: u8) -> Result<compose::PartSteps, PairRefusal>
-    ensures { parts_read result ≡ if_both (read_report first.now) (read_report second.now) (λ a b. parts_answer (parts_report a b byte)) (λ t. refused_parts) }
+// What a step byte of the composed model is in each part, where both models are read: 38, 27, and then 0 and 0.
+fn parts_of(a: Model, b: Model, byte: u8) -> PartSteps
+    ensures { result ≡ parts_answer (parts_report a b byte) }
 {
-    let a = read_part(first, 1)?;
-    let b = read_part(second, 2)?;
-    part_steps(a, b, byte).map_err(|refusal| PairRefusal {
-        number: refusal.number(),
-        text: 0,
-        line: 0,
-    })
-}
-
-// What a step byte of the composed model is in each part: both texts, 38, 27, and then 0 and 0.
-pub fn wirdoku_pair_parts(first: &[u8], second: &[u8], byte: u8) -> PartSteps
-    ensures { result ≡ if_both (read_report first.now) (read_report second.now) (λ a b. parts_answer (parts_report a b byte)) (λ t. refused_parts) }
-{
-    match read_parts(first, second, byte) {
+    match part_steps(a, b, byte) {
         Ok(steps) => PartSteps {
             number: 0,
             line: 0,
             first: steps.first,
             second: steps.second,
         },
-        Err(refusal) => refused_parts(refusal.number, refusal.line),
+        Err(refusal) => refused_parts(refusal.number(), 0),
+    }
+}
+
+// What a step byte of the composed model is in each part: both texts, 38, 27, and then 0 and 0.
+pub fn wirdoku_pair_parts(first: &[u8], second: &[u8], byte: u8) -> PartSteps
+    ensures { result ≡ if_both (read_report first.now) (read_report second.now) (λ a b. parts_answer (parts_report a b byte)) (λ t. refused_parts) }
+{
+    match read_both(first, second) {
+        Ok((a, b)) => parts_of(a, b, byte),
+        Err(refusal) => refused_parts(refusal.number(), refusal.line()),
     }
 }
