@@ -1,24 +1,20 @@
--- `joined_edge`, field by field from its callees; a location of the two is at most 15 * 16 + 15, so it fits a byte.
-use native.Mathlib.Omega.{arith}
-use Rattle.compose.specs.Joined.{joined_location, joined_edge}
+-- `joined_edge`: a location of the two is at most 15 * 16 + 15, so it fits a byte.
+use Rattle.std.proofs.Common.{arith}
+use Rattle.compose.specs.Joined.{joined_edge}
 use Rattle.compose.proofs.JoinedLaws.{parts_of, row_most}
 use Rattle.compose.proofs.joined.joined_edge.Goals as goal
 
-pub joined_atoms-guard-requires : goal.joined_atoms-guard-requires
-joined_atoms-guard-requires c =
-    (c.requires.0, c.requires.1, (parts_of c.args.f c.requires.4).guard_each)
+pub joined_atoms-requires : goal.joined_atoms-requires
+joined_atoms-requires c = (c.requires.0, c.requires.1, (parts_of c.args.f c.requires.4).guard_each)
 
-pub joined_updates-updates-requires : goal.joined_updates-updates-requires
-joined_updates-updates-requires c =
-    (c.requires.1, (parts_of c.args.f c.requires.4).updates_ok)
+pub joined_updates-requires : goal.joined_updates-requires
+joined_updates-requires c = (c.requires.1, (parts_of c.args.f c.requires.4).updates_ok)
 
-pub joined_order-order-requires : goal.joined_order-order-requires
-joined_order-order-requires c =
-    (c.requires.1, (parts_of c.args.f c.requires.4).order_ok)
+pub joined_order-requires : goal.joined_order-requires
+joined_order-requires c = (c.requires.1, (parts_of c.args.f c.requires.4).order_ok)
 
-pub joined_resets-resets-requires : goal.joined_resets-resets-requires
-joined_resets-resets-requires c =
-    (c.requires.0, (parts_of c.args.f c.requires.4).resets_ok)
+pub joined_resets-requires : goal.joined_resets-requires
+joined_resets-requires c = (c.requires.0, (parts_of c.args.f c.requires.4).resets_ok)
 
 pub overflow_mul-result : goal.overflow_mul-result
 overflow_mul-result c =
@@ -44,14 +40,4 @@ overflow_add-result-2 c =
 
 pub returns : goal.returns
 unfolding joined_edge
-returns c =
-    let a = c.args in
-    λ i. record {
-      source = joined_location a.locations a.e.source a.f.source;
-      target = joined_location a.locations a.e.target a.f.target;
-      label = a.label;
-      guard = c.joined_atoms-guard.ensures i;
-      updates = c.joined_updates-updates.ensures i;
-      order = c.joined_order-order.ensures i;
-      resets = c.joined_resets-resets.ensures i;
-    }
+returns c = cc
