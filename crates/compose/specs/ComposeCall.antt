@@ -1,11 +1,10 @@
 -- What the call on two records answers.
-use Rattle.std.specs.Prelude.{ℕ, not, ◌&&◌, cond}
+use Rattle.std.specs.Prelude.{ℕ, not, ◌&&◌, cond, Result, Ok, Err}
 use Rattle.model.specs.declared.Model.{Model}
 use Rattle.model.specs.Record.{blank_model}
 use Rattle.model.specs.Form.{well_formed}
-use Rattle.compose.specs.declared.ComposeOutcome.{ComposeOutcome}
-use Rattle.compose.specs.declared.ComposeOutcome.TheVariants.{Composed, NotWellFormed, TooLarge}
-use Rattle.compose.specs.declared.ComposeAnswer.{ComposeAnswer}
+use Rattle.compose.specs.declared.ComposeRefusal.{ComposeRefusal}
+use Rattle.compose.specs.declared.ComposeRefusal.TheVariants.{NotWellFormed, TooLarge}
 use Rattle.compose.specs.Composed.{fits, composed}
 
 -- the number of the refusal, or 0, and the composed model, or the blank model
@@ -23,11 +22,12 @@ compose_report a b =
     (cond (not (fits a b)) (compose_reported 38 blank_model)
     (compose_reported 0 (composed a b)))
 
--- the number of each case of the answer
-abbrev pub compose_number : ComposeOutcome → ℕ
-compose_number Composed = 0
+-- the number of each refusal
+abbrev pub compose_number : ComposeRefusal → ℕ
 compose_number NotWellFormed = 20
 compose_number TooLarge = 38
 
-abbrev pub compose_told : ComposeAnswer → ComposeReport
-compose_told x = compose_reported (compose_number x.outcome) x.model
+-- what an answer tells: a refusal has the blank model
+abbrev pub compose_told : Result Model ComposeRefusal → ComposeReport
+compose_told (Ok m) = compose_reported 0 m
+compose_told (Err e) = compose_reported (compose_number e) blank_model

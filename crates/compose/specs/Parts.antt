@@ -1,14 +1,15 @@
 -- A step of the composed model and the steps of its two parts.
 use Rattle.std.specs.Prelude.{ℕ, ◌+◌, ◌-◌, min, not, ◌&&◌, cond, List, [], ◌∷◌, ◌++◌, leb}
-use Rattle.std.specs.Prelude.{Option, None, Some, option_map}
+use Rattle.std.specs.Prelude.{Option, None, Some, option_map, Result, Ok, Err}
 use Rattle.model.specs.declared.Model.{Model}
 use Rattle.model.specs.Indexed.{maybe}
 use Rattle.model.specs.Automaton.{ceiling, choices}
 use Rattle.model.specs.Form.{well_formed}
 use Rattle.compose.specs.declared.moves.Move.{Move}
 use Rattle.compose.specs.declared.moves.Move.TheVariants.{FirstAlone, SecondAlone, Together}
-use Rattle.compose.specs.declared.PartsAnswer.{PartsAnswer}
-use Rattle.compose.specs.declared.PartsAnswer.TheVariants.{Steps, NotWellFormed, TooLarge, NoSuchChoice}
+use Rattle.compose.specs.declared.PartSteps.{PartSteps}
+use Rattle.compose.specs.declared.PartsRefusal.{PartsRefusal}
+use Rattle.compose.specs.declared.PartsRefusal.TheVariants.{NotWellFormed, TooLarge, NoSuchChoice}
 use Rattle.compose.specs.Moves.{move_at}
 use Rattle.compose.specs.Composed.{fits, composed}
 
@@ -70,9 +71,13 @@ parts_report a b n =
     (cond (not (fits a b)) (parts_reported 38 0 0)
     (steps_report a b n))
 
--- the number and the values of each case of the answer
-abbrev pub parts_told : PartsAnswer → PartsReport
-parts_told (Steps x y) = parts_reported 0 x y
-parts_told NotWellFormed = parts_reported 20 0 0
-parts_told TooLarge = parts_reported 38 0 0
-parts_told NoSuchChoice = parts_reported 27 0 0
+-- the number of each refusal
+abbrev pub parts_number : PartsRefusal → ℕ
+parts_number NotWellFormed = 20
+parts_number TooLarge = 38
+parts_number NoSuchChoice = 27
+
+-- what an answer tells: after a refusal both are 0
+abbrev pub parts_told : Result PartSteps PartsRefusal → PartsReport
+parts_told (Ok s) = parts_reported 0 s.first s.second
+parts_told (Err e) = parts_reported (parts_number e) 0 0

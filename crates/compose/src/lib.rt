@@ -9,7 +9,7 @@ ghost use Rattle.compose.specs.Joined.{atom_count, joined_atoms};
 ghost use Rattle.compose.specs.Moves.{moves, no_moves, added, placed};
 ghost use Rattle.compose.specs.Composed.{guard_fits, invariants_fit, guards_fit, fits, joined_counters, joined_invariants, composed_edge, composed};
 ghost use Rattle.compose.specs.ComposeCall.{compose_report, compose_number, compose_told};
-ghost use Rattle.compose.specs.Parts.{first_edge, second_edge, edge_byte, stays, steps_report, parts_report, parts_told};
+ghost use Rattle.compose.specs.Parts.{first_edge, second_edge, edge_byte, stays, steps_report, parts_report, parts_number, parts_told};
 
 use crate::joined::{atom_count, joined_atoms, standing};
 use crate::moves::{Move, Moves, edge_of, moves_of, paired};
@@ -19,19 +19,11 @@ use model::{Atom, Counter, Edge, Invariant, Model};
 mod joined;
 pub mod moves;
 
-// What became of two records.
-#[derive(Clone, Copy)]
-pub enum ComposeOutcome {
-    Composed,
-    NotWellFormed,
-    TooLarge,
-}
-
-// The composed model, or the blank model.
-#[derive(Clone, Copy)]
-pub struct ComposeAnswer {
-    pub outcome: ComposeOutcome,
-    pub model: Model,
+// Why two models are not composed.
+#[derive(Clone, Copy, Debug, PartialEq, Eq)]
+pub enum ComposeRefusal {
+    NotWellFormed = 20,
+    TooLarge = 38,
 }
 
 // The invariants of the composed model's locations, as far as they are stored.
@@ -41,61 +33,33 @@ struct Invariants {
 }
 
 // What a step byte of the composed model is in each part: the part's own step byte, or 255 where it stands still.
-#[derive(Clone, Copy)]
-pub enum PartsAnswer {
-    NotWellFormed,
-    TooLarge,
-    NoSuchChoice,
-    Steps { first: u8, second: u8 },
+#[derive(Clone, Copy, Debug, PartialEq, Eq)]
+pub struct PartSteps {
+    pub first: u8,
+    pub second: u8,
 }
 
-impl ComposeOutcome {
+// Why a step byte is none of a composed model.
+#[derive(Clone, Copy, Debug, PartialEq, Eq)]
+pub enum PartsRefusal {
+    NotWellFormed = 20,
+    TooLarge = 38,
+    NoSuchChoice = 27,
+}
+
+impl ComposeRefusal {
     pub fn number(self) -> u8
         ensures { result ≡ compose_number self }
     {
-        match self {
-            ComposeOutcome::Composed => 0,
-            ComposeOutcome::NotWellFormed => 20,
-            ComposeOutcome::TooLarge => 38,
-        }
+        self as u8
     }
 }
 
-impl PartsAnswer {
+impl PartsRefusal {
     pub fn number(self) -> u8
-        ensures { result ≡ (parts_told self).number }
+        ensures { result ≡ parts_number self }
     {
-        match self {
-            PartsAnswer::NotWellFormed => 20,
-            PartsAnswer::TooLarge => 38,
-            PartsAnswer::NoSuchChoice => 27,
-            PartsAnswer::Steps {
-                first: _,
-                second: _,
-            } => 0,
-        }
-    }
-
-    pub fn first(self) -> u8
-        ensures { result ≡ (parts_told self).first }
-    {
-        match self {
-            PartsAnswer::NotWellFormed => 0,
-            PartsAnswer::TooLarge => 0,
-            PartsAnswer::NoSuchChoice => 0,
-            PartsAnswer::Steps { first, second: _ } => first,
-        }
-    }
-
-    pub fn second(self) -> u8
-        ensures { result ≡ (parts_told self).second }
-    {
-        match self {
-            PartsAnswer::NotWellFormed => 0,
-            PartsAnswer::TooLarge => 0,
-            PartsAnswer::NoSuchChoice => 0,
-            PartsAnswer::Steps { first: _, second } => second,
-        }
+        self as u8
     }
 }
 
@@ -283,32 +247,17 @@ fn composed(a: Model, b: Model, list: Moves) -> Model
 }
 
 // Two models as one: 20, 38.
-pub fn compose(a: Model, b: Model) -> ComposeAnswer
+pub fn compose(a: Model, b: Model) -> Result<Model, ComposeRefusal>
     ensures { compose_told result ≡ compose_report a b }
 {
-    if !well_formed(a) {
-        return ComposeAnswer {
-            outcome: ComposeOutcome::NotWellFormed,
-            model: Model::blank(),
-        };
-    }
-    if !well_formed(b) {
-        return ComposeAnswer {
-            outcome: ComposeOutcome::NotWellFormed,
-            model: Model::blank(),
-        };
+    if !well_formed(a) || !well_formed(b) {
+        return Err(ComposeRefusal::NotWellFormed);
     }
     let list = moves_of(a, b);
     if !fits(a, b, list.count) {
-        return ComposeAnswer {
-            outcome: ComposeOutcome::TooLarge,
-            model: Model::blank(),
-        };
+        return Err(ComposeRefusal::TooLarge);
     }
-    ComposeAnswer {
-        outcome: ComposeOutcome::Composed,
-        model: composed(a, b, list),
-    }
+    Ok(composed(a, b, list))
 }
 
 // A delay cut to a part's ceiling.
@@ -348,44 +297,41 @@ fn second_step(way: Move, top: usize) -> u8
 }
 
 // A step byte of the composed model, whose moves are given, in each part.
-fn steps_of(a: Model, b: Model, list: Moves, byte: u8) -> PartsAnswer
+fn steps_of(a: Model, b: Model, list: Moves, byte: u8) -> Result<PartSteps, PartsRefusal>
     requires { T (well_formed a) × T (well_formed b) × T (fits a b) × (list ≡ added no_moves (moves a b)) }
     ensures { parts_told result ≡ steps_report a b byte }
 {
     let m = composed(a, b, list);
     let z = m.totals();
     if byte as usize >= z.choices {
-        return PartsAnswer::NoSuchChoice;
+        return Err(PartsRefusal::NoSuchChoice);
     }
     let first = a.ceiling();
     let second = b.ceiling();
     if byte as usize <= z.ceiling {
-        return PartsAnswer::Steps {
+        return Ok(PartSteps {
             first: cut(byte, first),
             second: cut(byte, second),
-        };
+        });
     }
     let s = list.slots[byte as usize - (z.ceiling + 1)];
     let way = s.way;
-    PartsAnswer::Steps {
+    Ok(PartSteps {
         first: first_step(way, first),
         second: second_step(way, second),
-    }
+    })
 }
 
 // What a step byte of the composed model is in each part: 20, 38, 27.
-pub fn part_steps(a: Model, b: Model, byte: u8) -> PartsAnswer
+pub fn part_steps(a: Model, b: Model, byte: u8) -> Result<PartSteps, PartsRefusal>
     ensures { parts_told result ≡ parts_report a b byte }
 {
-    if !well_formed(a) {
-        return PartsAnswer::NotWellFormed;
-    }
-    if !well_formed(b) {
-        return PartsAnswer::NotWellFormed;
+    if !well_formed(a) || !well_formed(b) {
+        return Err(PartsRefusal::NotWellFormed);
     }
     let list = moves_of(a, b);
     if !fits(a, b, list.count) {
-        return PartsAnswer::TooLarge;
+        return Err(PartsRefusal::TooLarge);
     }
     steps_of(a, b, list, byte)
 }

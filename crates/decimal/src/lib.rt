@@ -19,11 +19,8 @@ pub fn put_bytes(text: &[u8], out: &mut [u8], at: usize) -> usize
     requires { Room text.now out.old at }
     ensures { Wrote text.now out.old out.new at result }
 {
-    let mut end = at;
-    for i in 0..text.len() {
-        out[end] = text[i];
-        end += 1;
-    }
+    let end = at + text.len();
+    out[at..end].copy_from_slice(text);
     end
 }
 

@@ -1,29 +1,56 @@
 -- The bytes of a state, of a step and of a run, part after part.
-use mathlib.Core.Path.{◌≡◌, refl, sym, ap, ◌∙◌}
+use mathlib.Core.Path.{◌≡◌, refl, sym, ap, ap₂, ◌∙◌}
+use mathlib.Core.Bool.{true}
 use mathlib.Core.List.{List, [], ◌∷◌, ◌++◌, append_assoc, append-nil}
-use Rattle.std.specs.Prelude.{Option, None, Some}
-use Prim.Native.Nat.{ℕ, ◌+◌, ◌<◌}
+use Rattle.std.specs.Prelude.{Option, Some, is_some}
+use Prim.Native.Nat.{ℕ, ◌+◌, ◌<◌, ◌≤◌}
 use native.Mathlib.Numerals.{add-one}
 use lib.ListN.{length, take, drop, get_or, take-append-drop}
-use lib.Seq.{take-suc, drop-cons}
+use lib.Seq.{take-suc, drop-cons, get_or-take, length-take-le}
+use lib.Dec.{T}
+use native.Mathlib.Omega.{arith}
+use Rattle.encode.specs.declared.Shown.{Shown}
+use Rattle.model.specs.Form.{well_formed}
+use Rattle.model.proofs.FormLaws.{formed}
+use Rattle.model.proofs.IndexedLaws.{length_list, get_d_list}
+use Rattle.list.proofs.ListLaws.{each_cong}
 use Rattle.model.specs.declared.Model.{Model}
 use Rattle.model.specs.declared.State.{State}
-use Rattle.model.specs.declared.Stepped.{Stepped}
-use Rattle.model.specs.Indexed.{each}
-use Rattle.model.specs.Automaton.{ceiling, choices, step, stepped}
+use Rattle.model.specs.Indexed.{each, list_below}
+use Rattle.model.specs.Automaton.{ceiling, choices, step}
 use Rattle.model.specs.Run.{walk}
-use Rattle.model.proofs.IndexedLaws.{some_none}
 use Rattle.model.proofs.RunLaws.{walk_nil, walk_cons, walk_step, walk_app}
 use Rattle.list.specs.Assignments.{one_hot, state_bytes, steps_bytes}
-use Rattle.encode.specs.BlockBytes.{counter_bytes, clock_bytes, step_bytes, Walks}
+use Rattle.encode.specs.BlockBytes.{counter_group, clock_group, shown_bytes, no_group, step_bytes, Walks}
+
+-- the groups of all slots
+pub length_shown : (f : ℕ → Shown) (groups : List Shown) → groups ≡ list_below f 4 → length groups ≡ 4
+length_shown f groups e = ap length e ∙ length_list f 4
+
+pub length_first : (f : ℕ → Shown) (n : ℕ) (groups : List Shown) → n ≤ 4 → groups ≡ list_below f 4 → length (take n groups) ≡ n
+length_first f n groups l e = length-take-le n groups (omega (arith, length_shown f groups e, l))
+
+-- the groups of the first n slots
+each_shown : (f : ℕ → Shown) (n : ℕ) (groups : List Shown) → n ≤ 4 → groups ≡ list_below f 4
+    → each n (λ i. one_hot (f i).size (f i).value) ≡ each (length (take n groups)) (shown_bytes (take n groups))
+unfolding shown_bytes
+each_shown f n groups l e =
+    rw (length_first f n groups l e) (each_cong n _ _ (λ i p.
+    ap (λ (g : Shown). one_hot g.size g.value)
+    (sym (get_or-take n groups i no_group p ∙ ap (λ (x : List Shown). get_or x i no_group) e ∙ get_d_list no_group f 4 i (omega (arith, p, l))))))
 
 -- a state block: the location, the counters, the clocks
-pub state_is : (m : Model) (s : State) (top : ℕ) → top ≡ ceiling m → state_bytes one_hot m s
-    ≡ one_hot m.locations s.location ++ each m.vars (counter_bytes m.counters s.counters) ++ each m.clocks (clock_bytes top s.clocks)
-unfolding state_bytes counter_bytes clock_bytes
-state_is m s top e =
-    ap (λ (n : ℕ). one_hot m.locations s.location ++ each m.vars (counter_bytes m.counters s.counters) ++ each m.clocks
-    (clock_bytes n s.clocks)) (sym e)
+pub state_is : (m : Model) (s : State) (top : ℕ) {counters clocks : List Shown} → T (well_formed m) → top ≡ ceiling m
+    → counters ≡ list_below (counter_group m.counters s.counters) 4 → clocks ≡ list_below (clock_group top s.clocks) 4
+    → state_bytes one_hot m s ≡ one_hot m.locations s.location
+    ++ each (length (take m.vars counters)) (shown_bytes (take m.vars counters)) ++ each (length (take m.clocks clocks)) (shown_bytes (take m.clocks clocks))
+unfolding state_bytes
+state_is m s top {counters} {clocks} w e p q =
+    let ok = formed m w in
+    ap (λ (n : ℕ). one_hot m.locations s.location ++ each m.vars (λ i. one_hot (counter_group m.counters s.counters i).size (get_or s.counters i 0))
+    ++ each m.clocks (λ i. one_hot (n + 1) (get_or s.clocks i 0))) (sym e)
+    ∙ ap₂ (λ (a b : List ℕ). one_hot m.locations s.location ++ a ++ b)
+    (each_shown (counter_group m.counters s.counters) m.vars counters ok.vars_le p) (each_shown (clock_group top s.clocks) m.clocks clocks ok.clocks_le q)
 
 -- a step: the choice, the state
 pub step_is : (m : Model) (b : ℕ) (t : State) (n : ℕ) → n ≡ choices m → step_bytes m b t ≡ one_hot n b ++ state_bytes one_hot m t
@@ -60,17 +87,13 @@ module _ (m : Model) where
     more : take (t + 1) run ≡ take t run ++ (get_or run t 0 ∷ [])
     more = ap (λ (n : ℕ). take n run) (add-one t) ∙ take-suc run t 0 l
 
-    advanced : (o : Option State) (a : Stepped) → a ≡ stepped s o → (u : State) → o ≡ Some u → o ≡ Some a.state
-    advanced None a e u h = absurd (some_none h)
-    advanced (Some v) a e u h = rw e
-
     -- the walk goes on, so the next step is taken
-    pub taken : Walks m first run → (a : Stepped) → a ≡ stepped s (step m s (get_or run t 0)) → step m s (get_or run t 0) ≡ Some a.state
-    taken w a e =
+    pub taken : Walks m first run → {u : Option State} → u ≡ step m s (get_or run t 0) → is_some u ≡ true
+    taken w e =
         let whole : walk m s (get_or run t 0 ∷ drop (t + 1) run) ≡ Some w.end = ap (walk m s) (sym rest)
         ∙ sym (walk_app m (take t run) (drop t run) first s reached) ∙ ap (walk m first) (take-append-drop t run) ∙ w.ends in
         let x = (walk_cons m s w.end (get_or run t 0) (drop (t + 1) run)).0 whole in
-        advanced (step m s (get_or run t 0)) a e x.0 x.1
+        ap is_some (e ∙ x.1)
 
     module _ (u : State) (h : step m s (get_or run t 0) ≡ Some u) where
       pub reached_more : walk m first (take (t + 1) run) ≡ Some u

@@ -5,7 +5,7 @@ use mathlib.Core.Bool.{Bool, true, false, true≢false, cond}
 use mathlib.Core.List.{List, ◌++◌}
 use Prim.Native.Nat.{ℕ, ◌≤◌}
 use native.Mathlib.Omega.{arith}
-use lib.Dec.{T, ltb, eqb}
+use lib.Dec.{T, ltb}
 use lib.ListN.{length, drop}
 use borrow.Author.Tests.{ltb-false, le-ltb}
 use Rattle.model.specs.declared.Model.{Model}
@@ -15,7 +15,9 @@ use Rattle.model.specs.Form.{well_formed}
 use Rattle.model.specs.Refusal.{Refusal, refusal, accepted, is_accepted}
 use Rattle.model.proofs.FormLaws.{formed}
 use Rattle.model.proofs.RunLaws.{run_iff}
-use Rattle.walk.specs.Walker.{walk_report}
+use Rattle.walk.specs.declared.RunRefusal.{RunRefusal}
+use Rattle.walk.specs.declared.RunRefusal.TheVariants.{NotWellFormed, TooLong, InitialInvariantFails, NoSuchChoice, NotAllowed, NotInTarget}
+use Rattle.walk.specs.Walker.{walk_report, run_refusal}
 use Rattle.walk.proofs.Accepts.{zero_accepted, accepts_iff}
 use Rattle.list.specs.Assignments.{assignment_of}
 use Rattle.list.proofs.OneHot.{assignment_is}
@@ -23,18 +25,22 @@ use Rattle.buffer.specs.Buffers.{Room, Wrote}
 use Rattle.encode.specs.BlockBytes.{Walks}
 use Rattle.encode.specs.EncodeCall.{encode_report, encode_left}
 
--- ---- what an accepted run is
--- a test on the number of a verdict, said of the report
-pub tested : {n : ℕ} {v r : Refusal} {b : Bool} → n ≡ v.number → v ≡ r → eqb n 0 ≡ b → eqb r.number 0 ≡ b
-tested e f t = ap (λ (x : ℕ). eqb x 0) (sym (e ∙ ap (λ (x : Refusal). x.number) f)) ∙ t
+-- ---- what a refused and an accepted run are
+pub run_refused : (e : RunRefusal) → is_accepted (run_refusal e) ≡ false
+run_refused NotWellFormed = refl
+run_refused TooLong = refl
+run_refused InitialInvariantFails = refl
+run_refused (NoSuchChoice step) = refl
+run_refused (NotAllowed step) = refl
+run_refused NotInTarget = refl
 
 pub record AcceptedRun (m : Model) (r : List ℕ) : Type 0 where
   pub model_formed : T (well_formed m)
   pub short : length r ≤ 64
   pub is_run_lem : T (is_run m r)
 
-pub accepted_run : (m : Model) (r : List ℕ) → is_accepted (walk_report m r) ≡ true → AcceptedRun m r
-accepted_run m r h = let x = (accepts_iff m r).0 (zero_accepted m r h) in record { model_formed = x.0; short = x.1; is_run_lem = x.2 }
+pub accepted_run : (m : Model) (r : List ℕ) → accepted ≡ walk_report m r → AcceptedRun m r
+accepted_run m r h = let x = (accepts_iff m r).0 (sym h) in record { model_formed = x.0; short = x.1; is_run_lem = x.2 }
 
 pub walks : {m : Model} {r : List ℕ} → AcceptedRun m r → Walks m (initial_state m) r
 walks {m} {r} a = let x = (run_iff m r).0 a.is_run_lem in record { end = x.0; ends = x.1.walks }
@@ -47,37 +53,15 @@ room_for old a l = record { room = omega (arith, assignment_length a) }
 
 -- ---- the call
 module _ (m : Model) (r : List ℕ) where
-  pub report_refused : (n : ℕ) → is_accepted (walk_report m r) ≡ false → encode_report m r n ≡ walk_report m r
-  unfolding encode_report
-  report_refused n h = rw h
-
-  pub report_31 : (n : ℕ) → is_accepted (walk_report m r) ≡ true → ltb n (variables m (length r)) ≡ true → encode_report m r n ≡ refusal 31 0
-  unfolding encode_report
-  report_31 n h l = rw (h, l)
-
-  pub report_0 : (n : ℕ) → is_accepted (walk_report m r) ≡ true → ltb n (variables m (length r)) ≡ false → encode_report m r n ≡ accepted
-  unfolding encode_report
-  report_0 n h l = rw (h, l)
-
-  left_refused : (old : List ℕ) → is_accepted (encode_report m r (length old)) ≡ false → old ≡ encode_left m r old
-  unfolding encode_left
-  left_refused old h = rw h
-
-  pub left_not_walked : (old : List ℕ) → is_accepted (walk_report m r) ≡ false → old ≡ encode_left m r old
-  left_not_walked old h = left_refused old (ap is_accepted (report_refused (length old) h) ∙ h)
-
-  pub left_31 : (old : List ℕ) → is_accepted (walk_report m r) ≡ true → ltb (length old) (variables m (length r)) ≡ true → old ≡ encode_left m r old
-  left_31 old h l = left_refused old (ap is_accepted (report_31 (length old) h l))
-
   pub left_0 : (old : List ℕ) → encode_report m r (length old) ≡ accepted → encode_left m r old ≡ assignment_of m r ++ drop (variables m (length r)) old
   unfolding encode_left
   left_0 old h = rw h
 
-  pub left_written : {old new : List ℕ} {e : ℕ} → is_accepted (walk_report m r) ≡ true → ltb (length old) (variables m (length r)) ≡ false
+  pub left_written : {old new : List ℕ} {e : ℕ} → accepted ≡ walk_report m r → encode_report m r (length old) ≡ accepted
       → Wrote (assignment_of m r) old new 0 e → new ≡ encode_left m r old
   left_written {old} {new} {e} h l w =
       let end : e ≡ variables m (length r) = omega (arith, w.ends, assignment_length (accepted_run m r h)) in
-      w.list ∙ ap (λ (n : ℕ). assignment_of m r ++ drop n old) end ∙ sym (left_0 old (report_0 (length old) h l))
+      w.list ∙ ap (λ (n : ℕ). assignment_of m r ++ drop n old) end ∙ sym (left_0 old l)
 
 -- accepted: the walker accepts the run, and the buffer has room for N bytes
 pub encode_accepts : (m : Model) (r : List ℕ) (n : ℕ) → (encode_report m r n ≡ accepted) ↔ ((walk_report m r ≡ accepted) × (variables m (length r) ≤ n))

@@ -1,6 +1,5 @@
 -- The parts of an assignment that one function each writes, and the runs that can be walked.
-use Rattle.std.specs.Prelude.{◌≡◌, List, ◌++◌, ℕ, ◌+◌, get_or}
-use Rattle.std.specs.Prelude.{Some}
+use Rattle.std.specs.Prelude.{◌≡◌, List, ◌++◌, ℕ, ◌+◌, get_or, Some}
 use Rattle.model.specs.declared.Counter.{Counter}
 use Rattle.model.specs.declared.Model.{Model}
 use Rattle.model.specs.declared.State.{State}
@@ -8,14 +7,22 @@ use Rattle.model.specs.Record.{blank_counter}
 use Rattle.model.specs.Automaton.{choices}
 use Rattle.model.specs.Run.{walk}
 use Rattle.list.specs.Assignments.{one_hot, state_bytes}
+use Rattle.encode.specs.declared.Shown.{Shown}
 
--- The group of counter i, where the counters show `values`: greatest + 1 members.
-unfoldable pub counter_bytes : List Counter → List ℕ → ℕ → List ℕ
-counter_bytes counters values i = one_hot ((get_or counters i blank_counter).greatest + 1) (get_or values i 0)
+-- What is read past the last group.
+abbrev pub no_group : Shown
+no_group = record { size = 0; value = 0 }
 
--- The group of clock i, where the clocks show `values` under the ceiling `top`: top + 1 members.
-unfoldable pub clock_bytes : ℕ → List ℕ → ℕ → List ℕ
-clock_bytes top values i = one_hot (top + 1) (get_or values i 0)
+-- Group i of the groups that are shown.
+unfoldable pub shown_bytes : List Shown → ℕ → List ℕ
+shown_bytes groups i = one_hot (get_or groups i no_group).size (get_or groups i no_group).value
+
+-- The group of counter i, and that of clock i under the ceiling `top`.
+abbrev pub counter_group : List Counter → List ℕ → ℕ → Shown
+counter_group counters values i = record { size = (get_or counters i blank_counter).greatest + 1; value = get_or values i 0 }
+
+abbrev pub clock_group : ℕ → List ℕ → ℕ → Shown
+clock_group top values i = record { size = top + 1; value = get_or values i 0 }
 
 -- A step: its choice block, and the block of the state that it leads to.
 unfoldable pub step_bytes : Model → ℕ → State → List ℕ

@@ -1,17 +1,22 @@
 -- What the call answers and leaves, from the reading of the text and from the bytes placed.
+use Rattle.std.specs.Prelude.{Option, Some, None, Ok, Err}
 use Prim.Native.Nat.{ℕ, ◌≤◌}
 use mathlib.Core.Path.{◌≡◌, refl, sym, ap, ◌∙◌}
 use mathlib.Core.List.{List, foldl}
 use native.Mathlib.Omega.{arith}
 use lib.ListN.{length, take, replicate}
 use borrow.Author.Tests.{eq-eqb, ne_eqb}
+use Rattle.output.specs.declared.Outcome.{Outcome}
+use Rattle.output.specs.declared.Outcome.TheVariants as outcome
+use Rattle.output.specs.declared.OutputRefusal.{OutputRefusal}
+use Rattle.output.specs.declared.OutputRefusal.TheVariants as refusal
 use Rattle.output.specs.declared.lines.Stage.{Stage}
 use Rattle.output.specs.declared.lines.Stage.TheVariants.{BeforeStatus, InValues, Closed, Refuted}
 use Rattle.output.specs.declared.reading.Fault.{Fault}
-use Rattle.output.specs.declared.reading.Fault.TheVariants.{NoFault, OutOfFormOrPlace, AboveOrNamedBefore, Incomplete}
+use Rattle.output.specs.declared.reading.Fault.TheVariants.{OutOfFormOrPlace, AboveOrNamedBefore, Incomplete}
 use Rattle.output.specs.declared.reading.Reading.{Reading}
 use Rattle.output.specs.Tokens.{tokens_of, literals_in}
-use Rattle.output.specs.OutputCall.{Progress, judge, judged, start, report_of, output_report, output_left, bytes_of}
+use Rattle.output.specs.OutputCall.{Progress, judge, judged, start, report_of, output_report, output_left, output_told, bytes_of}
 use Rattle.output.specs.Counting.{counted_from, no_reading, count, literal_up_to}
 use Rattle.output.specs.Placing.{literals_of, Marking, marking, placed}
 use Rattle.output.proofs.CapLaws.{judged_cut}
@@ -24,15 +29,25 @@ pub report_is : (n : ℕ) (t : List ℕ) {r : Reading} → r ≡ counted_from (j
 unfolding output_report
 report_is n t e = ap (λ (r : Reading). report_of r.fault r.line r.stage) e
 
+-- a refusal has another outcome than 10, and so has what is not satisfiable
+pub refused_other : (e : OutputRefusal) → (output_told (Err e)).outcome ≡ 10 → ⊥
+refused_other (refusal.OutOfFormOrPlace l) h = absurd (omega (arith, h))
+refused_other (refusal.AboveOrNamedBefore l) h = absurd (omega (arith, h))
+refused_other (refusal.Incomplete l) h = absurd (omega (arith, h))
+
+pub unsatisfiable_other : (o : Outcome) → (o ≡ outcome.Satisfiable → ⊥) → (output_told (Ok o)).outcome ≡ 10 → ⊥
+unsatisfiable_other outcome.Satisfiable other h = other refl
+unsatisfiable_other outcome.Unsatisfiable other h = absurd (omega (arith, h))
+
 -- only a text whose closing 0 was read is satisfiable
-satisfiable_closed : (f : Fault) (l : ℕ) (s : Stage) → (report_of f l s).outcome ≡ 10 → s ≡ Closed
-satisfiable_closed NoFault l BeforeStatus h = absurd (omega (arith, h))
-satisfiable_closed NoFault l InValues h = absurd (omega (arith, h))
-satisfiable_closed NoFault l Closed h = refl
-satisfiable_closed NoFault l Refuted h = absurd (omega (arith, h))
-satisfiable_closed OutOfFormOrPlace l s h = absurd (omega (arith, h))
-satisfiable_closed AboveOrNamedBefore l s h = absurd (omega (arith, h))
-satisfiable_closed Incomplete l s h = absurd (omega (arith, h))
+satisfiable_closed : (f : Option Fault) (l : ℕ) (s : Stage) → (report_of f l s).outcome ≡ 10 → s ≡ Closed
+satisfiable_closed None l BeforeStatus h = absurd (omega (arith, h))
+satisfiable_closed None l InValues h = absurd (omega (arith, h))
+satisfiable_closed None l Closed h = refl
+satisfiable_closed None l Refuted h = absurd (omega (arith, h))
+satisfiable_closed (Some OutOfFormOrPlace) l s h = absurd (omega (arith, h))
+satisfiable_closed (Some AboveOrNamedBefore) l s h = absurd (omega (arith, h))
+satisfiable_closed (Some Incomplete) l s h = absurd (omega (arith, h))
 
 pub closed_stage : (n : ℕ) (t : List ℕ) → (output_report t n).outcome ≡ 10 → (judged n t).stage ≡ Closed
 unfolding output_report

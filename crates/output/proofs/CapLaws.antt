@@ -1,4 +1,5 @@
 -- A variable above n is refused whatever it is: a number that is cut off at n + 1 is judged as the whole number.
+use Rattle.std.specs.Prelude.{Option, Some, None}
 use Prim.Native.Nat.{ℕ, ◌+◌, ◌≤◌, ◌<◌}
 use mathlib.Core.Path.{◌≡◌, refl, sym, ap, ◌∙◌}
 use mathlib.Core.Logic.{⊎_elim}
@@ -8,7 +9,7 @@ use borrow.Author.Tests.{lt-ltb, le-ltb, ne_eqb}
 use Rattle.text.specs.bytes.Bytes.{split_on}
 use Rattle.model.proofs.IndexedLaws.{lt_or_le}
 use Rattle.output.specs.declared.lines.LineForm.{LineForm}
-use Rattle.output.specs.declared.lines.LineForm.TheVariants.{Malformed, Comment, Satisfiable, Unsatisfiable, Values}
+use Rattle.output.specs.declared.lines.LineForm.TheVariants.{Comment, Satisfiable, Unsatisfiable, Values}
 use Rattle.output.specs.declared.literals.Literal.{Literal}
 use Rattle.output.specs.Literals.{literal_of}
 use Rattle.output.specs.Lines.{form_of, words_of}
@@ -34,12 +35,12 @@ unfolding literal_of literal_up_to
 words_cut n [] = refl
 words_cut n (w ∷ ws) = ap (λ (l : List Token). literal (literal_up_to n w) ∷ l) (words_cut n ws)
 
-by_form : (n : ℕ) (f : LineForm) (l : List ℕ) → literals_by (literal_up_to n) f l ≡ map (cut_token n) (literals_by literal_of f l)
-by_form n Malformed l = refl
-by_form n Comment l = refl
-by_form n Satisfiable l = refl
-by_form n Unsatisfiable l = refl
-by_form n Values l = words_cut n (words_of l)
+by_form : (n : ℕ) (f : Option LineForm) (l : List ℕ) → literals_by (literal_up_to n) f l ≡ map (cut_token n) (literals_by literal_of f l)
+by_form n None l = refl
+by_form n (Some Comment) l = refl
+by_form n (Some Satisfiable) l = refl
+by_form n (Some Unsatisfiable) l = refl
+by_form n (Some Values) l = words_cut n (words_of l)
 
 line_cut : (n : ℕ) (l : List ℕ) → line_tokens (literal_up_to n) l ≡ map (cut_token n) (line_tokens literal_of l)
 unfolding line_tokens

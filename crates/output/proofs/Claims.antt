@@ -1,4 +1,5 @@
 -- Which texts are accepted, and which bytes they leave: the judging, token by token, comes to what the forms and the literals of the text say.
+use Rattle.std.specs.Prelude.{Option, Some, None}
 use Prim.Native.Nat.{ℕ, zero, suc, ◌+◌, ◌-◌, ◌*◌, ◌≤◌, ◌<◌}
 use mathlib.Core.Path.{◌≡◌, refl, sym, ap, ◌∙◌}
 use mathlib.Core.Logic.{◌↔◌, ◌⊎◌, inl, inr, ⊎_elim}
@@ -14,12 +15,12 @@ use Rattle.model.proofs.IndexedLaws.{one_if, sum_same, sum_add, sum_one, sum_con
 use Rattle.text.specs.bytes.Bytes.{is_digit, starts_with, split_on}
 use Rattle.text.specs.bytes.Ascii.{ascii}
 use Rattle.output.specs.declared.lines.LineForm.{LineForm}
-use Rattle.output.specs.declared.lines.LineForm.TheVariants.{Malformed, Comment, Satisfiable, Unsatisfiable, Values}
+use Rattle.output.specs.declared.lines.LineForm.TheVariants.{Comment, Satisfiable, Unsatisfiable, Values}
 use Rattle.output.specs.declared.lines.Stage.{Stage}
 use Rattle.output.specs.declared.lines.Stage.TheVariants.{BeforeStatus, InValues, Closed, Refuted}
 use Rattle.output.specs.declared.literals.Literal.{Literal}
 use Rattle.output.specs.declared.reading.Fault.{Fault}
-use Rattle.output.specs.declared.reading.Fault.TheVariants.{NoFault, OutOfFormOrPlace, AboveOrNamedBefore, Incomplete}
+use Rattle.output.specs.declared.reading.Fault.TheVariants.{OutOfFormOrPlace, AboveOrNamedBefore, Incomplete}
 use Rattle.output.specs.Literals.{are_digits, is_positive, unsigned, names_variable, are_literals, number_after, literal_of}
 use Rattle.output.specs.Lines.{is_text, words_of, is_values, form_of, in_place}
 use Rattle.output.specs.Tokens.{Token, formed, literal, literals_by, line_tokens, part_tokens, tokens_of, literals_in}
@@ -46,12 +47,12 @@ may_follow may (literal l) = Unit {0}
 may_follow none (formed f) = Unit {0}
 may_follow none (literal l) = ⊥
 
-abbrev after_form : LineForm → Next
-after_form Malformed = none
-after_form Comment = none
-after_form Satisfiable = none
-after_form Unsatisfiable = none
-after_form Values = must
+abbrev after_form : Option LineForm → Next
+after_form None = none
+after_form (Some Comment) = none
+after_form (Some Satisfiable) = none
+after_form (Some Unsatisfiable) = none
+after_form (Some Values) = must
 
 abbrev after : Token → Next
 after (formed f) = after_form f
@@ -102,13 +103,13 @@ words_order (w ∷ v ∷ ws) ts h o =
     let rest = words_order (v ∷ ws) ts both.1 o in
     (tt, rw (ne_eqb (literal_of w).variable 0 (variable_number_lem w both.0)) (tt, rest.1))
 
-values_words : (l : List ℕ) → form_of l ≡ Values → are_literals (words_of l) ≡ true
+values_words : (l : List ℕ) → form_of l ≡ (Some Values) → are_literals (words_of l) ≡ true
 unfolding form_of is_values
 values_words l h =
     go (starts_with (ascii "c ") l) (is_text (ascii "s SATISFIABLE") l) (is_text (ascii "s UNSATISFIABLE") l) (starts_with (ascii "v ") l)
     (are_literals (words_of l)) h
   where
-    go : (a b c d e : Bool) → cond a Comment (cond b Satisfiable (cond c Unsatisfiable (cond (d && e) Values Malformed))) ≡ Values → e ≡ true
+    go : (a b c d e : Bool) → cond a (Some Comment) (cond b (Some Satisfiable) (cond c (Some Unsatisfiable) (cond (d && e) (Some Values) None))) ≡ (Some Values) → e ≡ true
     go true b c d e h = cc
     go false true c d e h = cc
     go false false true d e h = cc
@@ -116,13 +117,13 @@ values_words l h =
     go false false false true true h = refl
     go false false false true false h = cc
 
-form_order : (f : LineForm) (l : List ℕ) (ts : List Token) → (f ≡ Values → are_literals (words_of l) ≡ true) → InOrder none ts
+form_order : (f : Option LineForm) (l : List ℕ) (ts : List Token) → (f ≡ (Some Values) → are_literals (words_of l) ≡ true) → InOrder none ts
     → InOrder (after_form f) (literals_by literal_of f l ++ ts)
-form_order Malformed l ts h o = o
-form_order Comment l ts h o = o
-form_order Satisfiable l ts h o = o
-form_order Unsatisfiable l ts h o = o
-form_order Values l ts h o = words_order (words_of l) ts (h refl) o
+form_order None l ts h o = o
+form_order (Some Comment) l ts h o = o
+form_order (Some Satisfiable) l ts h o = o
+form_order (Some Unsatisfiable) l ts h o = o
+form_order (Some Values) l ts h o = words_order (words_of l) ts (h refl) o
 
 parts_order : (ps : List (List ℕ)) → InOrder none (part_tokens literal_of ps)
 unfolding InOrder part_tokens line_tokens
@@ -141,7 +142,7 @@ more {A} {x} {xs} h = let z : suc (length xs) ≡ 0 = ap length h in omega (arit
 
 -- ---- judging from a place on, with no fault so far
 abbrev going : Stage → ℕ → List Literal → Progress
-going s i m = record { fault = NoFault; line = i; stage = s; named = m }
+going s i m = record { fault = None; line = i; stage = s; named = m }
 
 abbrev report_at : Progress → OutputReport
 report_at p = report_of p.fault p.line p.stage
@@ -150,23 +151,23 @@ abbrev outcome_of : Progress → ℕ
 outcome_of p = (report_at p).outcome
 
 -- a fault stays
-refused_none : (f : Fault) (i : ℕ) (s : Stage) → is_no_fault f ≡ false → (report_of f i s).outcome ≡ 0
-refused_none NoFault i s h = absurd (true≢false h)
-refused_none OutOfFormOrPlace i s h = refl
-refused_none AboveOrNamedBefore i s h = refl
-refused_none Incomplete i s h = refl
+refused_none : (f : Option Fault) (i : ℕ) (s : Stage) → is_no_fault f ≡ false → (report_of f i s).outcome ≡ 0
+refused_none None i s h = absurd (true≢false h)
+refused_none (Some OutOfFormOrPlace) i s h = refl
+refused_none (Some AboveOrNamedBefore) i s h = refl
+refused_none (Some Incomplete) i s h = refl
 
 after_fault : (n : ℕ) (ts : List Token) (p : Progress) → is_no_fault p.fault ≡ false → outcome_of (foldl (judge n) p ts) ≡ 0
 after_fault n ts p h = ap outcome_of (judge_stays n ts p h) ∙ refused_none p.fault p.line p.stage h
 
-out_of_place : (n : ℕ) (s : Stage) (i : ℕ) (m : List Literal) (f : LineForm) (ts : List Token) → in_place s f ≡ false
+out_of_place : (n : ℕ) (s : Stage) (i : ℕ) (m : List Literal) (f : Option LineForm) (ts : List Token) → in_place s f ≡ false
     → outcome_of (foldl (judge n) (going s i m) (formed f ∷ ts)) ≡ 0
 unfolding judge
-out_of_place n s i m f ts h = rw h (after_fault n ts (faulty OutOfFormOrPlace (going s (i + 1) m)) refl)
+out_of_place n s i m f ts h = rw h (after_fault n ts (faulty (Some OutOfFormOrPlace) (going s (i + 1) m)) refl)
 
 -- ---- after the closing 0, and after `s UNSATISFIABLE`: only comments
 abbrev OnlyComments : Stage → Type 0
-OnlyComments s = (in_place s Satisfiable ≡ false) × (in_place s Unsatisfiable ≡ false) × (in_place s Values ≡ false)
+OnlyComments s = (in_place s (Some Satisfiable) ≡ false) × (in_place s (Some Unsatisfiable) ≡ false) × (in_place s (Some Values) ≡ false)
 
 -- where a judging ended
 record EndsAt (n : ℕ) (p : Progress) (ts : List Token) (s : Stage) (m : List Literal) : Type 0 where
@@ -176,22 +177,22 @@ record EndsAt (n : ℕ) (p : Progress) (ts : List Token) (s : Stage) (m : List L
 over_of : (n : ℕ) (ts : List Token) (s : Stage) (i : ℕ) (m : List Literal) → InOrder none ts → forms_in ts ≡ [] → EndsAt n (going s i m) ts s m
 unfolding InOrder judge forms_in
 over_of n [] s i m o h = record { last = i; ended = refl }
-over_of n (formed Comment ∷ ts) s i m o h = let e = over_of n ts s (i + 1) m o.1 h in record { last = e.last; ended = e.ended }
-over_of n (formed Malformed ∷ ts) s i m o h = absurd (more h)
-over_of n (formed Satisfiable ∷ ts) s i m o h = absurd (more h)
-over_of n (formed Unsatisfiable ∷ ts) s i m o h = absurd (more h)
-over_of n (formed Values ∷ ts) s i m o h = absurd (more h)
+over_of n (formed (Some Comment) ∷ ts) s i m o h = let e = over_of n ts s (i + 1) m o.1 h in record { last = e.last; ended = e.ended }
+over_of n (formed None ∷ ts) s i m o h = absurd (more h)
+over_of n (formed (Some Satisfiable) ∷ ts) s i m o h = absurd (more h)
+over_of n (formed (Some Unsatisfiable) ∷ ts) s i m o h = absurd (more h)
+over_of n (formed (Some Values) ∷ ts) s i m o h = absurd (more h)
 over_of n (literal l ∷ ts) s i m o h = absurd o.0
 
 over_to : (n : ℕ) (ts : List Token) (s : Stage) (i : ℕ) (m : List Literal) → OnlyComments s → InOrder none ts
     → (outcome_of (foldl (judge n) (going s i m) ts) ≡ 0 → ⊥) → (forms_in ts ≡ []) × (literals_in ts ≡ [])
 unfolding InOrder judge forms_in literals_in
 over_to n [] s i m c o h = (refl, refl)
-over_to n (formed Comment ∷ ts) s i m c o h = over_to n ts s (i + 1) m c o.1 h
-over_to n (formed Malformed ∷ ts) s i m c o h = absurd (h (out_of_place n s i m Malformed ts refl))
-over_to n (formed Satisfiable ∷ ts) s i m c o h = absurd (h (out_of_place n s i m Satisfiable ts c.0))
-over_to n (formed Unsatisfiable ∷ ts) s i m c o h = absurd (h (out_of_place n s i m Unsatisfiable ts c.1))
-over_to n (formed Values ∷ ts) s i m c o h = absurd (h (out_of_place n s i m Values ts c.2))
+over_to n (formed (Some Comment) ∷ ts) s i m c o h = over_to n ts s (i + 1) m c o.1 h
+over_to n (formed None ∷ ts) s i m c o h = absurd (h (out_of_place n s i m None ts refl))
+over_to n (formed (Some Satisfiable) ∷ ts) s i m c o h = absurd (h (out_of_place n s i m (Some Satisfiable) ts c.0))
+over_to n (formed (Some Unsatisfiable) ∷ ts) s i m c o h = absurd (h (out_of_place n s i m (Some Unsatisfiable) ts c.1))
+over_to n (formed (Some Values) ∷ ts) s i m c o h = absurd (h (out_of_place n s i m (Some Values) ts c.2))
 over_to n (literal l ∷ ts) s i m c o h = absurd o.0
 
 -- ---- the lines of literals
@@ -203,7 +204,7 @@ Completes n m (l ∷ ls) = (l.variable ≡ 0 → ⊥) × (l.variable ≤ n) × (
 -- lines of literals, the last of which is 0, and what is judged when they end
 record Closing (n i : ℕ) (m : List Literal) (ts : List Token) : Type 0 where
   lines : ℕ
-  forms : forms_in ts ≡ replicate lines Values
+  forms : forms_in ts ≡ replicate lines (Some Values)
   named : List Literal
   closing : Literal
   zero : closing.variable ≡ 0
@@ -242,7 +243,7 @@ close_zero n i m l ts z o h = go (all_named n m) refl
           complete = e;
           ends = record { last = end.last; ended = rw (append-nil m) (same ∙ end.ended) };
         }
-    go false e = absurd (h (rw (z, e) (after_fault n ts (faulty Incomplete (going InValues i m)) refl)))
+    go false e = absurd (h (rw (z, e) (after_fault n ts (faulty (Some Incomplete) (going InValues i m)) refl)))
 
 close_next : (n i : ℕ) (m : List Literal) (l : Literal) (ts : List Token) → eqb l.variable 0 ≡ false
     → ((outcome_of (foldl (judge n) (going InValues i (m ++ (l ∷ []))) ts) ≡ 0 → ⊥) → Closing n i (m ++ (l ∷ [])) ts)
@@ -251,7 +252,7 @@ unfolding judge forms_in literals_in Completes
 close_next n i m l ts z rest h = go (ltb n l.variable) (is_named l.variable m) refl refl
   where
     fault : (ltb n l.variable || is_named l.variable m) ≡ true → ⊥
-    fault e = h (rw (z, e) (after_fault n ts (faulty AboveOrNamedBefore (going InValues i m)) refl))
+    fault e = h (rw (z, e) (after_fault n ts (faulty (Some AboveOrNamedBefore) (going InValues i m)) refl))
 
     go : (a b : Bool) → ltb n l.variable ≡ a → is_named l.variable m ≡ b → Closing n i m (literal l ∷ ts)
     go true b e f = absurd (fault (rw e))
@@ -274,7 +275,7 @@ values_to : (n : ℕ) (ts : List Token) (next : Next) (i : ℕ) (m : List Litera
     → (outcome_of (foldl (judge n) (going InValues i m) ts) ≡ 0 → ⊥) → Closing n i m ts
 unfolding InOrder judge forms_in literals_in
 values_to n [] next i m o h = absurd (h refl)
-values_to n (formed Comment ∷ ts) next i m o h =
+values_to n (formed (Some Comment) ∷ ts) next i m o h =
     let c = values_to n ts none (i + 1) m o.1 h in
     record {
       lines = c.lines;
@@ -286,14 +287,14 @@ values_to n (formed Comment ∷ ts) next i m o h =
       complete = c.complete;
       ends = record { last = c.ends.last; ended = c.ends.ended };
     }
-values_to n (formed Malformed ∷ ts) next i m o h = absurd (h (out_of_place n InValues i m Malformed ts refl))
-values_to n (formed Satisfiable ∷ ts) next i m o h = absurd (h (out_of_place n InValues i m Satisfiable ts refl))
-values_to n (formed Unsatisfiable ∷ ts) next i m o h = absurd (h (out_of_place n InValues i m Unsatisfiable ts refl))
-values_to n (formed Values ∷ ts) next i m o h =
+values_to n (formed None ∷ ts) next i m o h = absurd (h (out_of_place n InValues i m None ts refl))
+values_to n (formed (Some Satisfiable) ∷ ts) next i m o h = absurd (h (out_of_place n InValues i m (Some Satisfiable) ts refl))
+values_to n (formed (Some Unsatisfiable) ∷ ts) next i m o h = absurd (h (out_of_place n InValues i m (Some Unsatisfiable) ts refl))
+values_to n (formed (Some Values) ∷ ts) next i m o h =
     let c = values_to n ts must (i + 1) m o.1 h in
     record {
       lines = suc c.lines;
-      forms = ap (λ (fs : List LineForm). Values ∷ fs) c.forms;
+      forms = ap (λ (fs : List (Option LineForm)). (Some Values) ∷ fs) c.forms;
       named = c.named;
       closing = c.closing;
       zero = c.zero;
@@ -310,18 +311,18 @@ values_to n (literal l ∷ ts) next i m o h = go (eqb l.variable 0) refl (λ q. 
     go false e rest = close_next n i m l ts e (rest (rw e at o.1)) h
 
 -- the same from the forms and the literals
-abbrev is_values_form : LineForm → Bool
-is_values_form Malformed = false
-is_values_form Comment = false
-is_values_form Satisfiable = false
-is_values_form Unsatisfiable = false
-is_values_form Values = true
+abbrev is_values_form : Option LineForm → Bool
+is_values_form None = false
+is_values_form (Some Comment) = false
+is_values_form (Some Satisfiable) = false
+is_values_form (Some Unsatisfiable) = false
+is_values_form (Some Values) = true
 
-values_first : (f : LineForm) (fs : List LineForm) (k : ℕ) → f ∷ fs ≡ replicate k Values → f ≡ Values
+values_first : (f : Option LineForm) (fs : List (Option LineForm)) (k : ℕ) → f ∷ fs ≡ replicate k (Some Values) → f ≡ Some Values
 values_first f fs zero h = absurd (more h)
 values_first f fs (suc k) h = cc
 
-other_first : (f : LineForm) (fs : List LineForm) (k : ℕ) → f ∷ fs ≡ replicate k Values → is_values_form f ≡ false → ⊥
+other_first : (f : Option LineForm) (fs : List (Option LineForm)) (k : ℕ) → f ∷ fs ≡ replicate k (Some Values) → is_values_form f ≡ false → ⊥
 other_first f fs k h e = false≢true (sym e ∙ ap is_values_form (values_first f fs k h))
 
 must_more : (ts : List Token) → InOrder must ts → literals_in ts ≡ [] → ⊥
@@ -331,28 +332,28 @@ must_more (formed f ∷ ts) o h = o.0
 must_more (literal l ∷ ts) o h = more h
 
 -- without literals there is no line of them
-no_lines : (ts : List Token) (next : Next) (k : ℕ) → InOrder next ts → literals_in ts ≡ [] → forms_in ts ≡ replicate k Values → forms_in ts ≡ []
+no_lines : (ts : List Token) (next : Next) (k : ℕ) → InOrder next ts → literals_in ts ≡ [] → forms_in ts ≡ replicate k (Some Values) → forms_in ts ≡ []
 unfolding InOrder literals_in forms_in
 no_lines [] next k o h f = refl
-no_lines (formed Comment ∷ ts) next k o h f = no_lines ts none k o.1 h f
-no_lines (formed Malformed ∷ ts) next k o h f = absurd (other_first Malformed (forms_in ts) k f refl)
-no_lines (formed Satisfiable ∷ ts) next k o h f = absurd (other_first Satisfiable (forms_in ts) k f refl)
-no_lines (formed Unsatisfiable ∷ ts) next k o h f = absurd (other_first Unsatisfiable (forms_in ts) k f refl)
-no_lines (formed Values ∷ ts) next k o h f = absurd (must_more ts o.1 h)
+no_lines (formed (Some Comment) ∷ ts) next k o h f = no_lines ts none k o.1 h f
+no_lines (formed None ∷ ts) next k o h f = absurd (other_first None (forms_in ts) k f refl)
+no_lines (formed (Some Satisfiable) ∷ ts) next k o h f = absurd (other_first (Some Satisfiable) (forms_in ts) k f refl)
+no_lines (formed (Some Unsatisfiable) ∷ ts) next k o h f = absurd (other_first (Some Unsatisfiable) (forms_in ts) k f refl)
+no_lines (formed (Some Values) ∷ ts) next k o h f = absurd (must_more ts o.1 h)
 no_lines (literal l ∷ ts) next k o h f = absurd (more h)
 
 values_of : (n : ℕ) (ts : List Token) (next : Next) (i : ℕ) (m : List Literal) (k : ℕ) (named : List Literal) (closing : Literal)
-    → InOrder next ts → forms_in ts ≡ replicate k Values → closing.variable ≡ 0 → literals_in ts ≡ named ++ (closing ∷ []) → Completes n m named
+    → InOrder next ts → forms_in ts ≡ replicate k (Some Values) → closing.variable ≡ 0 → literals_in ts ≡ named ++ (closing ∷ []) → Completes n m named
     → report_at (foldl (judge n) (going InValues i m) ts) ≡ output_accepted 10
 unfolding InOrder judge forms_in literals_in Completes
 values_of n [] next i m k [] x o f z e c = absurd (more (sym e))
 values_of n [] next i m k (l ∷ named) x o f z e c = absurd (more (sym e))
-values_of n (formed Comment ∷ ts) next i m k named x o f z e c = values_of n ts none (i + 1) m k named x o.1 f z e c
-values_of n (formed Malformed ∷ ts) next i m k named x o f z e c = absurd (other_first Malformed (forms_in ts) k f refl)
-values_of n (formed Satisfiable ∷ ts) next i m k named x o f z e c = absurd (other_first Satisfiable (forms_in ts) k f refl)
-values_of n (formed Unsatisfiable ∷ ts) next i m k named x o f z e c = absurd (other_first Unsatisfiable (forms_in ts) k f refl)
-values_of n (formed Values ∷ ts) next i m zero named x o f z e c = absurd (more f)
-values_of n (formed Values ∷ ts) next i m (suc k) named x o f z e c = values_of n ts must (i + 1) m k named x o.1 (ap tail f) z e c
+values_of n (formed (Some Comment) ∷ ts) next i m k named x o f z e c = values_of n ts none (i + 1) m k named x o.1 f z e c
+values_of n (formed None ∷ ts) next i m k named x o f z e c = absurd (other_first None (forms_in ts) k f refl)
+values_of n (formed (Some Satisfiable) ∷ ts) next i m k named x o f z e c = absurd (other_first (Some Satisfiable) (forms_in ts) k f refl)
+values_of n (formed (Some Unsatisfiable) ∷ ts) next i m k named x o f z e c = absurd (other_first (Some Unsatisfiable) (forms_in ts) k f refl)
+values_of n (formed (Some Values) ∷ ts) next i m zero named x o f z e c = absurd (more f)
+values_of n (formed (Some Values) ∷ ts) next i m (suc k) named x o f z e c = values_of n ts must (i + 1) m k named x o.1 (ap tail f) z e c
 values_of n (literal l ∷ ts) next i m k [] x o f z e c =
     let first : l ≡ x = cc in
     let test = eq-eqb l.variable 0 (ap (λ (y : Literal). y.variable) first ∙ z) in
@@ -368,16 +369,16 @@ values_of n (literal l ∷ ts) next i m k (y ∷ named) x o f z e c =
 
 -- ---- the first line that is no comment
 -- `s SATISFIABLE` 1, `s UNSATISFIABLE` 2
-abbrev status_of : List LineForm → ℕ
+abbrev status_of : List (Option LineForm) → ℕ
 status_of [] = 0
-status_of (Malformed ∷ fs) = 0
-status_of (Comment ∷ fs) = 0
-status_of (Satisfiable ∷ fs) = 1
-status_of (Unsatisfiable ∷ fs) = 2
-status_of (Values ∷ fs) = 0
+status_of (None ∷ fs) = 0
+status_of ((Some Comment) ∷ fs) = 0
+status_of ((Some Satisfiable) ∷ fs) = 1
+status_of ((Some Unsatisfiable) ∷ fs) = 2
+status_of ((Some Values) ∷ fs) = 0
 
 -- the status line f, after comments, leads to the stage s
-record Status (n i : ℕ) (ts : List Token) (f : LineForm) (s : Stage) : Type 0 where
+record Status (n i : ℕ) (ts : List Token) (f : Option LineForm) (s : Stage) : Type 0 where
   rest : List Token
   line : ℕ
   forms : forms_in ts ≡ f ∷ forms_in rest
@@ -387,10 +388,10 @@ record Status (n i : ℕ) (ts : List Token) (f : LineForm) (s : Stage) : Type 0 
 
 data Beginning (n i : ℕ) (ts : List Token) : Type 0 where
   no_status : outcome_of (foldl (judge n) (going BeforeStatus i []) ts) ≡ 0 → status_of (forms_in ts) ≡ 0 → Beginning n i ts
-  is_satisfiable : Status n i ts Satisfiable InValues → Beginning n i ts
-  is_unsatisfiable : Status n i ts Unsatisfiable Refuted → Beginning n i ts
+  is_satisfiable : Status n i ts (Some Satisfiable) InValues → Beginning n i ts
+  is_unsatisfiable : Status n i ts (Some Unsatisfiable) Refuted → Beginning n i ts
 
-past_comment : (n i : ℕ) (ts : List Token) → Beginning n (i + 1) ts → Beginning n i (formed Comment ∷ ts)
+past_comment : (n i : ℕ) (ts : List Token) → Beginning n (i + 1) ts → Beginning n i (formed (Some Comment) ∷ ts)
 unfolding judge forms_in literals_in
 past_comment n i ts (no_status a b) = no_status a b
 past_comment n i ts (is_satisfiable a) =
@@ -401,13 +402,13 @@ past_comment n i ts (is_unsatisfiable a) =
 beginning : (n : ℕ) (ts : List Token) (i : ℕ) → InOrder none ts → Beginning n i ts
 unfolding InOrder judge forms_in literals_in
 beginning n [] i o = no_status refl refl
-beginning n (formed Comment ∷ ts) i o = past_comment n i ts (beginning n ts (i + 1) o.1)
-beginning n (formed Malformed ∷ ts) i o = no_status (out_of_place n BeforeStatus i [] Malformed ts refl) refl
-beginning n (formed Satisfiable ∷ ts) i o =
+beginning n (formed (Some Comment) ∷ ts) i o = past_comment n i ts (beginning n ts (i + 1) o.1)
+beginning n (formed None ∷ ts) i o = no_status (out_of_place n BeforeStatus i [] None ts refl) refl
+beginning n (formed (Some Satisfiable) ∷ ts) i o =
     is_satisfiable (record { rest = ts; line = i + 1; forms = refl; literals = refl; order = o.1; same = refl })
-beginning n (formed Unsatisfiable ∷ ts) i o =
+beginning n (formed (Some Unsatisfiable) ∷ ts) i o =
     is_unsatisfiable (record { rest = ts; line = i + 1; forms = refl; literals = refl; order = o.1; same = refl })
-beginning n (formed Values ∷ ts) i o = no_status (out_of_place n BeforeStatus i [] Values ts refl) refl
+beginning n (formed (Some Values) ∷ ts) i o = no_status (out_of_place n BeforeStatus i [] (Some Values) ts refl) refl
 beginning n (literal l ∷ ts) i o = absurd o.0
 
 begun : (n : ℕ) (t : List ℕ) → Beginning n 0 (tokens_of literal_of t)
@@ -425,7 +426,7 @@ refuted_to n i ts o h =
     (forms, ap report_at (over_of n ts Refuted i [] o forms).ended)
 
 -- The outcome is 20 if and only if the only line that is no comment is `s UNSATISFIABLE`.
-pub unsatisfiable_iff : (n : ℕ) (t : List ℕ) → (output_report t n ≡ output_accepted 20) ↔ (forms_in (tokens_of literal_of t) ≡ Unsatisfiable ∷ [])
+pub unsatisfiable_iff : (n : ℕ) (t : List ℕ) → (output_report t n ≡ output_accepted 20) ↔ (forms_in (tokens_of literal_of t) ≡ Some Unsatisfiable ∷ [])
 unsatisfiable_iff n t = rw (report_is n t) (go (begun n t))
   where
     tokens : List Token
@@ -434,7 +435,7 @@ unsatisfiable_iff n t = rw (report_is n t) (go (begun n t))
     end : Progress
     end = foldl (judge n) start tokens
 
-    go : Beginning n 0 tokens → (report_at end ≡ output_accepted 20) ↔ (forms_in tokens ≡ Unsatisfiable ∷ [])
+    go : Beginning n 0 tokens → (report_at end ≡ output_accepted 20) ↔ (forms_in tokens ≡ Some Unsatisfiable ∷ [])
     go (no_status a b) = (
       λ h. let e : outcome_of end ≡ 20 = ap (λ (r : OutputReport). r.outcome) h in absurd (omega (arith, a, e)),
       λ h. let e : status_of (forms_in tokens) ≡ 2 = ap status_of h in absurd (omega (arith, b, e)),
@@ -453,7 +454,7 @@ unsatisfiable_iff n t = rw (report_is n t) (go (begun n t))
           let e : outcome_of end ≡ 20 = ap (λ (r : OutputReport). r.outcome) h in
           let same : outcome_of end ≡ outcome_of (foldl (judge n) (going Refuted a.line []) a.rest) = ap outcome_of a.same in
           let (forms, accepted) = refuted_to n a.line a.rest a.order (λ q. omega (arith, e, same, q)) in
-          a.forms ∙ ap (λ (fs : List LineForm). Unsatisfiable ∷ fs) forms,
+          a.forms ∙ ap (λ (fs : List (Option LineForm)). (Some Unsatisfiable) ∷ fs) forms,
       λ h.
           let forms : forms_in a.rest ≡ [] = ap tail (sym a.forms ∙ h) in
           ap report_at (a.same ∙ (over_of n a.rest Refuted a.line [] a.order forms).ended),
@@ -614,7 +615,7 @@ satisfied n t h = go (begun n t)
         record {
           names = record {
             lines = c.lines;
-            status = a.forms ∙ ap (λ (fs : List LineForm). Satisfiable ∷ fs) c.forms;
+            status = a.forms ∙ ap (λ (fs : List (Option LineForm)). (Some Satisfiable) ∷ fs) c.forms;
             named = c.named;
             zero = c.closing;
             is_zero = c.zero;
@@ -645,7 +646,7 @@ accepted_of n t h = report_is n t ∙ go (begun n t)
     go (is_satisfiable a) =
         let all = once_complete n h.named [] (once_total n h.named h.many h.once)
         (λ v low high. let k = h.once v low high in omega (arith, k)) in
-        let forms : forms_in a.rest ≡ replicate h.lines Values = ap tail (sym a.forms ∙ h.status) in
+        let forms : forms_in a.rest ≡ replicate h.lines (Some Values) = ap tail (sym a.forms ∙ h.status) in
         ap report_at a.same
         ∙ values_of n a.rest none a.line [] h.lines h.named h.zero a.order forms h.is_zero (sym a.literals ∙ h.closed) all
     go (is_unsatisfiable a) = let two : status_of (forms_in tokens) ≡ 2 = ap status_of a.forms in absurd (omega (arith, status, two))

@@ -1,4 +1,5 @@
 -- Counting variables up to a limit comes to remembering them, if the limit is where the first is named again.
+use Rattle.std.specs.Prelude.{Option, Some, None}
 use Prim.Native.Nat.{ℕ, zero, suc, ◌+◌, ◌≤◌, ◌<◌}
 use mathlib.Core.Path.{◌≡◌, refl, sym, ap, ◌∙◌}
 use mathlib.Core.Logic.{◌⊎◌, inl, inr, ⊎_elim}
@@ -11,7 +12,7 @@ use borrow.Author.Tests.{lt-ltb, le-ltb, le-leb, lt-leb, eq-eqb, ne_eqb, leb-tru
 use Rattle.output.specs.declared.lines.LineForm.{LineForm}
 use Rattle.output.specs.declared.lines.Stage.TheVariants.{Closed}
 use Rattle.output.specs.declared.literals.Literal.{Literal}
-use Rattle.output.specs.declared.reading.Fault.TheVariants.{NoFault, OutOfFormOrPlace, AboveOrNamedBefore, Incomplete}
+use Rattle.output.specs.declared.reading.Fault.TheVariants.{OutOfFormOrPlace, AboveOrNamedBefore, Incomplete}
 use Rattle.output.specs.declared.reading.Reading.{Reading}
 use Rattle.output.specs.Lines.{in_place, stage_after}
 use Rattle.output.specs.Tokens.{Token, formed, literal, literals_in}
@@ -71,19 +72,19 @@ Agree n limit ts =
     → counted_from (foldl (judge n) p ts) ≡ foldl (count n limit) (counted_from p) ts
 
 module _ (n limit : ℕ) where
-  line_agrees : (f : LineForm) (ts : List Token) → Agree n limit ts → Agree n limit (formed f ∷ ts)
+  line_agrees : (f : Option LineForm) (ts : List Token) → Agree n limit ts → Agree n limit (formed f ∷ ts)
   unfolding judge count_line literals_in
   line_agrees f ts rest p a b = go (is_no_fault p.fault) refl
     where
       placed-or-not : (t : Bool)
-          → counted_from (foldl (judge n) (cond t (at_stage (stage_after p.stage f) (on_next_line p)) (faulty OutOfFormOrPlace (on_next_line p))) ts)
+          → counted_from (foldl (judge n) (cond t (at_stage (stage_after p.stage f) (on_next_line p)) (faulty (Some OutOfFormOrPlace) (on_next_line p))) ts)
           ≡ foldl (count n limit)
           (cond t
-          (record { fault = NoFault; line = p.line + 1; stage = stage_after p.stage f; named = length p.named })
-          (record { fault = OutOfFormOrPlace; line = p.line + 1; stage = p.stage; named = length p.named }))
+          (record { fault = None; line = p.line + 1; stage = stage_after p.stage f; named = length p.named })
+          (record { fault = Some OutOfFormOrPlace; line = p.line + 1; stage = p.stage; named = length p.named }))
           ts
       placed-or-not true = rest (at_stage (stage_after p.stage f) (on_next_line p)) a b
-      placed-or-not false = both_stay n limit ts (faulty OutOfFormOrPlace (on_next_line p)) refl
+      placed-or-not false = both_stay n limit ts (faulty (Some OutOfFormOrPlace) (on_next_line p)) refl
 
       go : (t : Bool) → is_no_fault p.fault ≡ t
           → counted_from (foldl (judge n) (judge n p (formed f)) ts) ≡ foldl (count n limit) (count_line f (counted_from p)) ts
@@ -98,11 +99,11 @@ module _ (n limit : ℕ) where
   zero_agrees l ts rest p a b ok z = rw (ok, eq-eqb l.variable 0 z) (go (all_named n p.named) refl)
     where
       go : (t : Bool) → all_named n p.named ≡ t
-          → counted_from (foldl (judge n) (cond t (at_stage Closed p) (faulty Incomplete p)) ts)
+          → counted_from (foldl (judge n) (cond t (at_stage Closed p) (faulty (Some Incomplete) p)) ts)
           ≡ foldl (count n limit)
           (cond (eqb (length p.named) n)
-          (record { fault = NoFault; line = p.line; stage = Closed; named = length p.named })
-          (record { fault = Incomplete; line = p.line; stage = p.stage; named = length p.named }))
+          (record { fault = None; line = p.line; stage = Closed; named = length p.named })
+          (record { fault = Some Incomplete; line = p.line; stage = p.stage; named = length p.named }))
           ts
       go true e =
           let full : length p.named ≡ n = sym a.tally ∙ all_full n p.named e in
@@ -115,14 +116,14 @@ module _ (n limit : ℕ) where
           }))
       go false e =
           let short : length p.named ≡ n → ⊥ = λ q. false≢true (sym e ∙ full_all n p.named (a.tally ∙ q)) in
-          rw (ne_eqb (length p.named) n short) (both_stay n limit ts (faulty Incomplete p) refl)
+          rw (ne_eqb (length p.named) n short) (both_stay n limit ts (faulty (Some Incomplete) p) refl)
 
   -- a variable above n is refused by both
   above_agrees : (l : Literal) (ts : List Token) (p : Progress) → is_no_fault p.fault ≡ true → (l.variable ≡ 0 → ⊥) → n < l.variable
       → counted_from (foldl (judge n) (judge_literal n l p) ts) ≡ foldl (count n limit) (count_literal n limit l (counted_from p)) ts
   unfolding count_literal
   above_agrees l ts p ok nonzero above =
-      rw (ok, ne_eqb l.variable 0 nonzero, lt-ltb n l.variable above) (both_stay n limit ts (faulty AboveOrNamedBefore p) refl)
+      rw (ok, ne_eqb l.variable 0 nonzero, lt-ltb n l.variable above) (both_stay n limit ts (faulty (Some AboveOrNamedBefore) p) refl)
 
   -- a variable from 1 to n: named before if and only if the limit is reached
   within_agrees : (l : Literal) (ts : List Token) → Agree n limit ts → (p : Progress) → Tallied n p.named
@@ -137,15 +138,15 @@ module _ (n limit : ℕ) where
       few = omega (arith, a.tally, below_few n p.named)
 
       go : (t : Bool) → is_named l.variable p.named ≡ t
-          → counted_from (foldl (judge n) (cond t (faulty AboveOrNamedBefore p) (with_named l p)) ts)
+          → counted_from (foldl (judge n) (cond t (faulty (Some AboveOrNamedBefore) p) (with_named l p)) ts)
           ≡ foldl (count n limit)
           (cond (leb limit (length p.named))
-          (record { fault = AboveOrNamedBefore; line = p.line; stage = p.stage; named = length p.named })
-          (record { fault = NoFault; line = p.line; stage = p.stage; named = length p.named + 1 }))
+          (record { fault = Some AboveOrNamedBefore; line = p.line; stage = p.stage; named = length p.named })
+          (record { fault = None; line = p.line; stage = p.stage; named = length p.named + 1 }))
           ts
       go true e =
           let none = fresh_named p.named l (literals_in ts) e in
-          rw (le-leb limit (length p.named) (omega (arith, b.first, none))) (both_stay n limit ts (faulty AboveOrNamedBefore p) refl)
+          rw (le-leb limit (length p.named) (omega (arith, b.first, none))) (both_stay n limit ts (faulty (Some AboveOrNamedBefore) p) refl)
       go false e =
           let one = fresh_new p.named l (literals_in ts) e in
           let room : length p.named < n =
@@ -203,12 +204,12 @@ some_limit n ts =
 
 -- ---- a limit that is not reached
 -- a line, and a literal, by the tests that are made of it
-abbrev pub line_case : Reading → LineForm → Bool → Bool → Reading
+abbrev pub line_case : Reading → Option LineForm → Bool → Bool → Reading
 line_case r f a b =
     cond a
     (cond b
-    (record { fault = NoFault; line = r.line + 1; stage = stage_after r.stage f; named = r.named })
-    (record { fault = OutOfFormOrPlace; line = r.line + 1; stage = r.stage; named = r.named }))
+    (record { fault = None; line = r.line + 1; stage = stage_after r.stage f; named = r.named })
+    (record { fault = Some OutOfFormOrPlace; line = r.line + 1; stage = r.stage; named = r.named }))
     r
 
 abbrev pub literal_case : Reading → Bool → Bool → Bool → Bool → Reading
@@ -216,11 +217,11 @@ literal_case r a b c d =
     cond a
     (cond b
     (cond c
-    (record { fault = NoFault; line = r.line; stage = Closed; named = r.named })
-    (record { fault = Incomplete; line = r.line; stage = r.stage; named = r.named }))
+    (record { fault = None; line = r.line; stage = Closed; named = r.named })
+    (record { fault = Some Incomplete; line = r.line; stage = r.stage; named = r.named }))
     (cond d
-    (record { fault = AboveOrNamedBefore; line = r.line; stage = r.stage; named = r.named })
-    (record { fault = NoFault; line = r.line; stage = r.stage; named = r.named + 1 })))
+    (record { fault = Some AboveOrNamedBefore; line = r.line; stage = r.stage; named = r.named })
+    (record { fault = None; line = r.line; stage = r.stage; named = r.named + 1 })))
     r
 
 -- the count never falls

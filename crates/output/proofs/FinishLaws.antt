@@ -1,5 +1,6 @@
 -- A text without a fault: the literals named are the first of the text, all different; after the closing 0 they are all variables. So the bytes placed
 -- for them are the assignment.
+use Rattle.std.specs.Prelude.{Option, Some, None}
 use Prim.Native.Nat.{ℕ, suc, ◌+◌, ◌-◌, ◌≤◌, ◌<◌}
 use mathlib.Core.Path.{◌≡◌, refl, sym, ap, ◌∙◌}
 use mathlib.Core.Logic.{◌⊎◌, inl, inr, ⊎_elim}
@@ -13,7 +14,7 @@ use borrow.Author.Tests.{eqb-false, ltb-false}
 use Rattle.model.specs.Indexed.{list_below}
 use Rattle.model.proofs.IndexedLaws.{length_list, get_d_list}
 use Rattle.output.specs.declared.lines.LineForm.{LineForm}
-use Rattle.output.specs.declared.lines.LineForm.TheVariants.{Malformed, Comment, Satisfiable, Unsatisfiable, Values}
+use Rattle.output.specs.declared.lines.LineForm.TheVariants.{Comment, Satisfiable, Unsatisfiable, Values}
 use Rattle.output.specs.declared.lines.Stage.{Stage}
 use Rattle.output.specs.declared.lines.Stage.TheVariants.{BeforeStatus, InValues, Closed, Refuted}
 use Rattle.output.specs.declared.literals.Literal.{Literal}
@@ -68,12 +69,12 @@ record Going (n : ℕ) (ls : List Literal) (p : Progress) (ts : List Token) : Ty
   kept : Kept n ls p
   next : (kept.rest ≡ literals_in ts) ⊎ (all_named n p.named ≡ true)
 
-closed_before : (s : Stage) (f : LineForm) → is_closed (stage_after s f) ≡ true → is_closed s ≡ true
-closed_before s Malformed h = h
-closed_before s Comment h = h
-closed_before s Satisfiable h = absurd (false≢true h)
-closed_before s Unsatisfiable h = absurd (false≢true h)
-closed_before s Values h = h
+closed_before : (s : Stage) (f : Option LineForm) → is_closed (stage_after s f) ≡ true → is_closed s ≡ true
+closed_before s None h = h
+closed_before s (Some Comment) h = h
+closed_before s (Some Satisfiable) h = absurd (false≢true h)
+closed_before s (Some Unsatisfiable) h = absurd (false≢true h)
+closed_before s (Some Values) h = h
 
 Goes : ℕ → List Literal → List Token → Type 0
 Goes n ls ts = (p : Progress) → Going n ls p ts → Kept n ls (foldl (judge n) p ts)
@@ -83,7 +84,7 @@ module _ (n : ℕ) (ls : List Literal) where
       → Kept n ls (foldl (judge n) q ts)
   stopped ts p q f e s k = rw (judge_stays n ts q f, e, s) (record { tally = k.tally; fresh = k.fresh; closed = k.closed; rest = k.rest; first = k.first })
 
-  line_goes : (f : LineForm) (ts : List Token) → Goes n ls ts → Goes n ls (formed f ∷ ts)
+  line_goes : (f : Option LineForm) (ts : List Token) → Goes n ls ts → Goes n ls (formed f ∷ ts)
   unfolding Goes judge literals_in
   line_goes f ts next p g = go (is_no_fault p.fault) refl
     where
@@ -91,7 +92,7 @@ module _ (n : ℕ) (ls : List Literal) where
       k = g.kept
 
       placed-or-not : (t : Bool)
-          → Kept n ls (foldl (judge n) (cond t (at_stage (stage_after p.stage f) (on_next_line p)) (faulty OutOfFormOrPlace (on_next_line p))) ts)
+          → Kept n ls (foldl (judge n) (cond t (at_stage (stage_after p.stage f) (on_next_line p)) (faulty (Some OutOfFormOrPlace) (on_next_line p))) ts)
       placed-or-not true =
           next (at_stage (stage_after p.stage f) (on_next_line p))
           (record {
@@ -104,7 +105,7 @@ module _ (n : ℕ) (ls : List Literal) where
             };
             next = g.next;
           })
-      placed-or-not false = stopped ts p (faulty OutOfFormOrPlace (on_next_line p)) refl refl refl k
+      placed-or-not false = stopped ts p (faulty (Some OutOfFormOrPlace) (on_next_line p)) refl refl refl k
 
       go : (t : Bool) → is_no_fault p.fault ≡ t → Kept n ls (foldl (judge n) (judge n p (formed f)) ts)
       go true e = rw e (placed-or-not (in_place p.stage f))
@@ -138,21 +139,21 @@ module _ (n : ℕ) (ls : List Literal) where
       k : Kept n ls p
       k = g.kept
 
-      closing : (t : Bool) → all_named n p.named ≡ t → Kept n ls (foldl (judge n) (cond t (at_stage Closed p) (faulty Incomplete p)) ts)
+      closing : (t : Bool) → all_named n p.named ≡ t → Kept n ls (foldl (judge n) (cond t (at_stage Closed p) (faulty (Some Incomplete) p)) ts)
       closing true e =
           next (at_stage Closed p)
           (record { kept = record { tally = k.tally; fresh = k.fresh; closed = λ h. e; rest = k.rest; first = k.first }; next = inr e })
-      closing false e = stopped ts p (faulty Incomplete p) refl refl refl k
+      closing false e = stopped ts p (faulty (Some Incomplete) p) refl refl refl k
 
       naming : (a t : Bool) → (l.variable ≡ 0 → ⊥) → ltb n l.variable ≡ a → is_named l.variable p.named ≡ t
-          → Kept n ls (foldl (judge n) (cond (a || t) (faulty AboveOrNamedBefore p) (with_named l p)) ts)
-      naming true t z a e = stopped ts p (faulty AboveOrNamedBefore p) refl refl refl k
-      naming false true z a e = stopped ts p (faulty AboveOrNamedBefore p) refl refl refl k
+          → Kept n ls (foldl (judge n) (cond (a || t) (faulty (Some AboveOrNamedBefore) p) (with_named l p)) ts)
+      naming true t z a e = stopped ts p (faulty (Some AboveOrNamedBefore) p) refl refl refl k
+      naming false true z a e = stopped ts p (faulty (Some AboveOrNamedBefore) p) refl refl refl k
       naming false false z a e = new_goes l ts next p g z (ltb-false n l.variable a) e
 
       by_zero : (z : Bool) → eqb l.variable 0 ≡ z → Kept n ls (foldl (judge n)
-          (cond z (cond (all_named n p.named) (at_stage Closed p) (faulty Incomplete p))
-          (cond (ltb n l.variable || is_named l.variable p.named) (faulty AboveOrNamedBefore p) (with_named l p))) ts)
+          (cond z (cond (all_named n p.named) (at_stage Closed p) (faulty (Some Incomplete) p))
+          (cond (ltb n l.variable || is_named l.variable p.named) (faulty (Some AboveOrNamedBefore) p) (with_named l p))) ts)
       by_zero true e = closing (all_named n p.named) refl
       by_zero false e = naming (ltb n l.variable) (is_named l.variable p.named) (eqb-false l.variable 0 e) refl refl
 

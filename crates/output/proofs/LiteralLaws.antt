@@ -1,5 +1,6 @@
 -- The literals of a text whatever the forms of its lines: what they are line by line, and that those counted by the first pass are the same as those
 -- of the lines that have the form.
+use Rattle.std.specs.Prelude.{Option, Some, None}
 use Prim.Native.Nat.{ℕ, zero, suc, ◌+◌, ◌-◌, ◌≤◌, ◌<◌}
 use mathlib.Core.Path.{◌≡◌, refl, sym, ap, ◌∙◌}
 use mathlib.Core.Logic.{◌⊎◌, inl, inr, ⊎_elim}
@@ -19,7 +20,7 @@ use Rattle.output.specs.OutputCall.{is_no_fault}
 use Rattle.output.specs.Counting.{literal_up_to, count_line, count_literal, count}
 use Rattle.output.specs.Placing.{line_literals, part_literals, literals_of}
 use Rattle.output.specs.declared.lines.LineForm.{LineForm}
-use Rattle.output.specs.declared.lines.LineForm.TheVariants.{Malformed, Comment, Satisfiable, Unsatisfiable, Values}
+use Rattle.output.specs.declared.lines.LineForm.TheVariants.{Comment, Satisfiable, Unsatisfiable, Values}
 use Rattle.output.specs.declared.literals.Literal.{Literal}
 use Rattle.output.specs.declared.reading.Reading.{Reading}
 use Rattle.output.proofs.LineLaws.{key_short}
@@ -91,10 +92,10 @@ words_in read [] = refl
 words_in read (w ∷ ws) = ap (λ (ls : List Literal). read w ∷ ls) (words_in read ws)
 
 -- the form by the tests that are made of a line
-abbrev form_by : Bool → Bool → Bool → Bool → LineForm
-form_by a b c d = cond a Comment (cond b Satisfiable (cond c Unsatisfiable (cond d Values Malformed)))
+abbrev form_by : Bool → Bool → Bool → Bool → Option LineForm
+form_by a b c d = cond a (Some Comment) (cond b (Some Satisfiable) (cond c (Some Unsatisfiable) (cond d (Some Values) None)))
 
-line_same : (read : List ℕ → Literal) (l : List ℕ) → (form_of l ≡ Malformed) ⊎ (literals_in (literals_by read (form_of l) l) ≡ line_literals read l)
+line_same : (read : List ℕ → Literal) (l : List ℕ) → (form_of l ≡ None) ⊎ (literals_in (literals_by read (form_of l) l) ≡ line_literals read l)
 unfolding form_of is_values line_literals literals_in
 line_same read l =
     go (starts_with (ascii "c ") l) (is_text (ascii "s SATISFIABLE") l) (is_text (ascii "s UNSATISFIABLE") l) (starts_with (ascii "v ") l)
@@ -107,7 +108,7 @@ line_same read l =
     none v h = rw h
 
     go : (a b c v d : Bool) → (a ≡ true → v ≡ false) → (b ≡ true → v ≡ false) → (c ≡ true → v ≡ false)
-        → (form_by a b c (v && d) ≡ Malformed) ⊎ (literals_in (literals_by read (form_by a b c (v && d)) l) ≡ cond v (map read (words_of l)) [])
+        → (form_by a b c (v && d) ≡ None) ⊎ (literals_in (literals_by read (form_by a b c (v && d)) l) ≡ cond v (map read (words_of l)) [])
     go true b c v d p q r = inr (none v (p refl))
     go false true c v d p q r = inr (none v (q refl))
     go false false true v d p q r = inr (none v (r refl))
@@ -128,7 +129,7 @@ step_few n limit l r = go (is_no_fault r.fault) (eqb l.variable 0) (eqb r.named 
     go true false c false = omega arith
     go false b c d = omega arith
 
-line_keeps : (f : LineForm) (r : Reading) → (count_line f r).named ≡ r.named
+line_keeps : (f : Option LineForm) (r : Reading) → (count_line f r).named ≡ r.named
 unfolding count_line
 line_keeps f r = go (is_no_fault r.fault) (in_place r.stage f)
   where
@@ -138,17 +139,17 @@ line_keeps f r = go (is_no_fault r.fault) (in_place r.stage f)
     go false b = refl
 
 -- a malformed line is a fault, so nothing is counted after it
-malformed_fault : (r : Reading) → is_no_fault (count_line Malformed r).fault ≡ false
+malformed_fault : (r : Reading) → is_no_fault (count_line None r).fault ≡ false
 unfolding count_line
 malformed_fault r = go (is_no_fault r.fault) refl
   where
-    go : (t : Bool) → is_no_fault r.fault ≡ t → is_no_fault (line_case r Malformed t false).fault ≡ false
+    go : (t : Bool) → is_no_fault r.fault ≡ t → is_no_fault (line_case r None t false).fault ≡ false
     go true e = refl
     go false e = e
 
-malformed_ends : (n limit : ℕ) (ts : List Token) (r : Reading) → (foldl (count n limit) r (formed Malformed ∷ ts)).named ≡ r.named
+malformed_ends : (n limit : ℕ) (ts : List Token) (r : Reading) → (foldl (count n limit) r (formed None ∷ ts)).named ≡ r.named
 malformed_ends n limit ts r =
-    ap (λ (q : Reading). q.named) (count_stays n limit ts (count_line Malformed r) (malformed_fault r)) ∙ line_keeps Malformed r
+    ap (λ (q : Reading). q.named) (count_stays n limit ts (count_line None r) (malformed_fault r)) ∙ line_keeps None r
 
 count_few : (n limit : ℕ) (ts : List Token) (r : Reading) → (foldl (count n limit) r ts).named ≤ r.named + length (literals_in ts)
 unfolding literals_in
@@ -189,7 +190,7 @@ module _ (n limit : ℕ) (read : List ℕ → Literal) where
   unfolding line_tokens literals_in
   line_more l ts ls rest c r few = ⊎_elim malformed alike (line_same read l)
     where
-      malformed : form_of l ≡ Malformed → take c (literals_in (line_tokens read l ++ ts)) ≡ take c (line_literals read l ++ ls)
+      malformed : form_of l ≡ None → take c (literals_in (line_tokens read l ++ ts)) ≡ take c (line_literals read l ++ ls)
       malformed e =
           let ended = malformed_ends n limit ts r in
           let none : c ≡ 0 = omega (arith, ended, rw e at few) in

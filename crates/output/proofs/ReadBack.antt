@@ -1,4 +1,5 @@
 -- The text that writes an assignment is accepted and reads back to it: digits by induction on their number, words and literals one by one.
+use Rattle.std.specs.Prelude.{Some, None}
 use Prim.Native.Nat.{ℕ, zero, suc, ◌+◌, ◌*◌, ◌/◌, ◌%◌, ◌≤◌, ◌<◌}
 use mathlib.Core.Path.{◌≡◌, refl, sym, ap, ◌∙◌}
 use mathlib.Core.Logic.{⊎_elim}
@@ -19,7 +20,6 @@ use Rattle.output.specs.declared.lines.LineForm.TheVariants.{Satisfiable, Values
 use Rattle.output.specs.declared.lines.Stage.{Stage}
 use Rattle.output.specs.declared.lines.Stage.TheVariants.{InValues, Closed}
 use Rattle.output.specs.declared.literals.Literal.{Literal}
-use Rattle.output.specs.declared.reading.Fault.TheVariants.{NoFault}
 use Rattle.output.specs.Literals.{are_digits, is_positive, has_minus, unsigned, names_variable, is_zero, are_literals, number_after, literal_of}
 use Rattle.output.specs.Lines.{is_text, words_of, is_values, form_of}
 use Rattle.output.specs.Tokens.{Token, formed, literal, line_tokens, part_tokens, tokens_of}
@@ -180,7 +180,7 @@ words_literals v (b ∷ c ∷ a) one = rw (literal_names v b one) (words_literal
 abbrev values_line : List ℕ → List ℕ
 values_line a = 118 ∷ 32 ∷ joined 1 a []
 
-line_form : (a : List ℕ) → form_of (values_line a) ≡ Values
+line_form : (a : List ℕ) → form_of (values_line a) ≡ Some Values
 unfolding form_of is_text is_values words_of starts_with
 line_form a =
     rw (
@@ -209,7 +209,7 @@ unfolding words_from tokens_from literal_of unsigned has_minus number_after
 words_read v [] one = refl
 words_read v (b ∷ a) one = rw (literal_reads v b one, words_read (v + 1) a (omega arith))
 
-tokens_are : (a : List ℕ) → tokens_of literal_of (output_text a) ≡ formed Satisfiable ∷ formed Values ∷ tokens_from 1 a
+tokens_are : (a : List ℕ) → tokens_of literal_of (output_text a) ≡ formed (Some Satisfiable) ∷ formed (Some Values) ∷ tokens_from 1 a
 unfolding tokens_of part_tokens line_tokens words_of form_of is_text starts_with
 tokens_are a = rw (lines_are a, line_form a, words_are 1 a (omega arith), words_read 1 a (omega arith)) (append-nil _)
 
@@ -239,7 +239,7 @@ all_named_lem n named p =
 
 -- no fault so far, on line k
 abbrev so_far : ℕ → Stage → List Literal → Progress
-so_far k s named = record { fault = NoFault; line = k; stage = s; named = named }
+so_far k s named = record { fault = None; line = k; stage = s; named = named }
 
 literal_judged : (n v b k : ℕ) (named : List Literal) → 1 ≤ v → v ≤ n → NamedTo v named
     → judge n (so_far k InValues named) (literal (literal_for v b)) ≡ so_far k InValues (named ++ (literal_for v b ∷ []))

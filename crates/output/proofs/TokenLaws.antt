@@ -1,5 +1,6 @@
 -- The tokens of a text, line by line: what they are from a place of the text on, a state that takes them one after the other, and the line
 -- that a reading has come to.
+use Rattle.std.specs.Prelude.{Option, Some, None}
 use Prim.Native.Nat.{ℕ, ◌+◌, ◌-◌, ◌≤◌, ◌<◌}
 use mathlib.Core.Path.{◌≡◌, refl, sym, ap, ◌∙◌}
 use mathlib.Core.List.{List, [], ◌∷◌, ◌++◌, map, foldl, foldl-append}
@@ -16,25 +17,25 @@ use Rattle.output.specs.OutputCall.{is_no_fault}
 use Rattle.output.specs.Counting.{count_line, count_literal, count}
 use Rattle.output.specs.Placing.{Marking, placed}
 use Rattle.output.specs.declared.lines.LineForm.{LineForm}
-use Rattle.output.specs.declared.lines.LineForm.TheVariants.{Malformed, Comment, Satisfiable, Unsatisfiable, Values}
+use Rattle.output.specs.declared.lines.LineForm.TheVariants.{Comment, Satisfiable, Unsatisfiable, Values}
 use Rattle.output.specs.declared.literals.Literal.{Literal}
 use Rattle.output.specs.declared.reading.Reading.{Reading}
 use Rattle.output.proofs.Parts.{part_last, part_more, part_any}
 use Rattle.output.proofs.LineLaws.{values_long}
 
 -- ---- a line of the form f, which makes the state s into u before its literals come
-line_tokens_lem : (read : List ℕ → Literal) (l : List ℕ) {f : LineForm} → f ≡ form_of l → line_tokens read l ≡ formed f ∷ literals_by read f l
+line_tokens_lem : (read : List ℕ → Literal) (l : List ℕ) {f : Option LineForm} → f ≡ form_of l → line_tokens read l ≡ formed f ∷ literals_by read f l
 unfolding line_tokens
 line_tokens_lem read l e = rw e
 
-other_words : (read : List ℕ → Literal) (l : List ℕ) (f : LineForm) → (f ≡ Values → ⊥) → literals_by read f l ≡ []
-other_words read l Malformed other = refl
-other_words read l Comment other = refl
-other_words read l Satisfiable other = refl
-other_words read l Unsatisfiable other = refl
-other_words read l Values other = absurd (other refl)
+other_words : (read : List ℕ → Literal) (l : List ℕ) (f : Option LineForm) → (f ≡ (Some Values) → ⊥) → literals_by read f l ≡ []
+other_words read l None other = refl
+other_words read l (Some Comment) other = refl
+other_words read l (Some Satisfiable) other = refl
+other_words read l (Some Unsatisfiable) other = refl
+other_words read l (Some Values) other = absurd (other refl)
 
-module _ {S : Type 0} (take-token : S → Token → S) (read : List ℕ → Literal) (l : List ℕ) {f : LineForm} (e : f ≡ form_of l) {s u : S}
+module _ {S : Type 0} (take-token : S → Token → S) (read : List ℕ → Literal) (l : List ℕ) {f : Option LineForm} (e : f ≡ form_of l) {s u : S}
     (a : u ≡ take-token s (formed f)) where
   by_form : {v : S} → v ≡ foldl take-token u (literals_by read f l) → v ≡ foldl take-token s (line_tokens read l)
   by_form h = h ∙ ap (λ x. foldl take-token x (literals_by read f l)) a ∙ ap (foldl take-token s) (sym (line_tokens_lem read l e))
@@ -47,7 +48,7 @@ module _ {S : Type 0} (take-token : S → Token → S) (read : List ℕ → Lite
   line_short n = line_alone (other_words read l f (λ w. absurd (omega (arith, n, values_long l (sym e ∙ w)))))
 
   -- it has the literals of its words
-  pub line_words : f ≡ Values → {v : S} → v ≡ foldl take-token u (map (λ w. literal (read w)) (split_on 32 (take (length l - 2) (drop 2 l))))
+  pub line_words : f ≡ (Some Values) → {v : S} → v ≡ foldl take-token u (map (λ w. literal (read w)) (split_on 32 (take (length l - 2) (drop 2 l))))
       → v ≡ foldl take-token s (line_tokens read l)
   unfolding words_of
   line_words w {v} h =
@@ -108,11 +109,11 @@ module _ {S A : Type 0} {f : S → A → S} {items : List (List ℕ) → List A}
 pub last_none : (t : List ℕ) {i e : ℕ} → i ≡ e → last_tokens (take (e - i) (drop i t)) ≡ []
 last_none t {i} {e} q = let z : e - i ≡ 0 = omega arith in rw z
 
-some_tokens : (l : List ℕ) → 0 < length l → last_tokens l ≡ formed Malformed ∷ []
+some_tokens : (l : List ℕ) → 0 < length l → last_tokens l ≡ formed None ∷ []
 some_tokens [] h = absurd (omega arith)
 some_tokens (b ∷ l) h = refl
 
-pub last_some : (t : List ℕ) {i e : ℕ} → i < e → e ≤ length t → last_tokens (take (e - i) (drop i t)) ≡ formed Malformed ∷ []
+pub last_some : (t : List ℕ) {i e : ℕ} → i < e → e ≤ length t → last_tokens (take (e - i) (drop i t)) ≡ formed None ∷ []
 last_some t {i} {e} p q =
     let n : 0 < length (take (e - i) (drop i t)) = omega (arith, length-take (e - i) (drop i t), length-drop i t) in
     some_tokens (take (e - i) (drop i t)) n
@@ -133,7 +134,7 @@ by_test : {P : Type 0} (b : Bool) → (b ≡ true → P) → (b ≡ false → P)
 by_test true p q = p refl
 by_test false p q = q refl
 
-pub line_grows : (f : LineForm) (r : Reading) → (count_line f r).line ≤ r.line + 1
+pub line_grows : (f : Option LineForm) (r : Reading) → (count_line f r).line ≤ r.line + 1
 unfolding count_line
 line_grows f r =
     by_test (is_no_fault r.fault)
@@ -154,12 +155,12 @@ module _ (n limit : ℕ) where
   words_keep read [] r = refl
   words_keep read (w ∷ ws) r = words_keep read ws (count_literal n limit (read w) r) ∙ literal_keeps (read w) r
 
-  literals_keep : (read : List ℕ → Literal) (f : LineForm) (l : List ℕ) (r : Reading) → (foldl (count n limit) r (literals_by read f l)).line ≡ r.line
-  literals_keep read Malformed l r = refl
-  literals_keep read Comment l r = refl
-  literals_keep read Satisfiable l r = refl
-  literals_keep read Unsatisfiable l r = refl
-  literals_keep read Values l r = words_keep read (words_of l) r
+  literals_keep : (read : List ℕ → Literal) (f : Option LineForm) (l : List ℕ) (r : Reading) → (foldl (count n limit) r (literals_by read f l)).line ≡ r.line
+  literals_keep read None l r = refl
+  literals_keep read (Some Comment) l r = refl
+  literals_keep read (Some Satisfiable) l r = refl
+  literals_keep read (Some Unsatisfiable) l r = refl
+  literals_keep read (Some Values) l r = words_keep read (words_of l) r
 
   pub one_line : (read : List ℕ → Literal) (l : List ℕ) (r : Reading) → (foldl (count n limit) r (line_tokens read l)).line ≤ r.line + 1
   unfolding line_tokens

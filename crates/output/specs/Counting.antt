@@ -1,5 +1,5 @@
 -- One pass over a text: variables are counted, not remembered, and a literal is refused after `limit` of them.
-use Rattle.std.specs.Prelude.{ℕ, ◌+◌, List, not, cond, ◌||◌, length, ltb, leb, eqb}
+use Rattle.std.specs.Prelude.{ℕ, ◌+◌, List, not, cond, ◌||◌, length, ltb, leb, eqb, Option, Some, None}
 use Rattle.output.specs.Literals.{number_after, unsigned, has_minus}
 use Rattle.output.specs.Lines.{in_place, stage_after}
 use Rattle.output.specs.Tokens.{Token, formed, literal}
@@ -7,7 +7,7 @@ use Rattle.output.specs.OutputCall.{Progress, is_no_fault}
 use Rattle.output.specs.declared.lines.LineForm.{LineForm}
 use Rattle.output.specs.declared.lines.Stage.TheVariants.{BeforeStatus, Closed}
 use Rattle.output.specs.declared.literals.Literal.{Literal}
-use Rattle.output.specs.declared.reading.Fault.TheVariants.{NoFault, OutOfFormOrPlace, AboveOrNamedBefore, Incomplete}
+use Rattle.output.specs.declared.reading.Fault.TheVariants.{OutOfFormOrPlace, AboveOrNamedBefore, Incomplete}
 use Rattle.output.specs.declared.reading.Reading.{Reading}
 
 -- a number of any length, or one more than `most` where it is above
@@ -24,15 +24,15 @@ counted_from p = record { fault = p.fault; line = p.line; stage = p.stage; named
 
 -- nothing is read yet
 abbrev pub no_reading : Reading
-no_reading = record { fault = NoFault; line = 0; stage = BeforeStatus; named = 0 }
+no_reading = record { fault = None; line = 0; stage = BeforeStatus; named = 0 }
 
 -- a line
-unfoldable pub count_line : LineForm → Reading → Reading
+unfoldable pub count_line : Option LineForm → Reading → Reading
 count_line f r =
     cond (is_no_fault r.fault)
     (cond (in_place r.stage f)
-    (record { fault = NoFault; line = r.line + 1; stage = stage_after r.stage f; named = r.named })
-    (record { fault = OutOfFormOrPlace; line = r.line + 1; stage = r.stage; named = r.named }))
+    (record { fault = None; line = r.line + 1; stage = stage_after r.stage f; named = r.named })
+    (record { fault = Some OutOfFormOrPlace; line = r.line + 1; stage = r.stage; named = r.named }))
     r
 
 -- a literal: 34 above n or after `limit` variables, 35 if 0 comes after another number of variables than n
@@ -41,11 +41,11 @@ count_literal n limit l r =
     cond (is_no_fault r.fault)
     (cond (eqb l.variable 0)
     (cond (eqb r.named n)
-    (record { fault = NoFault; line = r.line; stage = Closed; named = r.named })
-    (record { fault = Incomplete; line = r.line; stage = r.stage; named = r.named }))
+    (record { fault = None; line = r.line; stage = Closed; named = r.named })
+    (record { fault = Some Incomplete; line = r.line; stage = r.stage; named = r.named }))
     (cond (ltb n l.variable || leb limit r.named)
-    (record { fault = AboveOrNamedBefore; line = r.line; stage = r.stage; named = r.named })
-    (record { fault = NoFault; line = r.line; stage = r.stage; named = r.named + 1 })))
+    (record { fault = Some AboveOrNamedBefore; line = r.line; stage = r.stage; named = r.named })
+    (record { fault = None; line = r.line; stage = r.stage; named = r.named + 1 })))
     r
 
 -- a line or a literal

@@ -1,23 +1,23 @@
 -- A text in reading order: each line's form, then its literals from left to right.
-use Rattle.std.specs.Prelude.{ℕ, List, [], ◌∷◌, ◌++◌, map}
+use Rattle.std.specs.Prelude.{ℕ, List, [], ◌∷◌, ◌++◌, map, Option, Some, None}
 use Rattle.text.specs.bytes.Bytes.{split_on}
 use Rattle.output.specs.Lines.{form_of, words_of}
 use Rattle.output.specs.declared.lines.LineForm.{LineForm}
-use Rattle.output.specs.declared.lines.LineForm.TheVariants.{Malformed, Comment, Satisfiable, Unsatisfiable, Values}
+use Rattle.output.specs.declared.lines.LineForm.TheVariants.{Comment, Satisfiable, Unsatisfiable, Values}
 use Rattle.output.specs.declared.literals.Literal.{Literal}
 
 -- what is judged: a line, by its form, or a literal
 pub data Token : Type 0 where
-  formed : LineForm → Token
+  formed : Option LineForm → Token
   literal : Literal → Token
 
 -- the literals of a line, each read by `read`: only a line of that form has any
-abbrev pub literals_by : (List ℕ → Literal) → LineForm → List ℕ → List Token
-literals_by read Malformed l = []
-literals_by read Comment l = []
-literals_by read Satisfiable l = []
-literals_by read Unsatisfiable l = []
-literals_by read Values l = map (λ w. literal (read w)) (words_of l)
+abbrev pub literals_by : (List ℕ → Literal) → Option LineForm → List ℕ → List Token
+literals_by read None l = []
+literals_by read (Some Comment) l = []
+literals_by read (Some Satisfiable) l = []
+literals_by read (Some Unsatisfiable) l = []
+literals_by read (Some Values) l = map (λ w. literal (read w)) (words_of l)
 
 -- a line's form and place are tested before its literals, those left to right
 unfoldable pub line_tokens : (List ℕ → Literal) → List ℕ → List Token
@@ -26,7 +26,7 @@ line_tokens read l = formed (form_of l) ∷ literals_by read (form_of l) l
 -- what follows the last LF: nothing, or a line that is not ended, which has none of the forms
 abbrev pub last_tokens : List ℕ → List Token
 last_tokens [] = []
-last_tokens (b ∷ l) = formed Malformed ∷ []
+last_tokens (b ∷ l) = formed None ∷ []
 
 -- the parts of a text between its LFs (10): each but the last is a line
 unfoldable pub part_tokens : (List ℕ → Literal) → List (List ℕ) → List Token

@@ -1,7 +1,7 @@
 // A solver's output in the competition's format: what it says, and the assignment that it names.
 #![tactic(auto)]
 
-ghost use Rattle.std.specs.Prelude.{◌≡◌, ◌≤◌, ◌<◌, length};
+ghost use Rattle.std.specs.Prelude.{◌≡◌, ◌≤◌, ◌<◌, length, Ok, Err};
 ghost use Rattle.output.specs.OutputCall.{judged, report_of, end_report, output_report, output_left, output_told};
 ghost use Rattle.output.specs.Counting.{counted_from};
 
@@ -14,81 +14,75 @@ mod literals;
 mod placing;
 mod reading;
 
-// What a solver's output says. A line is counted from 1.
-#[derive(Clone, Copy)]
-pub enum OutputAnswer {
-    Satisfiable,
-    Unsatisfiable,
+// What an accepted output says, by the exit codes of solvers.
+#[derive(Clone, Copy, Debug, PartialEq, Eq)]
+pub enum Outcome {
+    Satisfiable = 10,
+    Unsatisfiable = 20,
+}
+
+// Why an output is refused, and in which line, counted from 1.
+#[derive(Clone, Copy, Debug, PartialEq, Eq)]
+pub enum OutputRefusal {
     OutOfFormOrPlace { line: usize },
     AboveOrNamedBefore { line: usize },
     Incomplete { line: usize },
 }
 
-impl OutputAnswer {
+impl Outcome {
+    // 10 satisfiable, 20 unsatisfiable.
+    pub fn code(self) -> u8
+        ensures { result ≡ (output_told (Ok self)).outcome }
+    {
+        self as u8
+    }
+}
+
+impl OutputRefusal {
     pub fn number(self) -> u8
-        ensures { result ≡ (output_told self).number }
+        ensures { result ≡ (output_told (Err self)).number }
     {
         match self {
-            OutputAnswer::Satisfiable => 0,
-            OutputAnswer::Unsatisfiable => 0,
-            OutputAnswer::OutOfFormOrPlace { line: _ } => 33,
-            OutputAnswer::AboveOrNamedBefore { line: _ } => 34,
-            OutputAnswer::Incomplete { line: _ } => 35,
+            OutputRefusal::OutOfFormOrPlace { .. } => 33,
+            OutputRefusal::AboveOrNamedBefore { .. } => 34,
+            OutputRefusal::Incomplete { .. } => 35,
         }
     }
 
     pub fn line(self) -> usize
-        ensures { result ≡ (output_told self).line }
+        ensures { result ≡ (output_told (Err self)).line }
     {
         match self {
-            OutputAnswer::Satisfiable => 0,
-            OutputAnswer::Unsatisfiable => 0,
-            OutputAnswer::OutOfFormOrPlace { line } => line,
-            OutputAnswer::AboveOrNamedBefore { line } => line,
-            OutputAnswer::Incomplete { line } => line,
-        }
-    }
-
-    // 10 satisfiable, 20 unsatisfiable, as solvers end; 0 refused.
-    pub fn outcome(self) -> u8
-        ensures { result ≡ (output_told self).outcome }
-    {
-        match self {
-            OutputAnswer::Satisfiable => 10,
-            OutputAnswer::Unsatisfiable => 20,
-            OutputAnswer::OutOfFormOrPlace { line: _ } => 0,
-            OutputAnswer::AboveOrNamedBefore { line: _ } => 0,
-            OutputAnswer::Incomplete { line: _ } => 0,
+            OutputRefusal::OutOfFormOrPlace { line }
+            | OutputRefusal::AboveOrNamedBefore { line }
+            | OutputRefusal::Incomplete { line } => line,
         }
     }
 }
 
 // The answer at the end of a text without a fault.
-fn ended(line: usize, stage: Stage) -> OutputAnswer
+fn ended(line: usize, stage: Stage) -> Result<Outcome, OutputRefusal>
     requires { line < 9223372036854775808 }
     ensures { output_told result ≡ end_report line stage }
 {
     match stage {
-        Stage::BeforeStatus => OutputAnswer::Incomplete { line: line + 1 },
-        Stage::InValues => OutputAnswer::Incomplete { line: line + 1 },
-        Stage::Closed => OutputAnswer::Satisfiable,
-        Stage::Refuted => OutputAnswer::Unsatisfiable,
+        Stage::BeforeStatus | Stage::InValues => Err(OutputRefusal::Incomplete { line: line + 1 }),
+        Stage::Closed => Ok(Outcome::Satisfiable),
+        Stage::Refuted => Ok(Outcome::Unsatisfiable),
     }
 }
 
 // The answer after a text.
-fn answer(r: Reading) -> OutputAnswer
+fn answer(r: Reading) -> Result<Outcome, OutputRefusal>
     requires { r.line < 9223372036854775808 }
     ensures { output_told result ≡ report_of r.fault r.line r.stage }
 {
-    let fault = r.fault;
-    let stage = r.stage;
     let line = r.line;
-    match fault {
-        Fault::NoFault => ended(line, stage),
-        Fault::OutOfFormOrPlace => OutputAnswer::OutOfFormOrPlace { line },
-        Fault::AboveOrNamedBefore => OutputAnswer::AboveOrNamedBefore { line },
-        Fault::Incomplete => OutputAnswer::Incomplete { line },
+    match r.fault {
+        None => ended(line, r.stage),
+        Some(Fault::OutOfFormOrPlace) => Err(OutputRefusal::OutOfFormOrPlace { line }),
+        Some(Fault::AboveOrNamedBefore) => Err(OutputRefusal::AboveOrNamedBefore { line }),
+        Some(Fault::Incomplete) => Err(OutputRefusal::Incomplete { line }),
     }
 }
 
@@ -108,14 +102,16 @@ fn read_output(text: &[u8], most: usize) -> Reading
 }
 
 // Reads a solver's output and writes the assignment that it names: 33, 34, 35.
-pub fn output_to_assignment(text: &[u8], assignment: &mut [u8]) -> OutputAnswer
+pub fn output_to_assignment(
+    text: &[u8],
+    assignment: &mut [u8],
+) -> Result<Outcome, OutputRefusal>
     ensures result_value { output_told result ≡ output_report text.now (length assignment.old) }
     ensures assignment_after { assignment.new ≡ output_left text.now assignment.old }
 {
-    let r = read_output(text, assignment.len());
-    let a = answer(r);
-    if a.outcome() == 10 {
+    let outcome = answer(read_output(text, assignment.len()))?;
+    if outcome == Outcome::Satisfiable {
         placing::write(text, assignment);
     }
-    a
+    Ok(outcome)
 }

@@ -7,14 +7,14 @@ ghost use Rattle.output.specs.Counting.{capped, literal_up_to};
 use crate::bytes;
 
 // A variable, counted from 1, or 0, and whether the literal is bare.
-#[derive(Clone, Copy)]
+#[derive(Clone, Copy, Debug, PartialEq, Eq)]
 pub struct Literal {
     pub variable: usize,
     pub bare: bool,
 }
 
 // A word of a line: the literal that it is, and the place after it.
-#[derive(Clone, Copy)]
+#[derive(Clone, Copy, Debug, PartialEq, Eq)]
 pub struct Word {
     pub literal: Literal,
     pub end: usize,
@@ -23,15 +23,6 @@ pub struct Word {
 impl Literal {
     // A tenth of 2 to the 63, which no buffer's length reaches.
     pub const TENTH: usize = 922337203685477580;
-}
-
-fn word_of(variable: usize, bare: bool, end: usize) -> Word
-    ensures { result ≡ record { literal = record { variable = variable; bare = bare }; end = end } }
-{
-    Word {
-        literal: Literal { variable, bare },
-        end,
-    }
 }
 
 fn has_minus(w: &[u8]) -> bool
@@ -125,12 +116,18 @@ fn digits_at(s: &[u8], at: usize, bare: bool, most: usize) -> Word
     while i < s.len() {
         let b = s[i];
         if b == b' ' {
-            return word_of(variable, bare, i);
+            return Word {
+                literal: Literal { variable, bare },
+                end: i,
+            };
         }
         variable = next_number(variable, b, most);
         i += 1;
     }
-    word_of(variable, bare, i)
+    Word {
+        literal: Literal { variable, bare },
+        end: i,
+    }
 }
 
 // The word from `at` to the next space or the end, and the literal that it is, its variable up to `most` and one.

@@ -9,7 +9,7 @@ use crate::literals::Literal;
 use crate::{bytes, literals};
 
 // How many literals were seen, and how many are to be seen.
-#[derive(Clone, Copy)]
+#[derive(Clone, Copy, Debug, PartialEq, Eq)]
 pub struct Placing {
     pub seen: usize,
     pub bound: usize,
@@ -23,31 +23,29 @@ impl Placing {
     pub const UNNAMED: u8 = 2;
 }
 
-fn placing_of(seen: usize, bound: usize) -> Placing
-    ensures { result ≡ record { seen = seen; bound = bound } }
-{
-    Placing { seen, bound }
-}
-
 // One literal more.
+#[tactic(auto, unfolding(crate::specs::Placing::placed))]
 fn place(p: Placing, l: Literal, low: usize, marks: &mut [u8]) -> Placing
     ensures { marking result marks.new ≡ placed low (marking p marks.old) l }
 {
     if p.bound <= p.seen {
         return p;
     }
-    if l.variable < low {
-        return placing_of(p.seen + 1, p.bound);
+    if let Some(i) = l.variable.checked_sub(low)
+        && i < marks.len()
+    {
+        if marks[i] != Placing::UNNAMED {
+            return Placing {
+                bound: p.seen,
+                ..p
+            };
+        }
+        marks[i] = l.bare as u8;
     }
-    let i = l.variable - low;
-    if marks.len() <= i {
-        return placing_of(p.seen + 1, p.bound);
+    Placing {
+        seen: p.seen + 1,
+        ..p
     }
-    if marks[i] != Placing::UNNAMED {
-        return placing_of(p.seen, p.seen);
-    }
-    marks[i] = if l.bare { 1 } else { 0 };
-    placing_of(p.seen + 1, p.bound)
 }
 
 // The literals of a line, from its first word on.
@@ -72,13 +70,9 @@ fn place_line(p: Placing, l: &[u8], most: usize, low: usize, marks: &mut [u8]) -
     requires { most < 9223372036854775808 }
     ensures { marking result marks.new ≡ foldl (placed low) (marking p marks.old) (line_literals (literal_up_to most) l.now) }
 {
-    if l.len() < 2 {
-        return p;
-    }
-    if bytes::starts_with(l, b"v ") {
-        place_words(p, &l[2..], most, low, marks)
-    } else {
-        p
+    match l.strip_prefix(b"v ") {
+        Some(words) => place_words(p, words, most, low, marks),
+        None => p,
     }
 }
 
@@ -87,7 +81,7 @@ fn place_literals(text: &[u8], bound: usize, most: usize, low: usize, marks: &mu
     requires { most < 9223372036854775808 }
     ensures { marking result marks.new ≡ foldl (placed low) (marking (record { seen = 0; bound = bound }) marks.old) (literals_of (literal_up_to most) text.now) }
 {
-    let mut p = placing_of(0, bound);
+    let mut p = Placing { seen: 0, bound };
     let mut i = 0;
     loop {
         let e = bytes::find(text, i, b'\n');
@@ -120,20 +114,11 @@ pub fn fresh(text: &[u8], named: usize, most: usize) -> usize
     }
 }
 
-// A buffer of unnamed variables.
-fn clear(out: &mut [u8])
-    ensures { out.new ≡ replicate (length out.old) 2 }
-{
-    for i in 0..out.len() {
-        out[i] = Placing::UNNAMED;
-    }
-}
-
 // The assignment of a text that was accepted: each literal sets the byte of its variable.
 pub fn write(text: &[u8], out: &mut [u8])
     ensures { out.new ≡ (foldl (placed 1) (marking (record { seen = 0; bound = length out.old }) (replicate (length out.old) 2)) (literals_of (literal_up_to (length out.old)) text.now)).marks }
 {
-    clear(out);
+    out.fill(Placing::UNNAMED);
     let most = out.len();
-    let p = place_literals(text, most, most, 1, out);
+    place_literals(text, most, most, 1, out);
 }

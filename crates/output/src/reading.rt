@@ -1,102 +1,93 @@
 // One pass over a text: the forms and places of its lines, the ranges of its literals, and where the reading ends.
-ghost use Rattle.std.specs.Prelude.{◌≡◌, ◌≤◌, ◌<◌, length};
+ghost use Rattle.std.specs.Prelude.{◌≡◌, ◌≤◌, ◌<◌, length, is_some};
 ghost use mathlib.Core.List.{foldl, map};
 ghost use Rattle.text.specs.bytes.Bytes.{split_on};
 ghost use Rattle.output.specs.Tokens.{literal, line_tokens, tokens_of};
-ghost use Rattle.output.specs.OutputCall.{is_no_fault};
 ghost use Rattle.output.specs.Counting.{literal_up_to, no_reading, count_line, count_literal, count};
 
 use crate::lines::{LineForm, Stage};
 use crate::literals::Literal;
 use crate::{bytes, lines, literals};
 
-#[derive(Clone, Copy)]
+// Why a text is refused.
+#[derive(Clone, Copy, Debug, PartialEq, Eq)]
 pub enum Fault {
-    NoFault,
     OutOfFormOrPlace,
     AboveOrNamedBefore,
     Incomplete,
 }
 
 // What was read so far: the first fault, the line that was judged last, what may come next, how many literals named a variable.
-#[derive(Clone, Copy)]
+#[derive(Clone, Copy, Debug, PartialEq, Eq)]
 pub struct Reading {
-    pub fault: Fault,
+    pub fault: Option<Fault>,
     pub line: usize,
     pub stage: Stage,
     pub named: usize,
 }
 
-impl Fault {
-    pub fn is_none(self) -> bool
-        ensures { result ≡ is_no_fault self }
-    {
-        match self {
-            Fault::NoFault => true,
-            Fault::OutOfFormOrPlace => false,
-            Fault::AboveOrNamedBefore => false,
-            Fault::Incomplete => false,
-        }
-    }
-}
-
-fn reading_of(fault: Fault, line: usize, stage: Stage, named: usize) -> Reading
-    ensures { result ≡ record { fault = fault; line = line; stage = stage; named = named } }
-{
-    Reading {
-        fault,
-        line,
-        stage,
-        named,
-    }
-}
-
 impl Reading {
-    pub fn none() -> Reading
-        ensures { result ≡ no_reading }
+    // Whether a fault has ended it.
+    fn has_ended(self) -> bool
+        ensures { result ≡ is_some self.fault }
     {
-        reading_of(Fault::NoFault, 0, Stage::BeforeStatus, 0)
+        self.fault.is_some()
     }
 
     // The next line.
-    fn judge_line(self, f: LineForm) -> Reading
+    #[tactic(auto, unfolding(crate::specs::Counting::count_line))]
+    fn judge_line(self, form: Option<LineForm>) -> Reading
         requires { self.line < 9223372036854775808 }
-        ensures { result ≡ count_line f self }
+        ensures { result ≡ count_line form self }
     {
-        let fault = self.fault;
-        if !fault.is_none() {
+        if self.has_ended() {
             return self;
         }
-        let stage = self.stage;
-        if !stage.allows(f) {
-            return reading_of(Fault::OutOfFormOrPlace, self.line + 1, stage, self.named);
+        let line = self.line + 1;
+        match self.stage.after(form) {
+            Some(stage) => Reading {
+                line,
+                stage,
+                ..self
+            },
+            None => Reading {
+                fault: Some(Fault::OutOfFormOrPlace),
+                line,
+                ..self
+            },
         }
-        reading_of(Fault::NoFault, self.line + 1, stage.after(f), self.named)
     }
 
     // The next literal: a variable above `most` is refused, and any after `limit` of them; 0 closes after `most`.
+    #[tactic(auto, unfolding(crate::specs::Counting::count_literal))]
     fn judge_literal(self, l: Literal, most: usize, limit: usize) -> Reading
         ensures { result ≡ count_literal most limit l self }
     {
-        let fault = self.fault;
-        if !fault.is_none() {
+        if self.has_ended() {
             return self;
         }
-        let named = self.named;
-        let stage = self.stage;
         if l.variable == 0 {
-            if named == most {
-                return reading_of(Fault::NoFault, self.line, Stage::Closed, named);
+            if self.named == most {
+                return Reading {
+                    stage: Stage::Closed,
+                    ..self
+                };
             }
-            return reading_of(Fault::Incomplete, self.line, stage, named);
+            return Reading {
+                fault: Some(Fault::Incomplete),
+                ..self
+            };
         }
-        if most < l.variable {
-            return reading_of(Fault::AboveOrNamedBefore, self.line, stage, named);
+        if most < l.variable || limit <= self.named {
+            return Reading {
+                fault: Some(Fault::AboveOrNamedBefore),
+                ..self
+            };
         }
-        if limit <= named {
-            return reading_of(Fault::AboveOrNamedBefore, self.line, stage, named);
+        Reading {
+            named: self.named + 1,
+            ..self
         }
-        reading_of(Fault::NoFault, self.line, stage, named + 1)
     }
 }
 
@@ -122,17 +113,11 @@ fn judge_whole_line(before: Reading, l: &[u8], most: usize, limit: usize) -> Rea
     requires { (most < 9223372036854775808) × (before.line < 9223372036854775808) }
     ensures { result ≡ foldl (count most limit) before (line_tokens (literal_up_to most) l.now) }
 {
-    let f = lines::form(l);
-    let r = before.judge_line(f);
-    if l.len() < 2 {
-        return r;
-    }
-    match f {
-        LineForm::Malformed => r,
-        LineForm::Comment => r,
-        LineForm::Satisfiable => r,
-        LineForm::Unsatisfiable => r,
-        LineForm::Values => judge_words(r, &l[2..], most, limit),
+    let form = lines::form(l);
+    let r = before.judge_line(form);
+    match form {
+        Some(LineForm::Values) => judge_words(r, &l[2..], most, limit),
+        _ => r,
     }
 }
 
@@ -141,7 +126,12 @@ pub fn read_through(text: &[u8], most: usize, limit: usize) -> Reading
     requires { most < 9223372036854775808 }
     ensures { (result ≡ foldl (count most limit) no_reading (tokens_of (literal_up_to most) text.now)) × (result.line ≤ length text.now) }
 {
-    let mut r = Reading::none();
+    let mut r = Reading {
+        fault: None,
+        line: 0,
+        stage: Stage::BeforeStatus,
+        named: 0,
+    };
     let mut i = 0;
     loop {
         let e = bytes::find(text, i, b'\n');
@@ -149,11 +139,10 @@ pub fn read_through(text: &[u8], most: usize, limit: usize) -> Reading
             if i == e {
                 return r;
             }
-            return r.judge_line(LineForm::Malformed);
+            return r.judge_line(None);
         }
         r = judge_whole_line(r, &text[i..e], most, limit);
-        let fault = r.fault;
-        if !fault.is_none() {
+        if r.has_ended() {
             return r;
         }
         i = e + 1;

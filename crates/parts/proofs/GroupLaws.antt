@@ -18,7 +18,8 @@ use Rattle.model.proofs.FormLaws.{WellFormed, state_size_is, state_size_le, choi
 use Rattle.list.specs.Items.{offset, over_components}
 use Rattle.list.specs.Clauses.{one_hot_width}
 use Rattle.list.proofs.ListLaws.{each_add, each_cong, each_more}
-use Rattle.parts.specs.StateBlock.{component_at, group_table, first_at, size_at, Bounded}
+use Rattle.parts.specs.declared.Group.{Group}
+use Rattle.parts.specs.StateBlock.{component_at, empty_group, group_at, group_table, first_at, size_at, Bounded}
 
 -- ---- the components by number
 pub group_cases : {C : Type 0} (vars g : ℕ) → (g ≡ 0 → C) → ((i : ℕ) → i < vars → g ≡ 1 + i → C) → ((i : ℕ) → g ≡ 1 + vars + i → C) → C
@@ -124,19 +125,19 @@ module _ (m : Model) where
   -- ---- the table
   pub first_is : (g : ℕ) → g < 9 → first_at (group_table m) g ≡ beginning g
   unfolding group_table
-  first_is g l = get_d_list {A = ℕ} 0 beginning 9 g l
+  first_is g l = ap (λ (x : Group). x.first) (get_d_list empty_group (group_at m) 9 g l)
 
   pub size_is : (g : ℕ) → g < 9 → size_at (group_table m) g ≡ many g
   unfolding group_table
-  size_is g l = get_d_list {A = ℕ} 0 many 9 g l
+  size_is g l = ap (λ (x : Group). x.size) (get_d_list empty_group (group_at m) 9 g l)
 
   first_past : (g : ℕ) → 9 ≤ g → first_at (group_table m) g ≡ 0
   unfolding group_table
-  first_past g l = get_or-eq_default (list_below beginning 9) 0 (omega (arith, length_list {A = ℕ} beginning 9))
+  first_past g l = ap (λ (x : Group). x.first) (get_or-eq_default (list_below (group_at m) 9) empty_group (omega (arith, length_list (group_at m) 9)))
 
   size_past : (g : ℕ) → 9 ≤ g → size_at (group_table m) g ≡ 0
   unfolding group_table
-  size_past g l = get_or-eq_default (list_below many 9) 0 (omega (arith, length_list {A = ℕ} many 9))
+  size_past g l = ap (λ (x : Group). x.size) (get_or-eq_default (list_below (group_at m) 9) empty_group (omega (arith, length_list (group_at m) 9)))
 
   -- ---- a piece for each component is a piece for each group
   pub over_groups : {A : Type 0} (f : Component → List A) → each (1 + m.vars + m.clocks) (λ g. f (component_at m g)) ≡ over_components m f

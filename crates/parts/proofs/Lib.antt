@@ -7,3 +7,4 @@ pub mod NumberingLaws
 pub mod SixteenBits
 pub mod PartLengths
 pub mod KnownLaws
+pub mod LayoutLaws

@@ -1,9 +1,7 @@
-// The number of a solver variable: the one routine, and the block starts that come from it.
+// The number of a solver variable: the one routine.
 ghost use Rattle.std.specs.Prelude.{◌≡◌, ◌+◌, ◌<◌, ◌≤◌, T};
 ghost use Rattle.model.specs.Bounds.{KnownTotals};
 ghost use Rattle.model.specs.Form.{well_formed};
-ghost use Rattle.list.specs.Items.{block_at};
-ghost use Rattle.list.specs.Clauses.{one_hot_width};
 ghost use Rattle.parts.specs.Numbering.{variable_number};
 
 use model::{Model, Totals};
@@ -17,12 +15,4 @@ pub fn variable_number(m: Model, z: Totals, t: usize, p: usize) -> usize
     let state = z.state as u16;
     let choices = z.choices as u16;
     (t as u16 * (state + choices) + p as u16 + 1) as usize
-}
-
-// How many variables come before the block of state `t`.
-pub fn block_start(m: Model, z: Totals, t: usize) -> usize
-    requires { T (well_formed m) × KnownTotals m z × (t ≤ 64) }
-    ensures { result ≡ block_at one_hot_width m t }
-{
-    variable_number(m, z, t, 0) - 1
 }

@@ -1,10 +1,10 @@
 -- What a call that refutes the list for a bound answers. What it leaves in the lent words is what emission leaves: the list, and behind it what was there.
-use Rattle.std.specs.Prelude.{ℕ, Bool, cond, List, eqb, ℤ, length}
+use Rattle.std.specs.Prelude.{ℕ, Bool, cond, List, eqb, ℤ, length, Result, Ok, Err}
 use Rattle.model.specs.declared.Model.{Model}
-use Rattle.emission.specs.EmitCall.{EmitReport, emit_report, emit_left}
+use Rattle.emission.specs.EmitCall.{EmitReport, emit_report, emit_left, emit_told}
 use Rattle.refutation.specs.Refutation.{refutes}
 use Rattle.refute.specs.declared.Refutation.{Refutation}
-use Rattle.refute.specs.declared.Refutation.TheVariants.{NotWellFormed, BoundTooLarge, BufferTooShort, NotRefuted, Refuted}
+use Rattle.emission.specs.declared.EmitRefusal.{EmitRefusal}
 
 -- a number of the table of refusals, or 0; the words of the list, where the lemmas begin; the outcome: 1 refuted, 2 not refuted, 0 after a refusal
 pub record RefuteReport : Type 0 where
@@ -27,10 +27,7 @@ after_emission e left hs = cond (eqb e.number 0) (checked_report (refutes left e
 unfoldable pub refute_report : Model → ℕ → List ℤ → List ℕ → RefuteReport
 refute_report m k ws hs = after_emission (emit_report m k (length ws)) (emit_left m k (length ws) ws) hs
 
--- the numbers of each case of the answer
-abbrev pub refute_told : Refutation → RefuteReport
-refute_told NotWellFormed = refute_reported 20 0 0
-refute_told BoundTooLarge = refute_reported 21 0 0
-refute_told (BufferTooShort w) = refute_reported 22 w 0
-refute_told (NotRefuted w) = refute_reported 0 w 2
-refute_told (Refuted w) = refute_reported 0 w 1
+-- the numbers of the answer: a refusal is emission's
+abbrev pub refute_told : Result Refutation EmitRefusal → RefuteReport
+refute_told (Ok r) = checked_report r.refuted r.words
+refute_told (Err e) = refute_reported (emit_told (Err e)).number (emit_told (Err e)).words 0

@@ -2,12 +2,14 @@
 #![tactic(auto)]
 
 ghost use Rattle.std.specs.Prelude.{◌≡◌, length};
-ghost use Rattle.emission.specs.EmitCall.{emit_reported, emit_told};
+ghost use Rattle.emission.specs.EmitCall.{emit_told};
 ghost use Rattle.text.specs.Text.{read_report, read_told};
 ghost use Rattle.sizing.specs.SizeCall.{refused_sizes, emitted_sizes, text_sizes, text_left, size_report, size_left, size_told, program_report};
 
-use emission::{Emission, emit};
-use text::{BoundRead, ReadAnswer, read_item, read_model};
+use counts::ListCounts;
+use emission::{EmitRefusal, emit};
+use model::Model;
+use text::{ReadRefusal, read_item, read_model};
 
 // The number of the refusal, or 0; the line of the model text, or 0; the counts of the list.
 #[repr(C)]
@@ -23,6 +25,9 @@ pub struct SizeAnswer {
 impl SizeAnswer {
     // The words that the size program lends.
     pub const WORDS: usize = 16384;
+
+    // The number of the refusal of an input whose first line is no bound line.
+    pub const NOT_A_BOUND: u8 = 9;
 }
 
 fn refused(number: u8, line: usize) -> SizeAnswer
@@ -37,46 +42,37 @@ fn refused(number: u8, line: usize) -> SizeAnswer
     }
 }
 
-fn told(number: u8, variables: usize, clauses: usize, words: usize) -> SizeAnswer
-    ensures { size_told result ≡ emitted_sizes (emit_reported number variables clauses words) }
-{
-    SizeAnswer {
-        number,
-        line: 0,
-        variables,
-        clauses,
-        words,
-    }
-}
-
 // What emission answers, in the numbers of the size program.
-pub fn emitted(e: Emission) -> SizeAnswer
+pub fn emitted(e: Result<ListCounts, EmitRefusal>) -> SizeAnswer
     ensures { size_told result ≡ emitted_sizes (emit_told e) }
 {
-    let number = e.number();
     match e {
-        Emission::NotWellFormed => told(number, 0, 0, 0),
-        Emission::BoundTooLarge => told(number, 0, 0, 0),
-        Emission::BufferTooShort { words } => told(number, 0, 0, words),
-        Emission::Written {
-            variables,
-            clauses,
-            words,
-        } => told(number, variables, clauses, words),
+        Ok(n) => SizeAnswer {
+            number: 0,
+            line: 0,
+            variables: n.variables,
+            clauses: n.clauses,
+            words: n.words,
+        },
+        Err(refusal) => SizeAnswer {
+            words: refusal.words(),
+            ..refused(refusal.number(), 0)
+        },
     }
 }
 
 // What was read of a text, then 21, then 22.
-fn read_sizes(read: ReadAnswer, bound: usize, out: &mut [i32]) -> SizeAnswer
+fn read_sizes(
+    read: Result<Model, ReadRefusal>,
+    bound: usize,
+    out: &mut [i32],
+) -> SizeAnswer
     ensures { (size_told result ≡ text_sizes (read_told read) bound (length out.old)) × (out.new ≡ text_left (read_told read) bound out.old) }
 {
-    let outcome = read.outcome;
-    let number = outcome.number();
-    if number != 0 {
-        return refused(number, outcome.line());
+    match read {
+        Ok(model) => emitted(emit(model, bound, out)),
+        Err(refusal) => refused(refusal.number(), refusal.line()),
     }
-    let model = read.model;
-    emitted(emit(model, bound, out))
 }
 
 // The text, then 21, then 22.
@@ -92,10 +88,9 @@ pub fn sizes_of(input: &[u8], out: &mut [i32]) -> SizeAnswer
     ensures out_after { out.new ≡ size_left input.now out.old }
 {
     let item = read_item(input);
-    let first = item.bound;
-    match first {
-        BoundRead::NotABound => refused(first.number(), 0),
-        BoundRead::Bound { bound, next: _ } => read_sizes(item.text, bound as usize, out),
+    match item.bound {
+        Some(line) => read_sizes(item.text, line.bound as usize, out),
+        None => refused(SizeAnswer::NOT_A_BOUND, 0),
     }
 }
 
@@ -103,6 +98,6 @@ pub fn sizes_of(input: &[u8], out: &mut [i32]) -> SizeAnswer
 pub fn program_sizes(input: &[u8]) -> SizeAnswer
     ensures { size_told result ≡ program_report input.now }
 {
-    let mut words = [0i32; SizeAnswer::WORDS];
+    let mut words = [0; SizeAnswer::WORDS];
     sizes_of(input, &mut words)
 }

@@ -1,60 +1,50 @@
--- A call on two texts: the first refused, the second refused, both read. A call on the composed model: there is none, and there is one.
-use Prim.Native.Nat.{ℕ}
-use mathlib.Core.Path.{◌≡◌, refl, ap, ◌∙◌}
-use mathlib.Core.List.{List}
-use mathlib.Core.Bool.{true, false}
-use lib.Dec.{eqb}
-use borrow.Author.Tests.{eq-eqb, ne_eqb}
+-- A call on two texts: both read, and one refused. A call on the composed model: there is one, and there is none.
+use Rattle.std.proofs.Common.{ℕ, ◌≡◌, Bool, true, false, cond, eqb, refl, sym, ap, ◌∙◌, Ok, Err}
+use Rattle.std.specs.Prelude.{Result}
 use Rattle.model.specs.declared.Model.{Model}
-use Rattle.text.specs.Text.{read_report, read_told, if_read, outcome_number, outcome_line}
-use Rattle.text.specs.declared.ReadAnswer.{ReadAnswer}
-use Rattle.text.proofs.Calls.{refused_text, read_text}
-use Rattle.compose.specs.ComposeCall.{compose_report}
-use Rattle.wirdoku.specs.PairCall.{PairReport, if_both, if_pair, pair_report, pair_composed, refused_pair, pair_told}
-use Rattle.wirdoku.specs.declared.pairs.PairRead.{PairRead}
+use Rattle.text.specs.Text.{ReadReport, if_read}
+use Rattle.text.proofs.Calls.{number_told}
+use Rattle.compose.specs.declared.ComposeRefusal.{ComposeRefusal}
+use Rattle.compose.specs.declared.ComposeRefusal.TheVariants as compose
+use Rattle.wirdoku.specs.PairCall.{PairReport, if_both, both_read, text_refused, if_pair, pair_refusal, pair_told}
+use Rattle.wirdoku.specs.declared.pairs.PairRefusal.{PairRefusal}
+use Rattle.wirdoku.specs.declared.pairs.PairRefusal.TheVariants.{First, Second, NotComposed}
 
--- ---- two texts, of which the answers a and b were given
-module _ {A : Type 0} (call : Model → Model → A) (refused : ℕ → ℕ → ℕ → A) (t u : List ℕ) (a : ReadAnswer) (is : read_told a ≡ read_report t) (n : ℕ)
-    (number : n ≡ outcome_number a.outcome) where
-  abbrev after : Model → A
-  after m = if_read (read_report u) (call m) (refused 2)
+-- ---- two texts, of which r and s are told
+module _ {A : Type 0} (call : Model → Model → A) (refused : ℕ → ℕ → ℕ → A) (r s : ReadReport) where
+  pub both_ok : {m n : Model} → Ok (m, n) ≡ if_both r s both_read text_refused → call m n ≡ if_both r s call refused
+  unfolding if_both if_read
+  both_ok {m} {n} e = go (eqb r.number 0) (eqb s.number 0) e
+    where
+      go : (a b : Bool) → Ok (m, n) ≡ cond a (cond b (Ok (r.model, s.model)) (Err (2, s.number, s.line))) (Err (1, r.number, r.line))
+          → call m n ≡ cond a (cond b (call r.model s.model) (refused 2 s.number s.line)) (refused 1 r.number r.line)
+      go true true e = let p : (m, n) ≡ (r.model, s.model) = cc in ap (λ (x : Model × Model). call x.0 x.1) p
+      go true false e = cc
+      go false b e = cc
 
-  pub first_refused : (n ≡ 0 → ⊥) → (l : ℕ) → l ≡ outcome_line a.outcome → refused 1 n l ≡ if_both (read_report t) (read_report u) call refused
-  unfolding if_both
-  first_refused ne l line = refused_text after (refused 1) t a is n number ne l line
+  pub both_err : {t n l : ℕ} → Err (t, n, l) ≡ if_both r s both_read text_refused → refused t n l ≡ if_both r s call refused
+  unfolding if_both if_read
+  both_err {t} {n} {l} e = go (eqb r.number 0) (eqb s.number 0) e
+    where
+      go : (a b : Bool) → Err (t, n, l) ≡ cond a (cond b (Ok (r.model, s.model)) (Err (2, s.number, s.line))) (Err (1, r.number, r.line))
+          → refused t n l ≡ cond a (cond b (call r.model s.model) (refused 2 s.number s.line)) (refused 1 r.number r.line)
+      go true true e = cc
+      go true false e = let p : (t, n, l) ≡ (2, s.number, s.line) = cc in ap (λ (x : ℕ × ℕ × ℕ). refused x.0 x.1 x.2) p
+      go false b e = let p : (t, n, l) ≡ (1, r.number, r.line) = cc in ap (λ (x : ℕ × ℕ × ℕ). refused x.0 x.1 x.2) p
 
-  first_read : n ≡ 0 → after a.model ≡ if_both (read_report t) (read_report u) call refused
-  unfolding if_both
-  first_read z = read_text after (refused 1) t a is n number z
+-- ---- the composed model, of which p is told
+not_0 : (e : PairRefusal) → eqb (pair_refusal e).number 0 ≡ false
+not_0 (First e) = number_told e
+not_0 (Second e) = number_told e
+not_0 (NotComposed compose.NotWellFormed) = refl
+not_0 (NotComposed compose.TooLarge) = refl
 
-  module _ (z : n ≡ 0) (b : ReadAnswer) (also : read_told b ≡ read_report u) (k : ℕ) (other : k ≡ outcome_number b.outcome) where
-    pub second_refused : (k ≡ 0 → ⊥) → (l : ℕ) → l ≡ outcome_line b.outcome → refused 2 k l ≡ if_both (read_report t) (read_report u) call refused
-    second_refused ne l line = refused_text (call a.model) (refused 2) u b also k other ne l line ∙ first_read z
-
-    pub both_read : k ≡ 0 → call a.model b.model ≡ if_both (read_report t) (read_report u) call refused
-    both_read y = read_text (call a.model) (refused 2) u b also k other y ∙ first_read z
-
--- what is read of two texts is a call on them
-abbrev pub composing : Model → Model → PairReport
-composing m n = pair_composed (compose_report m n)
-
-pub as_pair : (t u : List ℕ) → if_both (read_report t) (read_report u) composing refused_pair ≡ pair_report (read_report t) (read_report u)
-unfolding pair_report
-as_pair t u = refl
-
--- ---- the composed model, of which p was told
-module _ {A : Type 0} (call : Model → A) (refused : ℕ → ℕ → A) where
-  if_refused : (p : PairReport) → eqb p.number 0 ≡ false → refused p.number p.line ≡ if_pair p call refused
+module _ {A : Type 0} (call : Model → A) (refused : ℕ → ℕ → A) (x : Result Model PairRefusal) (p : PairReport) (is : pair_told x ≡ p) where
+  pub pair_ok : {m : Model} → x ≡ Ok m → call m ≡ if_pair p call refused
   unfolding if_pair
-  if_refused p f = rw f
+  pair_ok {m} q = ap (λ (y : PairReport). if_pair y call refused) (ap pair_told (sym q) ∙ is)
 
-  if_composed : (p : PairReport) → eqb p.number 0 ≡ true → call p.model ≡ if_pair p call refused
+  pub pair_err : {e : PairRefusal} → x ≡ Err e → {n l : ℕ} → n ≡ (pair_refusal e).number → l ≡ (pair_refusal e).line → refused n l ≡ if_pair p call refused
   unfolding if_pair
-  if_composed p f = rw f
-
-  module _ (t u : List ℕ) (p : PairRead) (is : pair_told p ≡ pair_report (read_report t) (read_report u)) where
-    pub pair_refused : (p.number ≡ 0 → ⊥) → refused p.number p.line ≡ if_pair (pair_report (read_report t) (read_report u)) call refused
-    pair_refused ne = if_refused (pair_told p) (ne_eqb p.number 0 ne) ∙ ap (λ (x : PairReport). if_pair x call refused) is
-
-    pub pair_composed_lem : p.number ≡ 0 → call p.model ≡ if_pair (pair_report (read_report t) (read_report u)) call refused
-    pair_composed_lem z = if_composed (pair_told p) (eq-eqb p.number 0 z) ∙ ap (λ (x : PairReport). if_pair x call refused) is
+  pair_err {e} q {n} {l} number line =
+      (λ i. refused (number i) (line i)) ∙ rw (sym (not_0 e)) refl ∙ ap (λ (y : PairReport). if_pair y call refused) (ap pair_told (sym q) ∙ is)

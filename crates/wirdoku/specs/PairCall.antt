@@ -1,12 +1,13 @@
 -- What the calls on two model texts answer: both are read, the models read are composed, then the call is made on the composed model.
-use Rattle.std.specs.Prelude.{ℕ, cond, eqb}
+use Rattle.std.specs.Prelude.{ℕ, cond, eqb, Result, Ok, Err}
 use Rattle.model.specs.declared.Model.{Model}
 use Rattle.model.specs.Record.{blank_model}
-use Rattle.text.specs.Text.{ReadReport, if_read}
-use Rattle.compose.specs.ComposeCall.{ComposeReport, compose_report}
+use Rattle.text.specs.Text.{ReadReport, if_read, outcome_number, outcome_line}
+use Rattle.compose.specs.ComposeCall.{ComposeReport, compose_report, compose_number}
 use Rattle.compose.specs.Parts.{PartsReport}
 use Rattle.wirdoku.specs.declared.pairs.PairAnswer.{PairAnswer}
-use Rattle.wirdoku.specs.declared.pairs.PairRead.{PairRead}
+use Rattle.wirdoku.specs.declared.pairs.PairRefusal.{PairRefusal}
+use Rattle.wirdoku.specs.declared.pairs.PairRefusal.TheVariants.{First, Second, NotComposed}
 use Rattle.wirdoku.specs.declared.pairs.PartSteps.{PartSteps}
 
 -- ---- two texts
@@ -43,9 +44,28 @@ unfoldable pub if_pair : {A : Type 0} → PairReport → (Model → A) → (ℕ 
 if_pair p call refused = cond (eqb p.number 0) (call p.model) (refused p.number p.line)
 
 -- ---- what is told
--- the four of what was read
-abbrev pub pair_told : PairRead → PairReport
-pair_told r = pair_reported r.number r.text r.line r.model
+-- the models of both texts; or the text that is refused, its number and its line
+abbrev pub both_read : Model → Model → Result (Model × Model) (ℕ × ℕ × ℕ)
+both_read m n = Ok (m, n)
+
+abbrev pub text_refused : ℕ → ℕ → ℕ → Result (Model × Model) (ℕ × ℕ × ℕ)
+text_refused t n l = Err (t, n, l)
+
+-- why there is no composed model: the number, the text, 1 or 2, or 0, and its line, or 0
+abbrev pub pair_refusal : PairRefusal → PairReport
+pair_refusal (First e) = refused_pair 1 (outcome_number e) (outcome_line e)
+pair_refusal (Second e) = refused_pair 2 (outcome_number e) (outcome_line e)
+pair_refusal (NotComposed e) = refused_pair 0 (compose_number e) 0
+
+-- what was read of both texts
+abbrev pub both_told : Result (Model × Model) PairRefusal → Result (Model × Model) (ℕ × ℕ × ℕ)
+both_told (Ok p) = Ok p
+both_told (Err e) = text_refused (pair_refusal e).text (pair_refusal e).number (pair_refusal e).line
+
+-- what was made of them
+abbrev pub pair_told : Result Model PairRefusal → PairReport
+pair_told (Ok m) = pair_reported 0 0 0 m
+pair_told (Err e) = pair_refusal e
 
 -- the number, the text and its line
 abbrev pub pair_answer : PairReport → PairAnswer

@@ -18,11 +18,11 @@ ghost use Rattle.output.specs.OutputCall.{output_report, output_left};
 ghost use Rattle.sizing.specs.SizeCall.{refused_sizes, text_sizes, text_left, size_report, size_left, size_told};
 ghost use Rattle.wirdoku.specs.TextCall.{answer_told, text_report, counted_sizes, shape_of, refused_shape, file_reply, refused_file, state_answer, zero_state, step_answer, output_in, refute_reply, refused_refute};
 
-use counts::{CountsAnswer, counts_of};
-use decode::assignment_to_run;
-use dimacs::write_file;
-use encode::run_to_assignment;
-use model::{Model, State};
+use calls::{
+    counted, decoded, encoded, filed, refused_file, refused_refute, refused_shape, refused_sizes,
+    refuted, shape_of, state_answer, stepped, told, walked, zero_state,
+};
+use model::State;
 use output::output_to_assignment;
 pub use pairs::{
     PairAnswer, PartSteps, wirdoku_pair_assignment_to_run, wirdoku_pair_counts,
@@ -30,11 +30,10 @@ pub use pairs::{
     wirdoku_pair_read, wirdoku_pair_refute, wirdoku_pair_run_to_assignment, wirdoku_pair_shape,
     wirdoku_pair_step, wirdoku_pair_walk,
 };
-use refute::refute;
 use sizing::{SizeAnswer, sizes_of, text_sizes};
 use text::read_model;
-use walk::{step, walk};
 
+mod calls;
 mod pairs;
 
 // The number of the refusal, or 0, and its place.
@@ -103,51 +102,9 @@ pub struct StateAnswer {
 pub fn wirdoku_read(text: &[u8]) -> Answer
     ensures { answer_told result ≡ text_report (read_report text.now) }
 {
-    let read = read_model(text);
-    let outcome = read.outcome;
-    told(outcome.number(), outcome.line())
-}
-
-pub(crate) fn told(number: u8, place: usize) -> Answer
-    ensures { result ≡ record { number = number; place = place } }
-{
-    Answer { number, place }
-}
-
-pub(crate) fn shape_of(m: Model) -> Shape
-    ensures { result ≡ shape_of m }
-{
-    let z = m.totals();
-    Shape {
-        number: 0,
-        line: 0,
-        locations: m.locations,
-        initial: m.initial,
-        target: m.target,
-        clocks: m.clocks,
-        counters: m.vars,
-        edges: m.used,
-        ceiling: z.ceiling,
-        state: z.state,
-        choices: z.choices,
-    }
-}
-
-pub(crate) fn refused_shape(number: u8, line: usize) -> Shape
-    ensures { result ≡ refused_shape number line }
-{
-    Shape {
-        number,
-        line,
-        locations: 0,
-        initial: 0,
-        target: 0,
-        clocks: 0,
-        counters: 0,
-        edges: 0,
-        ceiling: 0,
-        state: 0,
-        choices: 0,
+    match read_model(text) {
+        Ok(_) => told(0, 0),
+        Err(refusal) => told(refusal.number(), refusal.line()),
     }
 }
 
@@ -155,46 +112,9 @@ pub(crate) fn refused_shape(number: u8, line: usize) -> Shape
 pub fn wirdoku_shape(text: &[u8]) -> Shape
     ensures { result ≡ if_read (read_report text.now) shape_of refused_shape }
 {
-    let read = read_model(text);
-    let outcome = read.outcome;
-    let number = outcome.number();
-    if number != 0 {
-        return refused_shape(number, outcome.line());
-    }
-    let model = read.model;
-    shape_of(model)
-}
-
-pub(crate) fn size_answer(
-    number: u8,
-    line: usize,
-    variables: usize,
-    clauses: usize,
-    words: usize,
-) -> SizeAnswer
-    ensures { result ≡ record { number = number; line = line; variables = variables; clauses = clauses; words = words } }
-{
-    SizeAnswer {
-        number,
-        line,
-        variables,
-        clauses,
-        words,
-    }
-}
-
-pub(crate) fn counted(c: CountsAnswer) -> SizeAnswer
-    ensures { size_told result ≡ counted_sizes (list_told c) }
-{
-    let number = c.number();
-    match c {
-        CountsAnswer::NotWellFormed => size_answer(number, 0, 0, 0, 0),
-        CountsAnswer::BoundTooLarge => size_answer(number, 0, 0, 0, 0),
-        CountsAnswer::Counts {
-            variables,
-            clauses,
-            words,
-        } => size_answer(number, 0, variables, clauses, words),
+    match read_model(text) {
+        Ok(model) => shape_of(model),
+        Err(refusal) => refused_shape(refusal.number(), refusal.line()),
     }
 }
 
@@ -202,14 +122,10 @@ pub(crate) fn counted(c: CountsAnswer) -> SizeAnswer
 pub fn wirdoku_counts(text: &[u8], bound: usize) -> SizeAnswer
     ensures { size_told result ≡ if_read (read_report text.now) (λ m. counted_sizes (list_report m bound)) refused_sizes }
 {
-    let read = read_model(text);
-    let outcome = read.outcome;
-    let number = outcome.number();
-    if number != 0 {
-        return size_answer(number, outcome.line(), 0, 0, 0);
+    match read_model(text) {
+        Ok(model) => counted(model, bound),
+        Err(refusal) => refused_sizes(refusal.number(), refusal.line()),
     }
-    let model = read.model;
-    counted(counts_of(model, bound))
 }
 
 // Writes the list for a bound: the text, 21, 22.
@@ -220,30 +136,15 @@ pub fn wirdoku_emit(text: &[u8], bound: usize, out: &mut [i32]) -> SizeAnswer
     text_sizes(text, bound, out)
 }
 
-pub(crate) fn file_reply(number: u8, line: usize, bytes: usize) -> FileReply
-    ensures { result ≡ record { number = number; line = line; bytes = bytes } }
-{
-    FileReply {
-        number,
-        line,
-        bytes,
-    }
-}
-
 // Writes the DIMACS file of the list for a bound: the text, 21, 32.
 pub fn wirdoku_dimacs(text: &[u8], bound: usize, out: &mut [u8]) -> FileReply
     ensures value { result ≡ if_read (read_report text.now) (λ m. file_reply (file_report m bound (length out.old))) refused_file }
     ensures out_after { out.new ≡ if_read (read_report text.now) (λ m. file_left m bound out.old) (λ n l. out.old) }
 {
-    let read = read_model(text);
-    let outcome = read.outcome;
-    let number = outcome.number();
-    if number != 0 {
-        return file_reply(number, outcome.line(), 0);
+    match read_model(text) {
+        Ok(model) => filed(model, bound, out),
+        Err(refusal) => refused_file(refusal.number(), refusal.line()),
     }
-    let model = read.model;
-    let written = write_file(model, bound, out);
-    file_reply(written.number(), 0, written.bytes())
 }
 
 // The size program's question, on a bound line and a model text: 9, the text, 21, 22.
@@ -254,70 +155,34 @@ pub fn wirdoku_size(input: &[u8], out: &mut [i32]) -> SizeAnswer
     sizes_of(input, out)
 }
 
-pub(crate) fn state_answer(number: u8, line: usize, state: State) -> StateAnswer
-    ensures { result ≡ state_answer number line state }
-{
-    StateAnswer {
-        number,
-        line,
-        state,
-    }
-}
-
-pub(crate) fn zero_state() -> State
-    ensures { result ≡ zero_state }
-{
-    State {
-        location: 0,
-        counters: [0u8; Model::COUNTERS],
-        clocks: [0u8; Model::CLOCKS],
-    }
-}
-
 // The initial state, whether or not its invariant holds: the text, and then a state of zeros.
 pub fn wirdoku_initial(text: &[u8]) -> StateAnswer
     ensures { result ≡ if_read (read_report text.now) (λ m. state_answer 0 0 (initial_state m)) (λ n l. state_answer n l zero_state) }
 {
-    let read = read_model(text);
-    let outcome = read.outcome;
-    let number = outcome.number();
-    if number != 0 {
-        return state_answer(number, outcome.line(), zero_state());
+    match read_model(text) {
+        Ok(model) => state_answer(0, 0, model.initial_state()),
+        Err(refusal) => state_answer(refusal.number(), refusal.line(), zero_state()),
     }
-    let model = read.model;
-    state_answer(0, 0, model.initial_state())
 }
 
 // One step byte from a state: the text, 10, 27, 28, and then the given state.
 pub fn wirdoku_step(text: &[u8], state: State, byte: u8) -> StateAnswer
     ensures { result ≡ if_read (read_report text.now) (λ m. step_answer (step_report m state byte)) (λ n l. state_answer n l state) }
 {
-    let read = read_model(text);
-    let outcome = read.outcome;
-    let number = outcome.number();
-    if number != 0 {
-        return state_answer(number, outcome.line(), state);
+    match read_model(text) {
+        Ok(model) => stepped(model, state, byte),
+        Err(refusal) => state_answer(refusal.number(), refusal.line(), state),
     }
-    let model = read.model;
-    let stepped = step(model, state, byte);
-    let what = stepped.outcome;
-    let next = stepped.state;
-    state_answer(what.number(), 0, next)
 }
 
 // Walks a run: the text, 21, 29; per step 27, 28; 30.
 pub fn wirdoku_walk(text: &[u8], run: &[u8]) -> Answer
     ensures { answer_told result ≡ if_read (read_report text.now) (λ m. walk_report m run.now) refusal }
 {
-    let read = read_model(text);
-    let outcome = read.outcome;
-    let number = outcome.number();
-    if number != 0 {
-        return told(number, outcome.line());
+    match read_model(text) {
+        Ok(model) => walked(model, run),
+        Err(refusal) => told(refusal.number(), refusal.line()),
     }
-    let model = read.model;
-    let verdict = walk(model, run);
-    told(verdict.number(), verdict.place() as usize)
 }
 
 // Writes the run of an assignment: the text, 21, 23, 24, 25, 26.
@@ -330,15 +195,10 @@ pub fn wirdoku_assignment_to_run(
     ensures result_value { answer_told result ≡ if_read (read_report text.now) (λ m. decode_report m bound assignment.now (length run.old)) refusal }
     ensures run_after { run.new ≡ if_read (read_report text.now) (λ m. decode_left m bound assignment.now run.old) (λ n l. run.old) }
 {
-    let read = read_model(text);
-    let outcome = read.outcome;
-    let number = outcome.number();
-    if number != 0 {
-        return told(number, outcome.line());
+    match read_model(text) {
+        Ok(model) => decoded(model, bound, assignment, run),
+        Err(refusal) => told(refusal.number(), refusal.line()),
     }
-    let model = read.model;
-    let decoded = assignment_to_run(model, bound, assignment, run);
-    told(decoded.number(), decoded.place())
 }
 
 // Writes the assignment of a run: the text, 21 and the walker's rows, 31.
@@ -346,24 +206,9 @@ pub fn wirdoku_run_to_assignment(text: &[u8], run: &[u8], assignment: &mut [u8])
     ensures result_value { answer_told result ≡ if_read (read_report text.now) (λ m. encode_report m run.now (length assignment.old)) refusal }
     ensures assignment_after { assignment.new ≡ if_read (read_report text.now) (λ m. encode_left m run.now assignment.old) (λ n l. assignment.old) }
 {
-    let read = read_model(text);
-    let outcome = read.outcome;
-    let number = outcome.number();
-    if number != 0 {
-        return told(number, outcome.line());
-    }
-    let model = read.model;
-    let encoded = run_to_assignment(model, run, assignment);
-    told(encoded.number(), encoded.place() as usize)
-}
-
-fn output_reply(number: u8, line: usize, outcome: u8) -> OutputReply
-    ensures { result ≡ record { number = number; line = line; outcome = outcome } }
-{
-    OutputReply {
-        number,
-        line,
-        outcome,
+    match read_model(text) {
+        Ok(model) => encoded(model, run, assignment),
+        Err(refusal) => told(refusal.number(), refusal.line()),
     }
 }
 
@@ -372,18 +217,17 @@ pub fn wirdoku_output_to_assignment(output: &[u8], assignment: &mut [u8]) -> Out
     ensures result_value { output_in result ≡ output_report output.now (length assignment.old) }
     ensures assignment_after { assignment.new ≡ output_left output.now assignment.old }
 {
-    let told = output_to_assignment(output, assignment);
-    output_reply(told.number(), told.line(), told.outcome())
-}
-
-pub(crate) fn refute_reply(number: u8, line: usize, words: usize, outcome: u8) -> RefuteReply
-    ensures { result ≡ record { number = number; line = line; words = words; outcome = outcome } }
-{
-    RefuteReply {
-        number,
-        line,
-        words,
-        outcome,
+    match output_to_assignment(output, assignment) {
+        Ok(outcome) => OutputReply {
+            number: 0,
+            line: 0,
+            outcome: outcome as u8,
+        },
+        Err(refusal) => OutputReply {
+            number: refusal.number(),
+            line: refusal.line(),
+            outcome: 0,
+        },
     }
 }
 
@@ -392,13 +236,8 @@ pub fn wirdoku_refute(text: &[u8], bound: usize, words: &mut [i32], hints: &[u32
     ensures value { result ≡ if_read (read_report text.now) (λ m. refute_reply (refute_report m bound words.old hints.now)) refused_refute }
     ensures words_after { words.new ≡ if_read (read_report text.now) (λ m. emit_left m bound (length words.old) words.old) (λ n l. words.old) }
 {
-    let read = read_model(text);
-    let outcome = read.outcome;
-    let number = outcome.number();
-    if number != 0 {
-        return refute_reply(number, outcome.line(), 0, 0);
+    match read_model(text) {
+        Ok(model) => refuted(model, bound, words, hints),
+        Err(refusal) => refused_refute(refusal.number(), refusal.line()),
     }
-    let model = read.model;
-    let checked = refute(model, bound, words, hints);
-    refute_reply(checked.number(), 0, checked.words(), checked.outcome())
 }

@@ -14,23 +14,18 @@ ghost use Rattle.emission.specs.EmitCall.{emit_report, emit_left};
 ghost use Rattle.refute.specs.RefuteCall.{refute_report};
 ghost use Rattle.sizing.specs.SizeCall.{refused_sizes, emitted_sizes, size_told};
 ghost use Rattle.wirdoku.specs.TextCall.{answer_told, counted_sizes, shape_of, refused_shape, file_reply, refused_file, state_answer, zero_state, step_answer, refute_reply, refused_refute};
-ghost use Rattle.wirdoku.specs.PairCall.{if_both, pair_report, refused_pair, if_pair, pair_told, pair_answer, parts_answer, refused_parts};
+ghost use Rattle.wirdoku.specs.PairCall.{if_both, both_read, text_refused, both_told, pair_report, if_pair, pair_refusal, pair_told, pair_answer, parts_answer, refused_parts};
 
-use crate::{
-    Answer, FileReply, RefuteReply, Shape, StateAnswer, counted, file_reply, refused_shape,
-    refute_reply, shape_of, size_answer, state_answer, told, zero_state,
+use crate::calls::{
+    counted, decoded, encoded, filed, refused_file, refused_refute, refused_shape, refused_sizes,
+    refuted, shape_of, state_answer, stepped, told, walked, zero_state,
 };
-use compose::{compose, part_steps};
-use counts::counts_of;
-use decode::assignment_to_run;
-use dimacs::write_file;
+use crate::{Answer, FileReply, RefuteReply, Shape, StateAnswer};
+use compose::{ComposeRefusal, compose, part_steps};
 use emission::emit;
-use encode::run_to_assignment;
 use model::{Model, State};
-use refute::refute;
 use sizing::{SizeAnswer, emitted};
-use text::read_model;
-use walk::{step, walk};
+use text::{ReadRefusal, read_model};
 
 // The number of the refusal, or 0; the text that is refused, 1 or 2, or 0; its line, or 0.
 #[repr(C)]
@@ -51,64 +46,77 @@ pub struct PartSteps {
     pub second: u8,
 }
 
-// What was read: the composed model, or the blank model.
-#[derive(Clone, Copy)]
-struct PairRead {
-    number: u8,
-    text: u8,
-    line: usize,
-    model: Model,
+// Why there is no composed model: a text is refused, or the two models can't be composed.
+#[derive(Clone, Copy, Debug, PartialEq, Eq)]
+enum PairRefusal {
+    First(ReadRefusal),
+    Second(ReadRefusal),
+    NotComposed(ComposeRefusal),
 }
 
-fn refused_pair(text: u8, number: u8, line: usize) -> PairRead
-    ensures { pair_told result ≡ refused_pair text number line }
-{
-    PairRead {
-        number,
-        text,
-        line,
-        model: Model::blank(),
+impl PairRefusal {
+    fn number(self) -> u8
+        ensures { result ≡ (pair_refusal self).number }
+    {
+        match self {
+            PairRefusal::First(refusal) | PairRefusal::Second(refusal) => refusal.number(),
+            PairRefusal::NotComposed(refusal) => refusal.number(),
+        }
+    }
+
+    // The text that is refused, 1 or 2, or 0.
+    fn text(self) -> u8
+        ensures { result ≡ (pair_refusal self).text }
+    {
+        match self {
+            PairRefusal::First(_) => 1,
+            PairRefusal::Second(_) => 2,
+            PairRefusal::NotComposed(_) => 0,
+        }
+    }
+
+    fn line(self) -> usize
+        ensures { result ≡ (pair_refusal self).line }
+    {
+        match self {
+            PairRefusal::First(refusal) | PairRefusal::Second(refusal) => refusal.line(),
+            PairRefusal::NotComposed(_) => 0,
+        }
     }
 }
 
-// Reads both texts and composes their models: the first text, the second, 38.
-fn read_pair(first: &[u8], second: &[u8]) -> PairRead
+// The models of both texts: the first text, the second.
+fn read_both(first: &[u8], second: &[u8]) -> Result<(Model, Model), PairRefusal>
+    ensures { both_told result ≡ if_both (read_report first.now) (read_report second.now) both_read text_refused }
+{
+    let a = read_model(first).map_err(PairRefusal::First)?;
+    let b = read_model(second).map_err(PairRefusal::Second)?;
+    Ok((a, b))
+}
+
+// The composed model of both texts: the first text, the second, 38.
+fn read_pair(first: &[u8], second: &[u8]) -> Result<Model, PairRefusal>
     ensures { pair_told result ≡ pair_report (read_report first.now) (read_report second.now) }
 {
-    let a = read_model(first);
-    let outcome = a.outcome;
-    let number = outcome.number();
-    if number != 0 {
-        return refused_pair(1, number, outcome.line());
-    }
-    let b = read_model(second);
-    let other = b.outcome;
-    let refusal = other.number();
-    if refusal != 0 {
-        return refused_pair(2, refusal, other.line());
-    }
-    let m = a.model;
-    let n = b.model;
-    let joined = compose(m, n);
-    let what = joined.outcome;
-    let model = joined.model;
-    PairRead {
-        number: what.number(),
-        text: 0,
-        line: 0,
-        model,
-    }
+    let (a, b) = read_both(first, second)?;
+    compose(a, b).map_err(PairRefusal::NotComposed)
 }
 
 // Reads both texts and composes their models: the first text, the second, 38.
 pub fn wirdoku_pair_read(first: &[u8], second: &[u8]) -> PairAnswer
     ensures { result ≡ pair_answer (pair_report (read_report first.now) (read_report second.now)) }
 {
-    let pair = read_pair(first, second);
-    PairAnswer {
-        number: pair.number,
-        text: pair.text,
-        line: pair.line,
+    match read_pair(first, second) {
+        Ok(_) => PairAnswer {
+            number: 0,
+            text: 0,
+            line: 0,
+        },
+        Err(refusal) => PairAnswer {
+            number: refusal.number(),
+            text: refusal.text(),
+            line: refusal.line(),
+        },
     }
 }
 
@@ -116,24 +124,20 @@ pub fn wirdoku_pair_read(first: &[u8], second: &[u8]) -> PairAnswer
 pub fn wirdoku_pair_shape(first: &[u8], second: &[u8]) -> Shape
     ensures { result ≡ if_pair (pair_report (read_report first.now) (read_report second.now)) shape_of refused_shape }
 {
-    let pair = read_pair(first, second);
-    if pair.number != 0 {
-        return refused_shape(pair.number, pair.line);
+    match read_pair(first, second) {
+        Ok(model) => shape_of(model),
+        Err(refusal) => refused_shape(refusal.number(), refusal.line()),
     }
-    let model = pair.model;
-    shape_of(model)
 }
 
 // The counts of its list for a bound, by formula: both texts, 38, 21.
 pub fn wirdoku_pair_counts(first: &[u8], second: &[u8], bound: usize) -> SizeAnswer
     ensures { size_told result ≡ if_pair (pair_report (read_report first.now) (read_report second.now)) (λ m. counted_sizes (list_report m bound)) refused_sizes }
 {
-    let pair = read_pair(first, second);
-    if pair.number != 0 {
-        return size_answer(pair.number, pair.line, 0, 0, 0);
+    match read_pair(first, second) {
+        Ok(model) => counted(model, bound),
+        Err(refusal) => refused_sizes(refusal.number(), refusal.line()),
     }
-    let model = pair.model;
-    counted(counts_of(model, bound))
 }
 
 // Writes its list for a bound: both texts, 38, 21, 22.
@@ -141,12 +145,10 @@ pub fn wirdoku_pair_emit(first: &[u8], second: &[u8], bound: usize, out: &mut [i
     ensures result_value { size_told result ≡ if_pair (pair_report (read_report first.now) (read_report second.now)) (λ m. emitted_sizes (emit_report m bound (length out.old))) refused_sizes }
     ensures out_after { out.new ≡ if_pair (pair_report (read_report first.now) (read_report second.now)) (λ m. emit_left m bound (length out.old) out.old) (λ n l. out.old) }
 {
-    let asked = read_pair(first, second);
-    if asked.number != 0 {
-        return size_answer(asked.number, asked.line, 0, 0, 0);
+    match read_pair(first, second) {
+        Ok(model) => emitted(emit(model, bound, out)),
+        Err(refusal) => refused_sizes(refusal.number(), refusal.line()),
     }
-    let model = asked.model;
-    emitted(emit(model, bound, out))
 }
 
 // Writes the DIMACS file of its list for a bound: both texts, 38, 21, 32.
@@ -154,53 +156,40 @@ pub fn wirdoku_pair_dimacs(first: &[u8], second: &[u8], bound: usize, out: &mut 
     ensures value { result ≡ if_pair (pair_report (read_report first.now) (read_report second.now)) (λ m. file_reply (file_report m bound (length out.old))) refused_file }
     ensures out_after { out.new ≡ if_pair (pair_report (read_report first.now) (read_report second.now)) (λ m. file_left m bound out.old) (λ n l. out.old) }
 {
-    let wanted = read_pair(first, second);
-    if wanted.number != 0 {
-        return file_reply(wanted.number, wanted.line, 0);
+    match read_pair(first, second) {
+        Ok(model) => filed(model, bound, out),
+        Err(refusal) => refused_file(refusal.number(), refusal.line()),
     }
-    let model = wanted.model;
-    let written = write_file(model, bound, out);
-    file_reply(written.number(), 0, written.bytes())
 }
 
 // Its initial state, whether or not its invariant holds: both texts, 38, and then a state of zeros.
 pub fn wirdoku_pair_initial(first: &[u8], second: &[u8]) -> StateAnswer
     ensures { result ≡ if_pair (pair_report (read_report first.now) (read_report second.now)) (λ m. state_answer 0 0 (initial_state m)) (λ n l. state_answer n l zero_state) }
 {
-    let pair = read_pair(first, second);
-    if pair.number != 0 {
-        return state_answer(pair.number, pair.line, zero_state());
+    match read_pair(first, second) {
+        Ok(model) => state_answer(0, 0, model.initial_state()),
+        Err(refusal) => state_answer(refusal.number(), refusal.line(), zero_state()),
     }
-    let model = pair.model;
-    state_answer(0, 0, model.initial_state())
 }
 
 // One step byte from a state of it: both texts, 38, 10, 27, 28, and then the given state.
 pub fn wirdoku_pair_step(first: &[u8], second: &[u8], state: State, byte: u8) -> StateAnswer
     ensures { result ≡ if_pair (pair_report (read_report first.now) (read_report second.now)) (λ m. step_answer (step_report m state byte)) (λ n l. state_answer n l state) }
 {
-    let pair = read_pair(first, second);
-    if pair.number != 0 {
-        return state_answer(pair.number, pair.line, state);
+    match read_pair(first, second) {
+        Ok(model) => stepped(model, state, byte),
+        Err(refusal) => state_answer(refusal.number(), refusal.line(), state),
     }
-    let model = pair.model;
-    let stepped = step(model, state, byte);
-    let what = stepped.outcome;
-    let next = stepped.state;
-    state_answer(what.number(), 0, next)
 }
 
 // Walks a run of it: both texts, 38, 21, 29; per step 27, 28; 30.
 pub fn wirdoku_pair_walk(first: &[u8], second: &[u8], run: &[u8]) -> Answer
     ensures { answer_told result ≡ if_pair (pair_report (read_report first.now) (read_report second.now)) (λ m. walk_report m run.now) refusal }
 {
-    let pair = read_pair(first, second);
-    if pair.number != 0 {
-        return told(pair.number, pair.line);
+    match read_pair(first, second) {
+        Ok(model) => walked(model, run),
+        Err(refusal) => told(refusal.number(), refusal.line()),
     }
-    let model = pair.model;
-    let verdict = walk(model, run);
-    told(verdict.number(), verdict.place() as usize)
 }
 
 // Writes the run of an assignment: both texts, 38, 21, 23, 24, 25, 26.
@@ -214,13 +203,10 @@ pub fn wirdoku_pair_assignment_to_run(
     ensures result_value { answer_told result ≡ if_pair (pair_report (read_report first.now) (read_report second.now)) (λ m. decode_report m bound assignment.now (length run.old)) refusal }
     ensures run_after { run.new ≡ if_pair (pair_report (read_report first.now) (read_report second.now)) (λ m. decode_left m bound assignment.now run.old) (λ n l. run.old) }
 {
-    let pair = read_pair(first, second);
-    if pair.number != 0 {
-        return told(pair.number, pair.line);
+    match read_pair(first, second) {
+        Ok(model) => decoded(model, bound, assignment, run),
+        Err(refusal) => told(refusal.number(), refusal.line()),
     }
-    let model = pair.model;
-    let decoded = assignment_to_run(model, bound, assignment, run);
-    told(decoded.number(), decoded.place())
 }
 
 // Writes the assignment of a run of it: both texts, 38, 21 and the walker's rows, 31.
@@ -233,13 +219,10 @@ pub fn wirdoku_pair_run_to_assignment(
     ensures result_value { answer_told result ≡ if_pair (pair_report (read_report first.now) (read_report second.now)) (λ m. encode_report m run.now (length assignment.old)) refusal }
     ensures assignment_after { assignment.new ≡ if_pair (pair_report (read_report first.now) (read_report second.now)) (λ m. encode_left m run.now assignment.old) (λ n l. assignment.old) }
 {
-    let pair = read_pair(first, second);
-    if pair.number != 0 {
-        return told(pair.number, pair.line);
+    match read_pair(first, second) {
+        Ok(model) => encoded(model, run, assignment),
+        Err(refusal) => told(refusal.number(), refusal.line()),
     }
-    let model = pair.model;
-    let encoded = run_to_assignment(model, run, assignment);
-    told(encoded.number(), encoded.place() as usize)
 }
 
 // Writes its list for a bound in front of the lemmas and follows the hints: both texts, 38, 21, 22.
@@ -253,13 +236,10 @@ pub fn wirdoku_pair_refute(
     ensures value { result ≡ if_pair (pair_report (read_report first.now) (read_report second.now)) (λ m. refute_reply (refute_report m bound words.old hints.now)) refused_refute }
     ensures words_after { words.new ≡ if_pair (pair_report (read_report first.now) (read_report second.now)) (λ m. emit_left m bound (length words.old) words.old) (λ n l. words.old) }
 {
-    let claimed = read_pair(first, second);
-    if claimed.number != 0 {
-        return refute_reply(claimed.number, claimed.line, 0, 0);
+    match read_pair(first, second) {
+        Ok(model) => refuted(model, bound, words, hints),
+        Err(refusal) => refused_refute(refusal.number(), refusal.line()),
     }
-    let model = claimed.model;
-    let checked = refute(model, bound, words, hints);
-    refute_reply(checked.number(), 0, checked.words(), checked.outcome())
 }
 
 fn refused_parts(number: u8, line: usize) -> PartSteps
@@ -273,29 +253,27 @@ fn refused_parts(number: u8, line: usize) -> PartSteps
     }
 }
 
+// What a step byte of the composed model is in each part, where both models are read: 38, 27, and then 0 and 0.
+fn parts_of(a: Model, b: Model, byte: u8) -> PartSteps
+    ensures { result ≡ parts_answer (parts_report a b byte) }
+{
+    match part_steps(a, b, byte) {
+        Ok(steps) => PartSteps {
+            number: 0,
+            line: 0,
+            first: steps.first,
+            second: steps.second,
+        },
+        Err(refusal) => refused_parts(refusal.number(), 0),
+    }
+}
+
 // What a step byte of the composed model is in each part: both texts, 38, 27, and then 0 and 0.
 pub fn wirdoku_pair_parts(first: &[u8], second: &[u8], byte: u8) -> PartSteps
     ensures { result ≡ if_both (read_report first.now) (read_report second.now) (λ a b. parts_answer (parts_report a b byte)) (λ t. refused_parts) }
 {
-    let x = read_model(first);
-    let outcome = x.outcome;
-    let number = outcome.number();
-    if number != 0 {
-        return refused_parts(number, outcome.line());
-    }
-    let y = read_model(second);
-    let other = y.outcome;
-    let refusal = other.number();
-    if refusal != 0 {
-        return refused_parts(refusal, other.line());
-    }
-    let m = x.model;
-    let n = y.model;
-    let steps = part_steps(m, n, byte);
-    PartSteps {
-        number: steps.number(),
-        line: 0,
-        first: steps.first(),
-        second: steps.second(),
+    match read_both(first, second) {
+        Ok((a, b)) => parts_of(a, b, byte),
+        Err(refusal) => refused_parts(refusal.number(), refusal.line()),
     }
 }

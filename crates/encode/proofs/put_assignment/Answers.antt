@@ -16,7 +16,7 @@ put_state-at-requires c =
     let m = c.args.m in
     let run-now = c.args.run.now in (
       pre.0,
-      c.ceiling-top.ensures.is,
+      c.ceiling.ensures.is,
       room_first (steps_bytes one_hot m initial-state.result run-now)
           (room_as (ap (λ (s : State). state_bytes one_hot m s ++ steps_bytes one_hot m s run-now) (sym initial-state.ensures)) pre.2),
     )

@@ -1,46 +1,42 @@
 -- `run_to_assignment`: the walker's refusal, then 31, then the assignment; a walked run is one that `put_assignment` may write.
-use mathlib.Core.Path.{sym, ◌∙◌}
-use Prim.Native.Nat.{◌<◌, ◌≤◌}
-use native.Mathlib.Omega.{arith}
-use lib.ListN.{length}
-use borrow.Author.Tests.{eq-eqb, ne_eqb, lt-ltb, le-ltb}
+use Rattle.std.proofs.Common.{arith, sym, ◌≡◌, ◌≤◌, length}
+use Rattle.std.proofs.lemmas.Grind.{common_steps}
+use Rattle.std.proofs.lemmas.Result.{err_from_is_err_and}
 use Rattle.model.specs.Automaton.{variables}
-use Rattle.encode.proofs.Reports.{tested, accepted_run, walks, room_for, report_refused, report_31, report_0, left_not_walked, left_31, left_written}
+use Rattle.model.specs.Refusal.{accepted}
+use Rattle.encode.specs.EncodeCall.{encode_report, encode_left}
+use Rattle.encode.proofs.Reports.{run_refused, accepted_run, walks, room_for, left_written}
 use Rattle.encode.proofs.run_to_assignment.Goals as goal
 
-pub returns-then-number-ne0 : goal.returns-then-number-ne0
-returns-then-number-ne0 c =
-    let h = tested c.number.ensures c.walk-verdict.ensures (ne_eqb _ _ c.if-number-ne0.true) in
-    record { result_value = c.walk-verdict.ensures ∙ sym (report_refused _ _ _ h); out_after = left_not_walked _ _ _ h }
+pub returns-in_err-walk-clause-result_value : goal.returns-in_err-walk-clause-result_value
+unfolding encode_report
+returns-in_err-walk-clause-result_value c =
+    let p = err_from_is_err_and c.from_residual.result c.from_residual.ensures.1 in
+    rw (p.1, p.2, ← c.in_err-walk.ensures, run_refused c.in_err-walk.field-0.0)
+
+pub returns-in_err-walk-clause-out_after : goal.returns-in_err-walk-clause-out_after
+unfolding encode_report encode_left
+returns-in_err-walk-clause-out_after c = rw (← c.in_err-walk.ensures, run_refused c.in_err-walk.field-0.0, run_refused c.in_err-walk.field-0.0)
 
 pub overflow_cast-run : goal.overflow_cast-run
-overflow_cast-run c =
-    let h = tested c.number.ensures c.walk-verdict.ensures (eq-eqb _ _ c.if-number-ne0.false) in
-    record { fits = omega (arith, (accepted_run _ _ h).short) }
+overflow_cast-run c = record { fits = omega (arith, (accepted_run c.args.m c.args.run.now c.in_ok-walk.ensures).short) }
 
-pub returns-then-out-variables : goal.returns-then-out-variables
-returns-then-out-variables c =
-    let walk-ensures = c.walk-verdict.ensures in
-    let args = c.args in
-    let h = tested c.number.ensures walk-ensures (eq-eqb _ _ c.if-number-ne0.false) in
-    let l : length args.out.now < variables args.m (length args.run.now) = omega (arith, c.if-out-variables.true, c.variables.ensures) in
-    record { result_value = sym (report_31 _ _ _ h (lt-ltb _ _ l)); out_after = left_31 _ _ _ h (lt-ltb _ _ l) }
+pub returns-then-out-variables-clause-result_value : goal.returns-then-out-variables-clause-result_value
+unfolding encode_report
+returns-then-out-variables-clause-result_value c = grind (arith, common_steps)
+
+pub returns-then-out-variables-clause-out_after : goal.returns-then-out-variables-clause-out_after
+unfolding encode_report encode_left
+returns-then-out-variables-clause-out_after c = grind (arith, common_steps)
 
 pub put_assignment-requires : goal.put_assignment-requires
 put_assignment-requires c =
-    let args = c.args in
-    let m = args.m in
-    let run-now = args.run.now in
-    let h = tested c.number.ensures c.walk-verdict.ensures (eq-eqb _ _ c.if-number-ne0.false) in
-    let l : variables m (length run-now) ≤ length args.out.now = omega (arith, c.if-out-variables.false, c.variables.ensures) in
-    let a = accepted_run m run-now h in
+    let a = accepted_run c.args.m c.args.run.now c.in_ok-walk.ensures in
+    let l : variables c.args.m (length c.args.run.now) ≤ length c.args.out.now = omega (arith, c.if-out-variables.false, c.variables.ensures) in
     (a.model_formed, walks a, room_for _ a l)
 
 pub returns : goal.returns
+unfolding encode_report
 returns c =
-    let at-variables = c.variables in
-    let if2-left = c.if-out-variables.false in
-    let args = c.args in
-    let h = tested c.number.ensures c.walk-verdict.ensures (eq-eqb _ _ c.if-number-ne0.false) in
-    let l : variables args.m (length args.run.now) ≤ length args.out.now = omega (arith, if2-left, at-variables.ensures) in
-    record { result_value = sym (report_0 _ _ _ h (le-ltb _ _ l)); out_after = left_written _ _ h (le-ltb _ _ l) c.put_assignment.ensures }
+    let told : accepted ≡ encode_report c.args.m c.args.run.now (length c.args.out.now) = grind (arith, common_steps) in
+    record { result_value = told; out_after = left_written _ _ c.in_ok-walk.ensures (sym told) c.put_assignment.ensures }

@@ -1,52 +1,25 @@
--- `wirdoku_assignment_to_run`: the reader's refusal with the buffer unchanged, or what `assignment_to_run` answers and leaves.
-use Rattle.decode.specs.DecodeCall.{decode_report, decode_left}
+-- `wirdoku_assignment_to_run`: what is told of a refusal, or what the call on the model answers and leaves.
+use Rattle.std.proofs.Common.{ap, ◌∙◌}
+use Rattle.model.specs.declared.Model.{Model}
 use Rattle.wirdoku.specs.TextCall.{answer_told}
 use Rattle.model.specs.Refusal.{refusal}
-use lib.ListN.{length}
-use Rattle.model.specs.declared.Model.{Model}
-use Prim.Native.Nat.{ℕ}
-use mathlib.Core.Path.{ap, ◌∙◌}
-use Rattle.text.proofs.Calls.{refused_text, read_text}
+use Rattle.decode.specs.DecodeCall.{decode_report, decode_left}
+use Rattle.std.proofs.Common.{length}
+use Rattle.text.proofs.Calls.{read_text, refused_text}
 use Rattle.wirdoku.proofs.wirdoku_assignment_to_run.Goals as goal
 
-pub returns-then-number-ne0 : goal.returns-then-number-ne0
-returns-then-number-ne0 c =
-    let line-ensures = c.line.ensures in
-    let number = c.number-number in
-    let if1-taken = c.if-number-ne0.true in
-    let read-model = c.read_model-read in
-    let number-result = number.result in
-    let number-ensures = number.ensures in
-    let args = c.args in
-    let run = args.run in
-    let bound = args.bound in
-    let assignment = args.assignment in
-    let text = args.text in record {
-      result_value = ap answer_told c.told.ensures
-          ∙ refused_text (λ (m : Model). decode_report m bound assignment.now (length run.now)) refusal text.now read-model.result
-          read-model.ensures number-result number-ensures if1-taken _ line-ensures;
-      run_after = refused_text (λ (m : Model). decode_left m bound assignment.now run.now) (λ (n l : ℕ). run.now) text.now read-model.result
-          read-model.ensures number-result number-ensures if1-taken _ line-ensures;
+pub returns-in-Ok : goal.returns-in-Ok
+returns-in-Ok c =
+    let a = c.args in
+    record {
+      result_value = c.decoded.ensures.result_value ∙ read_text (λ (m : Model). decode_report m a.bound a.assignment.now (length a.run.now)) refusal c.read_model.result a.text.now c.read_model.ensures c.in-Ok.is;
+      run_after = c.decoded.ensures.run_after ∙ read_text (λ (m : Model). decode_left m a.bound a.assignment.now a.run.now) (λ n l. a.run.now) c.read_model.result a.text.now c.read_model.ensures c.in-Ok.is;
     }
 
-pub returns : goal.returns
-returns c =
-    let assignment-to-run-ensures = c.assignment_to_run-decoded.ensures in
-    let number = c.number-number in
-    let if1-left = c.if-number-ne0.false in
-    let read-model = c.read_model-read in
-    let number-result = number.result in
-    let number-ensures = number.ensures in
-    let args = c.args in
-    let run = args.run in
-    let bound = args.bound in
-    let assignment = args.assignment in
-    let text = args.text in record {
-      result_value = ap answer_told c.told-2.ensures ∙ (λ i. refusal (c.number.ensures i) (c.place.ensures i))
-          ∙ assignment-to-run-ensures.result_value
-          ∙ read_text (λ (m : Model). decode_report m bound assignment.now (length run.now)) refusal text.now read-model.result read-model.ensures
-          number-result number-ensures if1-left;
-      run_after = assignment-to-run-ensures.run_after
-          ∙ read_text (λ (m : Model). decode_left m bound assignment.now run.now) (λ (n l : ℕ). run.now) text.now read-model.result
-          read-model.ensures number-result number-ensures if1-left;
+pub returns-in-Err : goal.returns-in-Err
+returns-in-Err c =
+    let a = c.args in
+    record {
+      result_value = ap answer_told c.told.ensures ∙ refused_text (λ (m : Model). decode_report m a.bound a.assignment.now (length a.run.now)) refusal c.read_model.result a.text.now c.read_model.ensures c.in-Err.is c.number.ensures c.line.ensures;
+      run_after = refused_text (λ (m : Model). decode_left m a.bound a.assignment.now a.run.now) (λ n l. a.run.now) c.read_model.result a.text.now c.read_model.ensures c.in-Err.is c.number.ensures c.line.ensures;
     }

@@ -1,21 +1,11 @@
--- `wirdoku_shape`: the reader's refusal, or the shape of the model that was read.
+-- `wirdoku_shape`: what is told of a refusal, or what the call on the model answers.
+use Rattle.std.proofs.Common.{ap, ◌∙◌}
 use Rattle.wirdoku.specs.TextCall.{shape_of, refused_shape}
-use mathlib.Core.Path.{◌∙◌}
-use Rattle.text.proofs.Calls.{refused_text, read_text}
+use Rattle.text.proofs.Calls.{read_text, refused_text}
 use Rattle.wirdoku.proofs.wirdoku_shape.Goals as goal
 
-pub returns-then-number-ne0 : goal.returns-then-number-ne0
-returns-then-number-ne0 c =
-    let number = c.number-number in
-    let read-model = c.read_model-read in
-    c.refused_shape.ensures
-    ∙ refused_text shape_of refused_shape c.args.text.now read-model.result read-model.ensures number.result
-    number.ensures c.if-number-ne0.true _ c.line.ensures
+pub returns-in-Ok : goal.returns-in-Ok
+returns-in-Ok c = let a = c.args in c.shape_of.ensures ∙ read_text shape_of refused_shape c.read_model.result a.text.now c.read_model.ensures c.in-Ok.is
 
-pub returns : goal.returns
-returns c =
-    let number = c.number-number in
-    let read-model = c.read_model-read in
-    c.shape_of.ensures
-    ∙ read_text shape_of refused_shape c.args.text.now read-model.result read-model.ensures number.result
-    number.ensures c.if-number-ne0.false
+pub returns-in-Err : goal.returns-in-Err
+returns-in-Err c = let a = c.args in c.refused_shape.ensures ∙ refused_text shape_of refused_shape c.read_model.result a.text.now c.read_model.ensures c.in-Err.is c.number.ensures c.line.ensures

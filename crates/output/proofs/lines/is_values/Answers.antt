@@ -1,14 +1,18 @@
--- `is_values`: the two tests are those of the definition; a line of less than two bytes does not begin with the key.
-use mathlib.Core.Path.{sym, ◌∙◌}
-use Rattle.output.proofs.LineLaws.{values_short, values_other, values_key}
+-- `is_values`: what follows the key decides; without the key it is false.
+use mathlib.Core.Path.{sym, ap, ◌∙◌}
+use Rattle.text.specs.bytes.Ascii.{ascii}
+use Rattle.text.specs.bytes.Bytes.{split_on}
+use Rattle.output.specs.Literals.{are_literals}
+use Rattle.output.specs.Lines.{is_values, words_of}
+use Rattle.output.proofs.LineLaws.{stripped}
 use Rattle.output.proofs.lines.is_values.Goals as goal
 
-pub returns-then-l-lt2 : goal.returns-then-l-lt2
-returns-then-l-lt2 c = sym (values_short _ c.if-l-lt2.true)
+pub returns-in-Some : goal.returns-in-Some
+unfolding is_values words_of
+returns-in-Some c =
+    let e = c.in-Some.ensures.cases in
+    rw (stripped (ascii "v ") c.args.l.now e.0, sym e.1) c.are_literals.ensures
 
-pub returns-then-starts_with : goal.returns-then-starts_with
-returns-then-starts_with c =
-    c.are_literals.ensures ∙ values_key _ (sym c.starts_with.ensures ∙ c.if-starts_with.true)
-
-pub returns-else-starts_with : goal.returns-else-starts_with
-returns-else-starts_with c = sym (values_other _ (sym c.starts_with.ensures ∙ c.if-starts_with.false))
+pub returns-in-None : goal.returns-in-None
+unfolding is_values
+returns-in-None c = rw (stripped (ascii "v ") c.args.l.now c.in-None.ensures.cases)

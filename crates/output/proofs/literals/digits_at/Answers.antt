@@ -9,10 +9,10 @@ pub returns-then-b-eq32 : goal.returns-then-b-eq32
 returns-then-b-eq32 c =
     let loop = c.loop-i in
     let bare = c.args.bare in
-    rw c.word_of.ensures (record {
+    record {
       first_from = digits_space loop.invariant c.loop-i-test.true c.if-b-eq32.true;
       literal_value = λ j. record { variable = loop.invariant.number j; bare = bare };
-    })
+    }
 
 pub loop-i-preserved : goal.loop-i-preserved
 loop-i-preserved c =
@@ -22,7 +22,7 @@ pub returns : goal.returns
 returns c =
     let loop = c.loop-i in
     let bare = c.args.bare in
-    rw c.word_of-2.ensures (record {
+    record {
       first_from = digits_all loop.invariant c.loop-i-test.false;
       literal_value = λ j. record { variable = loop.invariant.number j; bare = bare };
-    })
+    }

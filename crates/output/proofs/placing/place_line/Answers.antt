@@ -1,25 +1,17 @@
--- `place_line`: the two tests are those of the definition; a line of less than two bytes does not begin with the key.
+-- `place_line`: what follows the key decides; without the key there is no literal.
 use mathlib.Core.Path.{sym, ap, ◌∙◌}
-use mathlib.Core.List.{foldl}
-use Rattle.output.specs.Counting.{literal_up_to}
-use Rattle.output.specs.Placing.{marking, placed}
-use Rattle.output.proofs.LiteralLaws.{literals_short, literals_key, literals_other}
+use Rattle.text.specs.bytes.Ascii.{ascii}
+use Rattle.output.specs.Lines.{words_of}
+use Rattle.output.specs.Placing.{line_literals}
+use Rattle.output.proofs.LineLaws.{stripped}
 use Rattle.output.proofs.placing.place_line.Goals as goal
 
-pub returns-then-l-lt2 : goal.returns-then-l-lt2
-returns-then-l-lt2 c =
-    let a = c.args in
-    ap (foldl (placed a.low) (marking a.p a.marks.now)) (sym (literals_short (literal_up_to a.most) a.l.now c.if-l-lt2.true))
+pub returns-in-Some : goal.returns-in-Some
+unfolding line_literals words_of
+returns-in-Some c =
+    let e = c.in-Some.ensures.cases in
+    rw (stripped (ascii "v ") c.args.l.now e.0, sym e.1) c.place_words.ensures
 
-pub returns-then-starts_with : goal.returns-then-starts_with
-returns-then-starts_with c =
-    let a = c.args in
-    let key = sym c.starts_with.ensures ∙ c.if-starts_with.true in
-    c.place_words.ensures
-    ∙ ap (foldl (placed a.low) (marking a.p a.marks.now)) (literals_key (literal_up_to a.most) a.l.now key)
-
-pub returns-else-starts_with : goal.returns-else-starts_with
-returns-else-starts_with c =
-    let a = c.args in
-    let other = sym c.starts_with.ensures ∙ c.if-starts_with.false in
-    ap (foldl (placed a.low) (marking a.p a.marks.now)) (sym (literals_other (literal_up_to a.most) a.l.now other))
+pub returns-in-None : goal.returns-in-None
+unfolding line_literals
+returns-in-None c = rw (stripped (ascii "v ") c.args.l.now c.in-None.ensures.cases)

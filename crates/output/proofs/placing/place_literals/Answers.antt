@@ -1,18 +1,15 @@
 -- `place_literals`: each turn of the loop places the line up to the next LF. The invariant is `Passing`: what is left to place, placed from here,
 -- comes to the whole text placed from the first state. The bound ends it, since nothing is placed after it. The window keeps its length.
-use mathlib.Core.Path.{refl, ap}
+use mathlib.Core.Path.{refl}
 use native.Mathlib.Omega.{arith}
 use borrow.Author.Rules.{rules}
-use Rattle.output.specs.Placing.{literals_of, marking}
-use Rattle.output.specs.declared.placing.Placing.{Placing}
+use Rattle.output.specs.Placing.{literals_of}
 use Rattle.output.proofs.TokenLaws.{pass_none, pass_last, pass_more, pass_stays, bound_stays}
 use Rattle.output.proofs.LiteralLaws.{literals_by_line}
 use Rattle.output.proofs.placing.place_literals.Goals as goal
 
 pub loop-p-init : goal.loop-p-init
-loop-p-init c =
-    let marks = c.args.marks.now in
-    (refl, pass_none (ap (λ (p : Placing). marking p marks) c.placing_of-p.ensures))
+loop-p-init c = (refl, pass_none refl)
 
 pub find-e-requires : goal.find-e-requires
 find-e-requires c = c.loop-p.invariant.1.within

@@ -1,16 +1,17 @@
 -- `read_through`: each turn of the loop judges the line up to the next LF. The invariant is `Passing`, and that at most i lines were judged:
 -- what is left, judged from here, comes to the whole text. A fault ends it, since no token changes a reading with a fault.
 use Prim.Native.Nat.{ℕ, ◌-◌, ◌+◌, ◌≤◌, ◌<◌}
-use mathlib.Core.Path.{◌≡◌, sym, ap, ◌∙◌}
+use mathlib.Core.Path.{◌≡◌, refl, sym, ap, ◌∙◌}
 use mathlib.Core.Bool.{false}
 use mathlib.Core.List.{List, foldl}
 use native.Mathlib.Omega.{arith}
+use Rattle.std.proofs.lemmas.Grind.{common_steps}
 use lib.ListN.{length, take, drop}
 use Rattle.text.specs.bytes.Bytes.{FirstFrom}
 use Rattle.output.specs.Tokens.{line_tokens, part_tokens, tokens_of}
 use Rattle.output.specs.OutputCall.{is_no_fault}
 use Rattle.output.specs.Counting.{literal_up_to, no_reading, count}
-use Rattle.output.specs.declared.lines.LineForm.TheVariants.{Malformed}
+use Rattle.std.specs.Prelude.{None}
 use Rattle.output.specs.declared.reading.Reading.{Reading}
 use Rattle.output.proofs.TokenLaws.{tokens_by_line, last_none, last_some, fault_stays, line_grows, one_line}
 use Rattle.output.proofs.TokenLaws.{Passing, pass_none, pass_last, pass_more, pass_stays}
@@ -31,7 +32,7 @@ turned text most limit before after i e v first r more =
     )
 
 pub loop-r-init : goal.loop-r-init
-loop-r-init c = (pass_none c.none-r.ensures, rw c.none-r.ensures (omega arith))
+loop-r-init c = (pass_none refl, omega arith)
 
 pub find-e-requires : goal.find-e-requires
 find-e-requires c = c.loop-r.invariant.0.within
@@ -54,15 +55,15 @@ returns-then-e-text c =
     let one = ap (foldl (count a.most a.limit) loop.r) (sym (last_some a.text.now some first.high)) in
     let line = ap (λ (r : Reading). r.line) c.judge_line.ensures in (
       c.judge_line.ensures ∙ one ∙ pass_last loop.invariant.0 (tokens_by_line _) first c.if-e-text.true,
-      omega (arith, line, line_grows Malformed loop.r, loop.invariant.1, some, first.high),
+      omega (arith, line, line_grows None loop.r, loop.invariant.1, some, first.high),
     )
 
-pub returns-then-not-is_none : goal.returns-then-not-is_none
+pub returns-then-has_ended : goal.returns-then-has_ended
 unfolding tokens_of
-returns-then-not-is_none c =
+returns-then-has_ended c =
     let a = c.args in
     let r = c.judge_whole_line-r.result in
-    let fault : is_no_fault r.fault ≡ false = sym c.is_none.ensures ∙ c.if-not-is_none.true in
+    let fault : is_no_fault r.fault ≡ false = grind (arith, common_steps) in
     let after = turned a.text.now a.most a.limit c.loop-r.r _ _ _ c.loop-r.invariant c.find-e.ensures c.judge_whole_line-r.ensures c.if-e-text.false in
     (pass_stays after.0 (fault_stays a.most a.limit r fault), omega (arith, after.1, after.0.within))
 

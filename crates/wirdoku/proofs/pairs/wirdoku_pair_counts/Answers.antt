@@ -1,24 +1,14 @@
--- `wirdoku_pair_counts`: the refusal of the pair, or the counts that `counts_of` answers.
-use mathlib.Core.Path.{ap, ◌∙◌}
+-- `wirdoku_pair_counts`: what is told of a refusal, or what the call on the model answers.
+use Rattle.std.proofs.Common.{ap, ◌∙◌}
 use Rattle.model.specs.declared.Model.{Model}
-use Rattle.counts.specs.CountsCall.{list_report}
-use Rattle.sizing.specs.SizeCall.{refused_sizes, size_told}
 use Rattle.wirdoku.specs.TextCall.{counted_sizes}
-use Rattle.wirdoku.proofs.PairLaws.{pair_refused, pair_composed_lem}
+use Rattle.counts.specs.CountsCall.{list_report}
+use Rattle.sizing.specs.SizeCall.{refused_sizes}
+use Rattle.wirdoku.proofs.PairLaws.{pair_ok, pair_err}
 use Rattle.wirdoku.proofs.pairs.wirdoku_pair_counts.Goals as goal
 
-pub returns-then-pair-ne0 : goal.returns-then-pair-ne0
-returns-then-pair-ne0 c =
-    let pair = c.read_pair-pair in
-    let args = c.args in
-    ap size_told c.size_answer.ensures
-    ∙ pair_refused (λ (m : Model). counted_sizes (list_report m args.bound)) refused_sizes args.first.now args.second.now pair.result
-    pair.ensures c.if-pair-ne0.true
+pub returns-in-Ok : goal.returns-in-Ok
+returns-in-Ok c = let a = c.args in c.counted.ensures ∙ pair_ok (λ (m : Model). counted_sizes (list_report m a.bound)) refused_sizes c.read_pair.result _ c.read_pair.ensures c.in-Ok.is
 
-pub returns : goal.returns
-returns c =
-    let pair = c.read_pair-pair in
-    let args = c.args in
-    c.counted.ensures ∙ ap counted_sizes c.counts_of.ensures
-    ∙ pair_composed_lem (λ (m : Model). counted_sizes (list_report m args.bound)) refused_sizes args.first.now args.second.now pair.result
-    pair.ensures c.if-pair-ne0.false
+pub returns-in-Err : goal.returns-in-Err
+returns-in-Err c = let a = c.args in c.refused_sizes.ensures ∙ pair_err (λ (m : Model). counted_sizes (list_report m a.bound)) refused_sizes c.read_pair.result _ c.read_pair.ensures c.in-Err.is c.number.ensures c.line.ensures

@@ -1,41 +1,27 @@
--- `wirdoku_pair_emit`: the refusal of the pair with the buffer unchanged, or what `emit` answers and leaves.
-use mathlib.Core.Path.{ap, ◌∙◌}
-use Prim.Native.Nat.{ℕ}
-use lib.ListN.{length}
+-- `wirdoku_pair_emit`: what is told of a refusal, or what emission answers and leaves.
+use Rattle.std.proofs.Common.{ap, ◌∙◌, length}
 use Rattle.model.specs.declared.Model.{Model}
 use Rattle.emission.specs.EmitCall.{emit_report, emit_left}
-use Rattle.sizing.specs.SizeCall.{refused_sizes, emitted_sizes, size_told}
-use Rattle.wirdoku.proofs.PairLaws.{pair_refused, pair_composed_lem}
+use Rattle.sizing.specs.SizeCall.{emitted_sizes, refused_sizes}
+use Rattle.wirdoku.proofs.PairLaws.{pair_ok, pair_err}
 use Rattle.wirdoku.proofs.pairs.wirdoku_pair_emit.Goals as goal
 
-pub returns-then-asked-ne0 : goal.returns-then-asked-ne0
-returns-then-asked-ne0 c =
-    let asked = c.read_pair-asked in
-    let args = c.args in
-    let bound = args.bound in
-    let out = args.out in
-    let t = args.first.now in
-    let u = args.second.now in record {
-      result_value = ap size_told c.size_answer.ensures
-          ∙ pair_refused (λ (m : Model). emitted_sizes (emit_report m bound (length out.now))) refused_sizes t u asked.result asked.ensures
-          c.if-asked-ne0.true;
-      out_after = pair_refused (λ (m : Model). emit_left m bound (length out.now) out.now) (λ (n l : ℕ). out.now) t u asked.result asked.ensures
-          c.if-asked-ne0.true;
+pub returns-in-Ok : goal.returns-in-Ok
+returns-in-Ok c =
+    let a = c.args in
+    let call = λ (m : Model). emitted_sizes (emit_report m a.bound (length a.out.now)) in
+    let left = λ (m : Model). emit_left m a.bound (length a.out.now) a.out.now in
+    record {
+      result_value = c.emitted.ensures ∙ ap emitted_sizes c.emit.ensures.0 ∙ pair_ok call refused_sizes c.read_pair.result _ c.read_pair.ensures c.in-Ok.is;
+      out_after = c.emit.ensures.1 ∙ pair_ok left (λ n l. a.out.now) c.read_pair.result _ c.read_pair.ensures c.in-Ok.is;
     }
 
-pub returns : goal.returns
-returns c =
-    let emit-ensures = c.emit.ensures in
-    let asked = c.read_pair-asked in
-    let args = c.args in
-    let bound = args.bound in
-    let out = args.out in
-    let t = args.first.now in
-    let u = args.second.now in record {
-      result_value = c.emitted.ensures ∙ ap emitted_sizes emit-ensures.0
-          ∙ pair_composed_lem (λ (m : Model). emitted_sizes (emit_report m bound (length out.now))) refused_sizes t u asked.result asked.ensures
-          c.if-asked-ne0.false;
-      out_after = emit-ensures.1
-          ∙ pair_composed_lem (λ (m : Model). emit_left m bound (length out.now) out.now) (λ (n l : ℕ). out.now) t u asked.result asked.ensures
-          c.if-asked-ne0.false;
+pub returns-in-Err : goal.returns-in-Err
+returns-in-Err c =
+    let a = c.args in
+    let call = λ (m : Model). emitted_sizes (emit_report m a.bound (length a.out.now)) in
+    let left = λ (m : Model). emit_left m a.bound (length a.out.now) a.out.now in
+    record {
+      result_value = c.refused_sizes.ensures ∙ pair_err call refused_sizes c.read_pair.result _ c.read_pair.ensures c.in-Err.is c.number.ensures c.line.ensures;
+      out_after = pair_err left (λ n l. a.out.now) c.read_pair.result _ c.read_pair.ensures c.in-Err.is c.number.ensures c.line.ensures;
     }

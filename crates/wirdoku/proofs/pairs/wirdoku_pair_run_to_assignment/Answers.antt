@@ -1,42 +1,25 @@
--- `wirdoku_pair_run_to_assignment`: the refusal of the pair with the buffer unchanged, or what `run_to_assignment` answers and leaves.
-use mathlib.Core.Path.{ap, ◌∙◌}
-use Prim.Native.Nat.{ℕ}
-use lib.ListN.{length}
+-- `wirdoku_pair_run_to_assignment`: what is told of a refusal, or what the call on the model answers and leaves.
+use Rattle.std.proofs.Common.{ap, ◌∙◌}
 use Rattle.model.specs.declared.Model.{Model}
+use Rattle.wirdoku.specs.TextCall.{answer_told}
 use Rattle.model.specs.Refusal.{refusal}
 use Rattle.encode.specs.EncodeCall.{encode_report, encode_left}
-use Rattle.wirdoku.specs.TextCall.{answer_told}
-use Rattle.wirdoku.proofs.PairLaws.{pair_refused, pair_composed_lem}
+use Rattle.std.proofs.Common.{length}
+use Rattle.wirdoku.proofs.PairLaws.{pair_ok, pair_err}
 use Rattle.wirdoku.proofs.pairs.wirdoku_pair_run_to_assignment.Goals as goal
 
-pub returns-then-pair-ne0 : goal.returns-then-pair-ne0
-returns-then-pair-ne0 c =
-    let pair = c.read_pair-pair in
-    let args = c.args in
-    let assignment = args.assignment in
-    let run = args.run in
-    let t = args.first.now in
-    let u = args.second.now in record {
-      result_value = ap answer_told c.told.ensures
-          ∙ pair_refused (λ (m : Model). encode_report m run.now (length assignment.now)) refusal t u pair.result pair.ensures
-          c.if-pair-ne0.true;
-      assignment_after = pair_refused (λ (m : Model). encode_left m run.now assignment.now) (λ (n l : ℕ). assignment.now) t u pair.result pair.ensures
-          c.if-pair-ne0.true;
+pub returns-in-Ok : goal.returns-in-Ok
+returns-in-Ok c =
+    let a = c.args in
+    record {
+      result_value = c.encoded.ensures.result_value ∙ pair_ok (λ (m : Model). encode_report m a.run.now (length a.assignment.now)) refusal c.read_pair.result _ c.read_pair.ensures c.in-Ok.is;
+      assignment_after = c.encoded.ensures.assignment_after ∙ pair_ok (λ (m : Model). encode_left m a.run.now a.assignment.now) (λ n l. a.assignment.now) c.read_pair.result _ c.read_pair.ensures c.in-Ok.is;
     }
 
-pub returns : goal.returns
-returns c =
-    let call-ensures = c.run_to_assignment-encoded.ensures in
-    let pair = c.read_pair-pair in
-    let args = c.args in
-    let assignment = args.assignment in
-    let run = args.run in
-    let t = args.first.now in
-    let u = args.second.now in record {
-      result_value = ap answer_told c.told-2.ensures ∙ (λ i. refusal (c.number.ensures i) (c.place.ensures i)) ∙ call-ensures.result_value
-          ∙ pair_composed_lem (λ (m : Model). encode_report m run.now (length assignment.now)) refusal t u pair.result pair.ensures
-          c.if-pair-ne0.false;
-      assignment_after = call-ensures.out_after
-          ∙ pair_composed_lem (λ (m : Model). encode_left m run.now assignment.now) (λ (n l : ℕ). assignment.now) t u pair.result pair.ensures
-          c.if-pair-ne0.false;
+pub returns-in-Err : goal.returns-in-Err
+returns-in-Err c =
+    let a = c.args in
+    record {
+      result_value = ap answer_told c.told.ensures ∙ pair_err (λ (m : Model). encode_report m a.run.now (length a.assignment.now)) refusal c.read_pair.result _ c.read_pair.ensures c.in-Err.is c.number.ensures c.line.ensures;
+      assignment_after = pair_err (λ (m : Model). encode_left m a.run.now a.assignment.now) (λ n l. a.assignment.now) c.read_pair.result _ c.read_pair.ensures c.in-Err.is c.number.ensures c.line.ensures;
     }

@@ -1,19 +1,11 @@
--- `wirdoku_pair_shape`: the refusal of the pair, or the shape of the composed model.
-use mathlib.Core.Path.{◌∙◌}
+-- `wirdoku_pair_shape`: what is told of a refusal, or what the call on the model answers.
+use Rattle.std.proofs.Common.{ap, ◌∙◌}
 use Rattle.wirdoku.specs.TextCall.{shape_of, refused_shape}
-use Rattle.wirdoku.proofs.PairLaws.{pair_refused, pair_composed_lem}
+use Rattle.wirdoku.proofs.PairLaws.{pair_ok, pair_err}
 use Rattle.wirdoku.proofs.pairs.wirdoku_pair_shape.Goals as goal
 
-pub returns-then-pair-ne0 : goal.returns-then-pair-ne0
-returns-then-pair-ne0 c =
-    let pair = c.read_pair-pair in
-    let args = c.args in
-    c.refused_shape.ensures
-    ∙ pair_refused shape_of refused_shape args.first.now args.second.now pair.result pair.ensures c.if-pair-ne0.true
+pub returns-in-Ok : goal.returns-in-Ok
+returns-in-Ok c = let a = c.args in c.shape_of.ensures ∙ pair_ok shape_of refused_shape c.read_pair.result _ c.read_pair.ensures c.in-Ok.is
 
-pub returns : goal.returns
-returns c =
-    let pair = c.read_pair-pair in
-    let args = c.args in
-    c.shape_of.ensures
-    ∙ pair_composed_lem shape_of refused_shape args.first.now args.second.now pair.result pair.ensures c.if-pair-ne0.false
+pub returns-in-Err : goal.returns-in-Err
+returns-in-Err c = let a = c.args in c.refused_shape.ensures ∙ pair_err shape_of refused_shape c.read_pair.result _ c.read_pair.ensures c.in-Err.is c.number.ensures c.line.ensures

@@ -1,25 +1,14 @@
--- `wirdoku_pair_walk`: the refusal of the pair, or the verdict of the walker.
-use mathlib.Core.Path.{ap, ◌∙◌}
+-- `wirdoku_pair_walk`: what is told of a refusal, or what the call on the model answers.
+use Rattle.std.proofs.Common.{ap, ◌∙◌}
 use Rattle.model.specs.declared.Model.{Model}
+use Rattle.wirdoku.specs.TextCall.{answer_told}
 use Rattle.model.specs.Refusal.{refusal}
 use Rattle.walk.specs.Walker.{walk_report}
-use Rattle.wirdoku.specs.TextCall.{answer_told}
-use Rattle.wirdoku.proofs.PairLaws.{pair_refused, pair_composed_lem}
+use Rattle.wirdoku.proofs.PairLaws.{pair_ok, pair_err}
 use Rattle.wirdoku.proofs.pairs.wirdoku_pair_walk.Goals as goal
 
-pub returns-then-pair-ne0 : goal.returns-then-pair-ne0
-returns-then-pair-ne0 c =
-    let pair = c.read_pair-pair in
-    let args = c.args in
-    ap answer_told c.told.ensures
-    ∙ pair_refused (λ (m : Model). walk_report m args.run.now) refusal args.first.now args.second.now pair.result pair.ensures
-    c.if-pair-ne0.true
+pub returns-in-Ok : goal.returns-in-Ok
+returns-in-Ok c = let a = c.args in c.walked.ensures ∙ pair_ok (λ (m : Model). walk_report m a.run.now) refusal c.read_pair.result _ c.read_pair.ensures c.in-Ok.is
 
-pub returns : goal.returns
-returns c =
-    let pair = c.read_pair-pair in
-    let args = c.args in
-    ap answer_told c.told-2.ensures ∙ (λ i. refusal (c.number.ensures i) (c.place.ensures i))
-    ∙ c.walk-verdict.ensures
-    ∙ pair_composed_lem (λ (m : Model). walk_report m args.run.now) refusal args.first.now args.second.now pair.result pair.ensures
-    c.if-pair-ne0.false
+pub returns-in-Err : goal.returns-in-Err
+returns-in-Err c = let a = c.args in ap answer_told c.told.ensures ∙ pair_err (λ (m : Model). walk_report m a.run.now) refusal c.read_pair.result _ c.read_pair.ensures c.in-Err.is c.number.ensures c.line.ensures
