@@ -16,10 +16,9 @@ pub fn read_full<R: Read>(input: &mut R, buffer: &mut [u8]) -> io::Result<usize>
 {
     let mut at = 0;
     while at < buffer.len() {
-        match input.read(&mut buffer[at..]) {
-            Ok(0) => return Ok(at),
-            Ok(n) => at += n,
-            Err(e) => return Err(e),
+        match input.read(&mut buffer[at..])? {
+            0 => return Ok(at),
+            n => at += n,
         }
     }
     Ok(at)

@@ -4,44 +4,26 @@
 use model::{Model, State};
 use std::io;
 
-fn text(rt: &impl Print, s: &str) -> io::Result<()> {
-    rt.print(s)
+fn show(rt: &impl Print, what: &str, s: State) -> io::Result<()> {
+    let [v0, ..] = s.counters;
+    let [x0, ..] = s.clocks;
+    println!(rt; "{what:25}location {}, v0 {v0}, x0 {x0}", s.location)
 }
 
-fn number(rt: &impl Print, n: u8) -> io::Result<()> {
-    rt.print(n)
-}
-
-fn show(rt: &impl Print, s: State) -> io::Result<()> {
-    text(rt, "location ")?;
-    number(rt, s.location)?;
-    let counters = s.counters;
-    text(rt, ", v0 ")?;
-    number(rt, counters[0])?;
-    let clocks = s.clocks;
-    text(rt, ", x0 ")?;
-    number(rt, clocks[0])?;
-    text(rt, "\n")
-}
-
+// Shows the state after one step byte; a byte that is refused leaves the state.
 fn take(rt: &impl Print, m: Model, s: State, byte: u8, what: &str) -> io::Result<State> {
-    let a = walk::step(m, s, byte);
-    let t = a.state;
-    text(rt, what)?;
-    show(rt, t)?;
+    let t = walk::step(m, s, byte).unwrap_or(s);
+    show(rt, what, t)?;
     Ok(t)
 }
 
 fn main(rt: HostRuntime) -> io::Result<()> {
     let m = samples::model_b();
     let s = m.initial_state();
-    text(&rt, "initially:               ")?;
-    show(&rt, s)?;
-    let t = take(&rt, m, s, 5, "5, edge 0, extend:       ")?;
-    let u = take(&rt, m, t, 3, "3, delay 3:              ")?;
-    take(&rt, m, u, 7, "7, edge 2, watchdog:     ")?;
-    let verdict = walk::walk(m, &[5, 3, 7]);
-    text(&rt, "the run 5 3 7: refusal ")?;
-    number(&rt, verdict.number())?;
-    text(&rt, ", so a boot of 3 steps reaches the target\n")
+    show(&rt, "initially:", s)?;
+    let t = take(&rt, m, s, 5, "5, edge 0, extend:")?;
+    let u = take(&rt, m, t, 3, "3, delay 3:")?;
+    take(&rt, m, u, 7, "7, edge 2, watchdog:")?;
+    let refusal = walk::walk(m, &[5, 3, 7]).map_or_else(|e| e.number(), |()| 0);
+    println!(rt; "the run 5 3 7: refusal {refusal}, so a boot of 3 steps reaches the target")
 }

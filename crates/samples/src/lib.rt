@@ -10,13 +10,12 @@ use model::{Atom, ClockUpdate, Counter, Edge, Invariant, Model, Relation, Update
 pub fn on_clock(clock: u8, relation: Relation, constant: u8) -> [Atom; Model::ATOMS]
     ensures { result ≡ on_clock clock relation constant }
 {
-    let mut atoms = [Atom::Blank; Model::ATOMS];
-    atoms[0] = Atom::OnClock {
-            clock,
-            relation,
-            constant,
-        };
-    atoms
+    let atom = Atom::OnClock {
+        clock,
+        relation,
+        constant,
+    };
+    [atom, Atom::Blank, Atom::Blank, Atom::Blank]
 }
 
 // A private edge that sets counter 0 and clock 0 only.
@@ -29,54 +28,62 @@ pub fn edge_of(
 ) -> Edge
     ensures { result ≡ edge source target guard update reset }
 {
-    let mut updates = [Update::Keep; Model::COUNTERS];
-    updates[0] = update;
-    let mut resets = [ClockUpdate::Unchanged; Model::CLOCKS];
-    resets[0] = reset;
+    let keep = Update::Keep;
+    let unchanged = ClockUpdate::Unchanged;
     Edge {
         source,
         target,
         label: 0,
         guard,
-        updates,
-        order: [0u8; Model::COUNTERS],
-        resets,
+        updates: [update, keep, keep, keep],
+        order: [0; Model::COUNTERS],
+        resets: [reset, unchanged, unchanged, unchanged],
     }
 }
 
+#[tactic(auto, unfolding(crate::specs::Models::model_a, model::specs::Record::blank_model))]
 pub fn model_a() -> Model
     ensures { result ≡ model_a }
 {
     let none = [Atom::Blank; Model::ATOMS];
-    let mut m = Model::blank();
-    m.locations = 2;
-    m.target = 1;
-    m.used = 1;
+    let mut m = Model {
+        locations: 2,
+        target: 1,
+        used: 1,
+        ..Model::blank()
+    };
     m.edges[0] = edge_of(0, 1, none, Update::Keep, ClockUpdate::Unchanged);
     m
 }
 
 // A with one clock and x0>=1 as invariant of location 0.
+#[tactic(auto, unfolding(crate::specs::Models::model_a, crate::specs::Models::waiting_a))]
 pub fn waiting_a() -> Model
     ensures { result ≡ waiting_a }
 {
-    let mut m = model_a();
-    m.clocks = 1;
+    let mut m = Model {
+        clocks: 1,
+        ..model_a()
+    };
     m.invariants[0] = Invariant {
         atoms: on_clock(0, Relation::GreaterEqual, 1),
     };
     m
 }
 
+#[tactic(auto, unfolding(crate::specs::Models::model_b, model::specs::Record::blank_model))]
 pub fn model_b() -> Model
     ensures { result ≡ model_b }
 {
     let none = [Atom::Blank; Model::ATOMS];
-    let mut m = Model::blank();
-    m.locations = 4;
-    m.target = 3;
-    m.clocks = 1;
-    m.vars = 1;
+    let mut m = Model {
+        locations: 4,
+        target: 3,
+        clocks: 1,
+        vars: 1,
+        used: 3,
+        ..Model::blank()
+    };
     m.counters[0] = Counter {
         greatest: 1,
         initial: 0,
@@ -84,7 +91,6 @@ pub fn model_b() -> Model
     m.invariants[1] = Invariant {
         atoms: on_clock(0, Relation::LessEqual, 3),
     };
-    m.used = 3;
     m.edges[0] = edge_of(0, 1, none, Update::Keep, ClockUpdate::Reset);
     let one_more = Update::Sum {
         source: 0,
@@ -102,37 +108,35 @@ fn full_edge() -> Edge
     ensures { result ≡ full_edge }
 {
     let test = Atom::OnCounter {
-            counter: 3,
-            relation: Relation::Equal,
-            constant: Model::COUNTER_VALUE,
-        };
-    let update = Update::Constant(Model::COUNTER_VALUE);
-    let reset = ClockUpdate::Reset;
+        counter: 3,
+        relation: Relation::Equal,
+        constant: Model::COUNTER_VALUE,
+    };
     Edge {
         source: 15,
         target: 15,
         label: Model::LABEL,
         guard: [test; Model::ATOMS],
-        updates: [update; Model::COUNTERS],
-        order: [3u8, 0, 1, 2],
-        resets: [reset; Model::CLOCKS],
+        updates: [Update::Constant(Model::COUNTER_VALUE); Model::COUNTERS],
+        order: [3, 0, 1, 2],
+        resets: [ClockUpdate::Reset; Model::CLOCKS],
     }
 }
 
 // A model at every limit.
+#[tactic(auto, unfolding(crate::specs::Models::full_model))]
 pub fn full_model() -> Model
     ensures { result ≡ full_model }
 {
     let atom = Atom::OnClock {
-            clock: 3,
-            relation: Relation::LessEqual,
-            constant: Model::CLOCK_CONSTANT,
-        };
+        clock: 3,
+        relation: Relation::LessEqual,
+        constant: Model::CLOCK_CONSTANT,
+    };
     let counter = Counter {
         greatest: Model::COUNTER_VALUE,
         initial: Model::COUNTER_VALUE,
     };
-    let edge = full_edge();
     Model {
         locations: Model::LOCATIONS as u8,
         initial: 15,
@@ -144,6 +148,6 @@ pub fn full_model() -> Model
             atoms: [atom; Model::ATOMS],
         }; Model::LOCATIONS],
         used: Model::EDGES as u8,
-        edges: [edge; Model::EDGES],
+        edges: [full_edge(); Model::EDGES],
     }
 }
