@@ -3,7 +3,7 @@ use Prim.Native.Nat.{ℕ}
 use mathlib.Core.Path.{◌≡◌, sym, ap, ◌∙◌}
 use mathlib.Core.List.{List}
 use lib.ListN.{drop}
-use Rattle.std.specs.Prelude.{Option, Some, None, Result, Ok, Err}
+use Rattle.std.specs.Prelude.{Some, None, Result, Ok, Err}
 use Rattle.model.specs.declared.Model.{Model}
 use Rattle.text.specs.Text.{ReadReport, read_report, read_told, if_read, outcome_number, outcome_line}
 use Rattle.text.specs.Bound.{BoundReport, bound_refused, bound_accepted, bound_report, bound_told, if_bound}

@@ -1,5 +1,5 @@
 -- An item: the bound line ends within the text, so a reader can move past it, and what one reader finds is the report.
-use Prim.Native.Nat.{ℕ, ◌+◌, ◌-◌, ◌≤◌, ◌<◌, ◌^◌, min}
+use Prim.Native.Nat.{ℕ, ◌+◌, ◌-◌, ◌≤◌, ◌<◌, min}
 use mathlib.Core.Path.{◌≡◌, refl, sym, ap, ◌∙◌}
 use mathlib.Core.List.{List}
 use mathlib.Core.Bool.{Bool, true, false, cond, ◌&&◌}
@@ -16,10 +16,10 @@ use Rattle.text.specs.declared.ReadRefusal.{ReadRefusal}
 use Rattle.text.specs.declared.ReadRefusal.TheVariants.{TooLong, BytesLeft}
 use Rattle.text.specs.declared.lines.Reading.{Reading}
 use Rattle.text.specs.declared.line.Due.{Due}
-use Rattle.text.specs.line.DueLines.{DueLine, Found}
+use Rattle.text.specs.line.DueLines.{Found}
 use Rattle.text.specs.lines.Readings.{ReadsFrom}
 use Rattle.text.specs.Bound.{BoundReport, bound_refused, bound_in, bound_report, bound_told}
-use Rattle.text.specs.Text.{ReadReport, read_report, read_ended, read_told, outcome_number, outcome_line}
+use Rattle.text.specs.Text.{read_report, read_ended, read_told}
 use Rattle.text.specs.Item.{item_report, item_told, ItemFrom}
 use Rattle.text.proofs.sequence.Start.{drop_within}
 use Rattle.text.proofs.lines.Turns.{refusal_told}

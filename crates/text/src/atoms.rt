@@ -120,20 +120,24 @@ fn stored(item: Option<AtomRead>) -> Atom
 {
     match item {
         None => Atom::Blank,
-        Some(AtomRead::ClockAtom {
-            clock,
-            relation,
-            constant,
-        }) => Atom::OnClock {
+        Some(
+            AtomRead::ClockAtom {
+                clock,
+                relation,
+                constant,
+            },
+        ) => Atom::OnClock {
             clock: bytes::narrow(clock),
             relation,
             constant: bytes::narrow(constant),
         },
-        Some(AtomRead::CounterAtom {
-            counter,
-            relation,
-            constant,
-        }) => Atom::OnCounter {
+        Some(
+            AtomRead::CounterAtom {
+                counter,
+                relation,
+                constant,
+            },
+        ) => Atom::OnCounter {
             counter: bytes::narrow(counter),
             relation,
             constant: bytes::narrow(constant),
@@ -168,7 +172,12 @@ impl AtomsRead {
 }
 
 // The value of an inv line, which may not name counters, or of a when line.
-pub fn atom_value(v: &[u8], clocks: u8, vars: u8, counters: bool) -> Result<[Atom; Model::ATOMS], LineFault>
+pub fn atom_value(
+    v: &[u8],
+    clocks: u8,
+    vars: u8,
+    counters: bool,
+) -> Result<[Atom; Model::ATOMS], LineFault>
     ensures { AtomsOf clocks vars (map (item_of counters) (items_of v.now)) result }
 {
     let read = bytes::absorbed(v, AtomsRead::NONE, |read, s| {

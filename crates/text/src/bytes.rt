@@ -91,15 +91,15 @@ fn one_digit(a: u8) -> Option<u16>
 fn two_digits(a: u8, b: u8) -> Option<u16>
     ensures { result ≡ number_of (a ∷ b ∷ []) }
 {
-    (a.is_ascii_digit() & b.is_ascii_digit() & (a != b'0'))
-        .then_some(digit(a) * 10 + digit(b))
+    (a.is_ascii_digit() & b.is_ascii_digit() & (a != b'0')).then_some(digit(a) * 10 + digit(b))
 }
 
 fn three_digits(a: u8, b: u8, c: u8) -> Option<u16>
     ensures { result ≡ number_of (a ∷ b ∷ c ∷ []) }
 {
-    (a.is_ascii_digit() & b.is_ascii_digit() & c.is_ascii_digit() & (a != b'0'))
-        .then_some((digit(a) * 10 + digit(b)) * 10 + digit(c))
+    (a.is_ascii_digit() & b.is_ascii_digit() & c.is_ascii_digit() & (a != b'0')).then_some(
+        (digit(a) * 10 + digit(b)) * 10 + digit(c),
+    )
 }
 
 // 1 to 3 digits, no leading zero except 0 itself.

@@ -52,11 +52,15 @@ fn with_guard(m: Model, e: usize, guard: [Atom; Model::ATOMS]) -> Model
 fn with_updates(m: Model, e: usize, slots: SetSlots) -> Model
     ensures { result ≡ with_updates m e slots.updates slots.order }
 {
-    with_edge(m, e, |edge| Edge {
-        updates: slots.updates,
-        order: slots.order,
-        ..edge
-    })
+    with_edge(
+        m,
+        e,
+        |edge| Edge {
+            updates: slots.updates,
+            order: slots.order,
+            ..edge
+        },
+    )
 }
 
 fn with_resets(m: Model, e: usize, resets: [ClockUpdate; Model::CLOCKS]) -> Model

@@ -79,7 +79,11 @@ fn var_line(text: &[u8], i: usize, r: Reading) -> Result<Reading, ReadRefusal>
     requires { Placed text.now r }
     ensures { Reads (var_line i) text.now r result }
 {
-    r.line(text, b"var=", |v, m| Ok(with_counter(m, i, line::counter(v)?)))
+    r.line(
+        text,
+        b"var=",
+        |v, m| Ok(with_counter(m, i, line::counter(v)?)),
+    )
 }
 
 fn inv_line(text: &[u8], l: usize, r: Reading) -> Result<Reading, ReadRefusal>

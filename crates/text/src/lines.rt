@@ -7,9 +7,8 @@ ghost use Rattle.text.specs.declared.bytes.Faults.{Faults};
 ghost use Rattle.text.specs.lines.Progress.{read_line};
 ghost use Rattle.text.specs.lines.Readings.{Placed, Reads, Stores};
 
-use crate::ReadRefusal;
 use crate::bytes::LineFault;
-use crate::line;
+use crate::{ReadRefusal, line};
 use model::Model;
 
 // A reading in progress: the line that is due next and its place. The model is what the lines before it say.

@@ -116,9 +116,13 @@ fn is_undeclared(item: Option<SetRead>, vars: u8) -> bool
     match item {
         None => false,
         Some(SetRead::ToConstant { counter, .. }) => (vars as u16) <= counter,
-        Some(SetRead::ToSum { counter, source, .. }) => {
-            ((vars as u16) <= counter) | ((vars as u16) <= source)
-        }
+        Some(
+            SetRead::ToSum {
+                counter,
+                source,
+                ..
+            },
+        ) => { ((vars as u16) <= counter) | ((vars as u16) <= source) }
     }
 }
 
@@ -138,12 +142,14 @@ fn stored(item: Option<SetRead>) -> Update
     match item {
         None => Update::Keep,
         Some(SetRead::ToConstant { constant, .. }) => Update::Constant(bytes::narrow(constant)),
-        Some(SetRead::ToSum {
-            source,
-            negative,
-            amount,
-            ..
-        }) => Update::Sum {
+        Some(
+            SetRead::ToSum {
+                source,
+                negative,
+                amount,
+                ..
+            },
+        ) => Update::Sum {
             source: bytes::narrow(source),
             offset: offset(negative, amount),
         },

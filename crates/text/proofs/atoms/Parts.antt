@@ -5,7 +5,6 @@ use mathlib.Core.List.{List}
 use lib.ListN.{get_or, drop}
 use Rattle.std.specs.Prelude.{Option, Some, None}
 use Rattle.text.specs.bytes.Bytes.{number_of, leading, following}
-use Rattle.text.specs.declared.atoms.AtomRead.{AtomRead}
 use Rattle.text.specs.atoms.Atoms.{atom_of, valued_atom, made_atom, relation_at, width}
 
 -- t is what follows the name, i its number, u what follows that

@@ -1,13 +1,13 @@
 -- What the library says of bytes, and what the definitions say: the first byte, the leading digits, the key at the front, the parts.
-use Prim.Native.Nat.{ℕ, zero, suc, ◌+◌, ◌≤◌, ◌<◌}
-use mathlib.Core.Path.{◌≡◌, refl, sym, ap, ◌∙◌}
+use Prim.Native.Nat.{ℕ, suc, ◌+◌, ◌≤◌, ◌<◌}
+use mathlib.Core.Path.{◌≡◌, refl, ap, ◌∙◌}
 use mathlib.Core.List.{List, [], ◌∷◌, map, foldl}
 use mathlib.Core.Bool.{Bool, true, false, cond, not, ◌&&◌}
 use native.Mathlib.Omega.{arith}
 use lib.Dec.{eqb}
 use lib.ListN.{length, take, drop, get_or, length-drop}
 use lib.Dec.{ltb}
-use borrow.Author.Tests.{lt-ltb, le-ltb, ltb-true, ltb-false}
+use borrow.Author.Tests.{ltb-true, ltb-false}
 use Rattle.std.proofs.lemmas.Bool.Decides.{nat_tests}
 use Rattle.std.specs.List.{prefix_len, position_or_len, slice_split, onto_first, fold}
 use Rattle.std.specs.Cmp.Lexicographic.{pointwise}
@@ -128,7 +128,8 @@ module _ (b at : ℕ) (s : List ℕ) (within : at ≤ length s) where
       go true h =
           let e = shown p h in
           let same : k ≡ place = cc in
-          let inside : place < length (drop at s) = ltb-true place (length (drop at s)) h in
-          (record { place = omega (arith, first_is b (drop at s), same); low = omega arith; high = omega (arith, inside, same, length-drop at s) },
-          omega (arith, inside, same, length-drop at s))
+          let inside : place < length (drop at s) = ltb-true place (length (drop at s)) h in (
+            record { place = omega (arith, first_is b (drop at s), same); low = omega arith; high = omega (arith, inside, same, length-drop at s) },
+            omega (arith, inside, same, length-drop at s),
+          )
       go false h = let e = hidden p h in absurd (cc)

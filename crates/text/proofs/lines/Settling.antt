@@ -1,14 +1,14 @@
 -- A due line that the code reads by its place in the text is the due line of the definition, whatever its key and its value.
-use Prim.Native.Nat.{ℕ, ◌+◌, ◌≤◌}
+use Prim.Native.Nat.{ℕ, ◌+◌}
 use mathlib.Core.Path.{◌≡◌, refl, sym, ap, ◌∙◌}
 use mathlib.Core.List.{List}
 use mathlib.Core.Bool.{Bool, true, false, false≢true}
 use native.Mathlib.Omega.{arith}
-use lib.ListN.{length, drop}
+use lib.ListN.{drop}
 use lib.Seq.{drop-drop}
 use lib.Dec.{eqb}
 use borrow.Author.Tests.{eqb-true}
-use Rattle.std.specs.Prelude.{Result, Ok, Err}
+use Rattle.std.specs.Prelude.{Ok, Err}
 use Rattle.text.specs.bytes.Bytes.{first_at, is_due, value_of, after}
 use Rattle.text.specs.bytes.Faulty.{fault_number, line_number, line_told, Checked}
 use Rattle.text.specs.declared.ReadRefusal.{ReadRefusal}
@@ -20,8 +20,8 @@ use Rattle.text.specs.line.DueLines.{Found}
 use Rattle.model.specs.declared.Model.{Model}
 use Rattle.text.specs.Text.{outcome_number, outcome_line}
 use Rattle.text.specs.declared.lines.Reading.{Reading}
-use Rattle.text.specs.lines.Progress.{Progress, read_line}
-use Rattle.text.specs.lines.Readings.{Placed, progress, Reads}
+use Rattle.text.specs.lines.Progress.{read_line}
+use Rattle.text.specs.lines.Readings.{Placed, Reads}
 
 -- a line without a fault is the due one, and its value has none
 pub no_fault : (b : Bool) (f : Faults) → eqb (line_number b f) 0 ≡ true → (b ≡ true) × (fault_number f ≡ 0)
@@ -62,7 +62,7 @@ module _ (key : List ℕ) (faults : Model → List ℕ → Faults) (put : Model 
         let model : m ≡ put r.model (value_of key (drop r.at t)) = f.1 ∙ ap (put r.model) due.value_is in
         let place : d.end + 1 ≡ r.at + (first_at 10 (drop r.at t) + 1) = omega (arith, due.end_is) in
         let rest : drop (d.end + 1) t ≡ after 10 (drop r.at t) =
-            ap (λ (k : ℕ). drop k t) place ∙ sym (drop-drop (first_at 10 (drop r.at t) + 1) r.at t) in
+        ap (λ (k : ℕ). drop k t) place ∙ sym (drop-drop (first_at 10 (drop r.at t) + 1) r.at t) in
         record {
           is = rw (due.due, n) (λ i. record { number = 0; line = r.line + 1; rest = rest i; model = model i });
           placed = record { counted = omega (arith, p.counted, due.end_is); within = omega (arith, due.ended) };

@@ -2,11 +2,11 @@
 use Prim.Native.Nat.{ℕ, zero, suc, ◌+◌, ◌-◌, ◌≤◌, ◌<◌}
 use mathlib.Core.Path.{◌≡◌, refl, sym, ap, subst, ◌∙◌}
 use mathlib.Core.List.{List}
-use mathlib.Core.Bool.{Bool, false}
+use mathlib.Core.Bool.{false}
 use native.Mathlib.Numerals.{add-one}
 use native.Mathlib.Omega.{arith}
 use lib.Dec.{eqb}
-use Rattle.std.specs.Prelude.{Result, Ok, Err}
+use Rattle.std.specs.Prelude.{Ok, Err}
 use Rattle.model.specs.declared.Model.{Model}
 use Rattle.text.specs.declared.ReadRefusal.{ReadRefusal}
 use Rattle.text.specs.declared.ReadRefusal.TheVariants.{TooLong, NotDue, NotOfItsForm, TooManyItems, OutOfRange, NotDeclared, SetTwiceOrNotRising, BytesLeft}
@@ -14,10 +14,10 @@ use Rattle.text.specs.declared.bytes.Faults.{Faults}
 use Rattle.text.specs.declared.lines.Reading.{Reading}
 use Rattle.text.specs.Text.{outcome_number}
 use Rattle.text.specs.lines.Progress.{Progress, read_line}
-use Rattle.text.specs.lines.Lines.{locations_line, init_line, target_line, clocks_line, vars_line, var_line, inv_line, edges_line}
+use Rattle.text.specs.lines.Lines.{init_line, target_line, clocks_line, vars_line, var_line, inv_line, edges_line}
 use Rattle.text.specs.lines.Lines.{from_line, to_line, label_line, when_line, set_line, reset_line}
 use Rattle.text.specs.lines.Readings.{Placed, progress, Stopped, Reads}
-use Rattle.text.specs.lines.Sequence.{in_turn, read_head, read_counters, read_invariants, read_edge, read_edges}
+use Rattle.text.specs.lines.Sequence.{in_turn, read_counters, read_invariants, read_edge, read_edges}
 
 -- the number of a refusal is not 0
 pub refusal_told : (e : ReadRefusal) → eqb (outcome_number e) 0 ≡ false

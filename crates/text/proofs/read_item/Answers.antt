@@ -1,6 +1,4 @@
 -- `read_item`: what one reader finds from the start is the report.
-use Rattle.std.proofs.Common.{subst, ap}
-use Rattle.text.specs.Item.{ItemFrom}
 use Rattle.text.proofs.ItemLaws.{item_is}
 use Rattle.text.proofs.read_item.Goals as goal
 

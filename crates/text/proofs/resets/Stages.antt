@@ -4,7 +4,6 @@ use mathlib.Core.Path.{◌≡◌, refl, sym, ap, ◌∙◌}
 use mathlib.Core.List.{List, foldl}
 use mathlib.Core.Bool.{false}
 use native.Mathlib.Omega.{arith}
-use lib.ListN.{replicate}
 use lib.Dec.{leb}
 use borrow.Author.Tests.{lt-ltb, leb-false}
 use Rattle.std.specs.Prelude.{Option, Some, None}
@@ -14,7 +13,6 @@ use Rattle.text.specs.declared.bytes.LineFault.{LineFault}
 use Rattle.text.proofs.bytes.Flags.{flag, unflagged, unrising, or_right, same_faults}
 use Rattle.text.proofs.Laws.Slots.{put_all}
 use Rattle.model.specs.declared.ClockUpdate.{ClockUpdate}
-use Rattle.model.specs.Record.{blank_reset}
 use Rattle.text.specs.declared.resets.ResetRead.{ResetRead}
 use Rattle.text.specs.declared.resets.ResetsRead.{ResetsRead}
 use Rattle.text.specs.declared.resets.ResetRead.TheVariants.{ToZero, ToCopy}

@@ -6,7 +6,7 @@ use mathlib.Core.Logic.{⊎_elim}
 use native.Mathlib.Omega.{arith}
 use lib.ListN.{length, drop, drop_of_length-le}
 use lib.Seq.{drop-length}
-use Rattle.std.specs.Prelude.{Result, Ok, Err}
+use Rattle.std.specs.Prelude.{Result}
 use Rattle.model.proofs.IndexedLaws.{lt_or_le}
 use Rattle.model.specs.Record.{blank_model}
 use Rattle.text.specs.declared.ReadRefusal.{ReadRefusal}

@@ -4,7 +4,7 @@ use mathlib.Core.Path.{◌≡◌, refl, sym, ap, ◌∙◌}
 use mathlib.Core.List.{List, [], ◌∷◌, ◌++◌, map, foldl, append_assoc, append-nil}
 use mathlib.Core.Bool.{Bool, false, not, ◌||◌, or_assoc, or-false}
 use native.Mathlib.Omega.{arith}
-use lib.ListN.{length, set, replicate, length-set}
+use lib.ListN.{length, set, length-set}
 use lib.Dec.{ltb, leb}
 use borrow.Author.Tests.{lt-ltb, leb-false, ltb-false}
 use Rattle.std.specs.Prelude.{Option, Some, None}
@@ -16,7 +16,6 @@ use Rattle.text.proofs.bytes.Flags.{flag, unflagged, or_left, or_right, any_head
 use Rattle.text.proofs.Laws.Slots.{put_is, put_all}
 use Rattle.model.specs.declared.Update.{Update}
 use Rattle.model.specs.Indexed.{all_below}
-use Rattle.model.specs.Record.{blank_update}
 use Rattle.model.specs.Automaton.{is_keep}
 use Rattle.text.specs.declared.updates.SetRead.{SetRead}
 use Rattle.text.specs.declared.updates.SetRead.TheVariants.{ToConstant, ToSum}

@@ -1,5 +1,5 @@
 -- The value of a reset line: items x0 or x0:=x1, the tests of the line, and the slots that an accepted one fills.
-use Rattle.std.specs.Prelude.{ℕ, Bool, true, false, cond, not, ◌||◌, get_or, drop, set, replicate, leb, eqb}
+use Rattle.std.specs.Prelude.{ℕ, Bool, false, cond, not, ◌||◌, get_or, drop, set, replicate, leb, eqb}
 use mathlib.Core.List.{List, map, foldl}
 use Rattle.text.specs.bytes.Bytes.{number_of, leading, following, assigns, items_of}
 use Rattle.text.specs.bytes.Faulty.{any_of, rises_from, Checked}

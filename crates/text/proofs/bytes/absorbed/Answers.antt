@@ -14,8 +14,8 @@ returns-then-is_hyphen g c = λ h act. ap (foldl h c.args.start) (sym (items_non
 pub returns-else-is_hyphen : goal.returns-else-is_hyphen
 returns-else-is_hyphen g c =
     λ h act.
-      fold_from_yields_List g.F.FnMut h c.args.start c.fold.result c.fold.ensures.ran
-      (YieldsList-from_slice_split _ (λ x. x == 44) c.args.v.now c.split.ensures.rest c.split.ensures.done c.split.ensures.closure
-        (λ x b q k. search (rules, tests)))
-      act
-      ∙ folds h c.args.start (slice_split (λ x. x == 44) c.args.v.now) ∙ ap (foldl h c.args.start) (parts_are 44 c.args.v.now ∙ sym (items_some _ (sym c.is_hyphen.ensures ∙ c.if-is_hyphen.false)))
+    fold_from_yields_List g.F.FnMut h c.args.start c.fold.result c.fold.ensures.ran
+    (YieldsList-from_slice_split _ (λ x. x == 44) c.args.v.now c.split.ensures.rest c.split.ensures.done c.split.ensures.closure
+    (λ x b q k. search (rules, tests)))
+    act
+    ∙ folds h c.args.start (slice_split (λ x. x == 44) c.args.v.now) ∙ ap (foldl h c.args.start) (parts_are 44 c.args.v.now ∙ sym (items_some _ (sym c.is_hyphen.ensures ∙ c.if-is_hyphen.false)))

@@ -1,7 +1,7 @@
 -- `counter`: the value is parted at its first comma, and both parts are read as numbers.
 use Rattle.std.proofs.Common.{rules, ◌≡◌, ◌∙◌, sym, ap, refl, subst, Err, Some, None}
-use Rattle.text.specs.bytes.Bytes.{number_of, Found, FirstFrom}
-use Rattle.text.specs.bytes.Faulty.{fault_number, Checked}
+use Rattle.text.specs.bytes.Bytes.{number_of, Found}
+use Rattle.text.specs.bytes.Faulty.{fault_number}
 use Rattle.text.specs.declared.bytes.LineFault.TheVariants.{NotOfItsForm}
 use Rattle.text.specs.line.Values.{greatest_of, initial_of, counter_faults}
 use Rattle.text.proofs.Laws.Bytewise.{part_to_end}
@@ -37,10 +37,10 @@ unfolding counter_faults fault_number
 returns-then-greatest-initial c =
     let f = subst (Found 44 0 c.args.v.now) (form_read NotOfItsForm c.find.result c.ok_or.ensures.value c.in_ok-comma.was) c.find.ensures in
     let g : greatest_of c.args.v.now ≡ Some c.in_ok-greatest.greatest =
-        before_comma c.args.v.now f.0 ∙ sym c.number.ensures ∙ form_read NotOfItsForm c.number.result c.ok_or-2.ensures.value c.in_ok-greatest.was in
+    before_comma c.args.v.now f.0 ∙ sym c.number.ensures ∙ form_read NotOfItsForm c.number.result c.ok_or-2.ensures.value c.in_ok-greatest.was in
     let i : initial_of c.args.v.now ≡ Some c.in_ok-initial.initial =
-        after_comma c.args.v.now f.0 ∙ ap number_of (sym (part_to_end c.args.v.now _)) ∙ sym c.number-2.ensures
-        ∙ form_read NotOfItsForm c.number-2.result c.ok_or-3.ensures.value c.in_ok-initial.was in
+    after_comma c.args.v.now f.0 ∙ ap number_of (sym (part_to_end c.args.v.now _)) ∙ sym c.number-2.ensures
+    ∙ form_read NotOfItsForm c.number-2.result c.ok_or-3.ensures.value c.in_ok-initial.was in
     rw (g, i, c.if-greatest-initial.true) refl
 
 pub returns : goal.returns
@@ -48,8 +48,8 @@ unfolding counter_faults fault_number
 returns c =
     let f = subst (Found 44 0 c.args.v.now) (form_read NotOfItsForm c.find.result c.ok_or.ensures.value c.in_ok-comma.was) c.find.ensures in
     let g : greatest_of c.args.v.now ≡ Some c.in_ok-greatest.greatest =
-        before_comma c.args.v.now f.0 ∙ sym c.number.ensures ∙ form_read NotOfItsForm c.number.result c.ok_or-2.ensures.value c.in_ok-greatest.was in
+    before_comma c.args.v.now f.0 ∙ sym c.number.ensures ∙ form_read NotOfItsForm c.number.result c.ok_or-2.ensures.value c.in_ok-greatest.was in
     let i : initial_of c.args.v.now ≡ Some c.in_ok-initial.initial =
-        after_comma c.args.v.now f.0 ∙ ap number_of (sym (part_to_end c.args.v.now _)) ∙ sym c.number-2.ensures
-        ∙ form_read NotOfItsForm c.number-2.result c.ok_or-3.ensures.value c.in_ok-initial.was in
+    after_comma c.args.v.now f.0 ∙ ap number_of (sym (part_to_end c.args.v.now _)) ∙ sym c.number-2.ensures
+    ∙ form_read NotOfItsForm c.number-2.result c.ok_or-3.ensures.value c.in_ok-initial.was in
     rw (g, i, c.if-greatest-initial.false) (refl, refl)

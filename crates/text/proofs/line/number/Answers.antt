@@ -1,7 +1,7 @@
 -- `number`: no number, one that its test refuses, or one that passes.
-use Rattle.std.proofs.Common.{rules, ◌≡◌, ◌∙◌, sym, ap, refl, Err, Some, None}
+use Rattle.std.proofs.Common.{rules, ◌≡◌, ◌∙◌, sym, refl, Err, Some, None}
 use Rattle.text.specs.bytes.Bytes.{number_of}
-use Rattle.text.specs.bytes.Faulty.{fault_number, Checked}
+use Rattle.text.specs.bytes.Faulty.{fault_number}
 use Rattle.text.specs.declared.bytes.LineFault.TheVariants.{NotOfItsForm}
 use Rattle.text.specs.line.Values.{number_faults}
 use Rattle.text.proofs.bytes.Library.{form_refused, form_read}

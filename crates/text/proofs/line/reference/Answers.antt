@@ -1,8 +1,8 @@
 -- `reference`: no number, one that its test refuses, or one that passes.
-use Rattle.std.proofs.Common.{rules, ◌≡◌, ◌∙◌, sym, ap, refl, Err, Some, None}
+use Rattle.std.proofs.Common.{rules, ◌≡◌, ◌∙◌, sym, refl, Err, Some, None}
 use borrow.Author.Tests.{le-leb, lt-leb}
 use Rattle.text.specs.bytes.Bytes.{number_of}
-use Rattle.text.specs.bytes.Faulty.{fault_number, Checked}
+use Rattle.text.specs.bytes.Faulty.{fault_number}
 use Rattle.text.specs.declared.bytes.LineFault.TheVariants.{NotOfItsForm}
 use Rattle.text.specs.line.Values.{reference_faults}
 use Rattle.text.proofs.bytes.Library.{form_refused, form_read}

@@ -15,7 +15,7 @@ returns-in_err-check c =
     let step = absorbed c.args.clocks in
     let items = items_of c.args.v.now in
     let read : c.absorbed-read.result ≡ foldl step no_resets (map reset_of items) =
-        c.absorbed-read.ensures (λ s x. step s (reset_of x)) (λ s x r q k. search (rules, tests)) ∙ folds_each step reset_of no_resets items in
+    c.absorbed-read.ensures (λ s x. step s (reset_of x)) (λ s x r q k. search (rules, tests)) ∙ folds_each step reset_of no_resets items in
     rw e (by_fault c.args.clocks (search rules) _ _ read _ c.in_err-check.ensures)
 
 pub returns : goal.returns
@@ -24,5 +24,5 @@ returns c =
     let step = absorbed c.args.clocks in
     let items = items_of c.args.v.now in
     let read : c.absorbed-read.result ≡ foldl step no_resets (map reset_of items) =
-        c.absorbed-read.ensures (λ s x. step s (reset_of x)) (λ s x r q k. search (rules, tests)) ∙ folds_each step reset_of no_resets items in
+    c.absorbed-read.ensures (λ s x. step s (reset_of x)) (λ s x r q k. search (rules, tests)) ∙ folds_each step reset_of no_resets items in
     by_stages c.args.clocks (search rules) _ _ read c.in_ok-check.ensures

@@ -1,5 +1,5 @@
 -- `set_to`: v stands first, or the value is a constant.
-use Rattle.std.proofs.Common.{◌≡◌, ◌∙◌, sym, get_or, refl, None, Some}
+use Rattle.std.proofs.Common.{◌≡◌, ◌∙◌, sym, None, Some}
 use borrow.Author.Tests.{eq-eqb, ne_eqb}
 use Rattle.text.specs.bytes.Bytes.{number_of}
 use Rattle.text.specs.updates.Sets.{set_to}

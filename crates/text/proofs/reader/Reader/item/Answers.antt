@@ -1,7 +1,5 @@
 -- `Reader::item`: it may move past the bound line, since that line ends within the text.
-use Rattle.std.proofs.Common.{◌≡◌, ◌≤◌, ◌+◌, ◌∙◌, ap, sym, length, drop, arith, ℕ}
-use Rattle.text.specs.Bound.{bound_told}
-use Rattle.text.specs.Text.{read_report}
+use Rattle.std.proofs.Common.{◌+◌, ap, arith, ℕ}
 use Rattle.text.proofs.ItemLaws.{moved_within, item_from}
 use Rattle.text.proofs.reader.Reader.item.Goals as goal
 
