@@ -113,17 +113,18 @@ literals_2 p q e f = λ k. e k ∷ f k ∷ []
 pub literals_3 : {x y z : ℤ} (p q r : Literal) → x ≡ word p → y ≡ word q → z ≡ word r → x ∷ y ∷ z ∷ [] ≡ map word (p ∷ q ∷ r ∷ [])
 literals_3 p q r e f g = λ k. e k ∷ f k ∷ g k ∷ []
 
--- words that take the place of as many
-pub wrote_part : {p new l : List ℤ} {at n : ℕ} → n ≡ length p → new ≡ p → at + length p ≤ length l
-    → Wrote p l (take at l ++ (new ++ drop n (drop at l))) at (at + length p)
-wrote_part {p} {new} {l} {at} {n} e q h =
-    let all : take at l ++ (new ++ drop n (drop at l)) ≡ take at l ++ p ++ drop (at + length p) l =
-    ap₂ (λ (x : List ℤ) (k : ℕ). take at l ++ (x ++ drop k (drop at l))) q e
+-- words that take the place of as many, up to e
+pub wrote_part : {p new l : List ℤ} {at n e : ℕ} → n ≡ length p → e ≡ at + length p → new ≡ p → at + length p ≤ length l
+    → Wrote p l (take at l ++ (new ++ drop n (drop at l))) at e
+wrote_part {p} {new} {l} {at} {n} {e} q f g h =
+    let all : take at l ++ (new ++ drop n (drop at l)) ≡ take at l ++ p ++ drop e l =
+    ap₂ (λ (x : List ℤ) (k : ℕ). take at l ++ (x ++ drop k (drop at l))) g q
     ∙ ap (λ (x : List ℤ). take at l ++ (p ++ x)) (drop-drop (length p) at l)
-    ∙ sym (append_assoc (take at l) p (drop (at + length p) l)) in
+    ∙ ap (λ (k : ℕ). take at l ++ (p ++ drop k l)) (sym f)
+    ∙ sym (append_assoc (take at l) p (drop e l)) in
     record {
-      ends = refl;
-      fits = h;
+      ends = f;
+      fits = omega arith;
       long = ap length all ∙ simp (length-append, length-drop) (omega (arith, length-take-le at l (omega arith)));
       list = all;
     }

@@ -40,10 +40,23 @@ fn put_update(
     match update {
         Update::Keep => {
             let kept = block + group.first;
-            put_row(x, kept as usize, after, group.size as usize, Rule::Keep, out, at)
+            put_row(
+                x,
+                kept as usize,
+                after,
+                group.size as usize,
+                Rule::Keep,
+                out,
+                at,
+            )
         }
-        Update::Constant(n) if n <= greatest => put_row(x, 0, after, 1, Rule::Set(n), out, at),
-        Update::Constant(_) => put_row(x, 0, after, 1, Rule::Forbid, out, at),
+        Update::Constant(n) => {
+            if n <= greatest {
+                put_row(x, 0, after, 1, Rule::Set(n), out, at)
+            } else {
+                put_row(x, 0, after, 1, Rule::Forbid, out, at)
+            }
+        }
         Update::Sum { source, offset } => {
             let read = b.group(1 + source as usize);
             let following = next as usize;
@@ -56,14 +69,7 @@ fn put_update(
 }
 
 // Each counter's update.
-fn put_updates(
-    b: &GroupTable,
-    x: usize,
-    o: usize,
-    e: &Edge,
-    out: &mut [i32],
-    at: usize,
-) -> usize
+fn put_updates(b: &GroupTable, x: usize, o: usize, e: &Edge, out: &mut [i32], at: usize) -> usize
     requires { (x < most_variables) × (b.now.vars ≤ 4) × ((i : ℕ) → i < b.now.vars → Fits (update_part b.now o e.now.order i (update_at e.now i)) most_variables) × RoomFor (each b.now.vars (λ i. part_clauses x (update_part b.now o e.now.order i (update_at e.now i)))) out.old at }
     ensures { WroteClauses (each b.now.vars (λ i. part_clauses x (update_part b.now o e.now.order i (update_at e.now i)))) out.old out.new at result }
 {
@@ -94,26 +100,35 @@ fn put_reset(
     match update {
         ClockUpdate::Unchanged => {
             let unchanged = block + group.first;
-            put_row(x, unchanged as usize, after, group.size as usize, Rule::Keep, out, at)
+            put_row(
+                x,
+                unchanged as usize,
+                after,
+                group.size as usize,
+                Rule::Keep,
+                out,
+                at,
+            )
         }
         ClockUpdate::Reset => put_row(x, 0, after, 1, Rule::Set(0), out, at),
         ClockUpdate::Copy { source } => {
             let read = b.group(1 + b.vars + source as usize);
             let copied = block + read.first;
-            put_row(x, copied as usize, after, read.size as usize, Rule::Keep, out, at)
+            put_row(
+                x,
+                copied as usize,
+                after,
+                read.size as usize,
+                Rule::Keep,
+                out,
+                at,
+            )
         }
     }
 }
 
 // Each clock.
-fn put_resets(
-    b: &GroupTable,
-    x: usize,
-    o: usize,
-    e: &Edge,
-    out: &mut [i32],
-    at: usize,
-) -> usize
+fn put_resets(b: &GroupTable, x: usize, o: usize, e: &Edge, out: &mut [i32], at: usize) -> usize
     requires { (x < most_variables) × Bounded b.now × ((i : ℕ) → i < b.now.groups - (1 + b.now.vars) → Fits (reset_part b.now o i (reset_at e.now i)) most_variables) × RoomFor (each (b.now.groups - (1 + b.now.vars)) (λ i. part_clauses x (reset_part b.now o i (reset_at e.now i)))) out.old at }
     ensures { WroteClauses (each (b.now.groups - (1 + b.now.vars)) (λ i. part_clauses x (reset_part b.now o i (reset_at e.now i)))) out.old out.new at result }
 {

@@ -111,7 +111,7 @@ pub fn emit_within(
     let room = limit.min(out.len());
     check_bound(m, bound)?;
     let layout = Layout::new(m);
-    let counts = list_counts(m, layout.totals, layout.table, bound);
+    let counts = list_counts(&layout, bound);
     let words = counts.words;
     if room < words {
         return Err(EmitRefusal::BufferTooShort { words });

@@ -67,20 +67,16 @@ fn put_step_piece(layout: &Layout, t: usize, piece: usize, out: &mut [i32]) -> u
 }
 
 // Piece `piece` of row `row` of the list for `bound`: row 0 is the start, rows 1 to `bound` are the steps, the row after is the end.
-pub fn put_piece(
-    layout: &Layout,
-    bound: usize,
-    row: usize,
-    piece: usize,
-    out: &mut [i32],
-) -> usize
+pub fn put_piece(layout: &Layout, bound: usize, row: usize, piece: usize, out: &mut [i32]) -> usize
     requires { (bound ≤ 64) × (row ≤ bound + 1) × (piece < row_pieces layout.now.model bound row) × (most_piece_words ≤ length out.old) }
     ensures { WroteClauses (piece_of layout.now.model bound row piece) out.old out.new 0 result }
 {
-    if row == 0 && piece < state_pieces(layout) {
-        put_state_piece(layout, 0, piece, out)
-    } else if row == 0 {
-        put_initial(layout, out, 0)
+    if row == 0 {
+        if piece < state_pieces(layout) {
+            put_state_piece(layout, 0, piece, out)
+        } else {
+            put_initial(layout, out, 0)
+        }
     } else if row <= bound {
         put_step_piece(layout, row - 1, piece, out)
     } else {
@@ -104,13 +100,7 @@ fn put_row(layout: &Layout, bound: usize, row: usize, out: &mut [i32]) -> usize
 
 // `count` rows of the list for `bound`, from row `from` on. The whole list and one row alone are written here, so that `put_row` has one caller and is
 // compiled in place.
-pub fn put_rows(
-    layout: &Layout,
-    bound: usize,
-    from: usize,
-    count: usize,
-    out: &mut [i32],
-) -> usize
+pub fn put_rows(layout: &Layout, bound: usize, from: usize, count: usize, out: &mut [i32]) -> usize
     requires { (bound ≤ 64) × (from + count ≤ bound + 2) × RoomFor (each count (λ i. row_of layout.now.model bound (from + i))) out.old 0 }
     ensures { WroteClauses (each count (λ i. row_of layout.now.model bound (from + i))) out.old out.new 0 result }
 {

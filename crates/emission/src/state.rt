@@ -78,24 +78,19 @@ fn compared(vars: usize, atom: Atom) -> Option<Comparison>
 }
 
 // An atom under `x`: each value of its group that fails it.
-fn put_atom(
-    b: &GroupTable,
-    x: usize,
-    o: usize,
-    atom: Atom,
-    out: &mut [i32],
-    at: usize,
-) -> usize
+fn put_atom(b: &GroupTable, x: usize, o: usize, atom: Atom, out: &mut [i32], at: usize) -> usize
     requires { (b.now.vars ≤ 4) × (x < most_variables) × Fits (atom_part b.now o atom) most_variables × RoomFor (part_clauses x (atom_part b.now o atom)) out.old at }
     ensures { WroteClauses (part_clauses x (atom_part b.now o atom)) out.old out.new at result }
 {
     match compared(b.vars, atom) {
         None => at,
-        Some(Comparison {
-            group,
-            relation,
-            constant,
-        }) => {
+        Some(
+            Comparison {
+                group,
+                relation,
+                constant,
+            },
+        ) => {
             let read = b.group(group);
             let before = o as u16 + read.first;
             let rule = Rule::Exclude { relation, constant };
