@@ -13,21 +13,20 @@ use borrow.Author.Tests.{eq-eqb, ne_eqb, eqb-true, eqb-false}
 use Rattle.model.proofs.IndexedLaws.{lt_or_le}
 use Rattle.text.specs.bytes.Ascii.{ascii}
 use Rattle.text.specs.bytes.Bytes.{starts_with, split_on}
-use Rattle.text.proofs.Laws.Bytewise.{part_to_end}
 use Rattle.output.specs.Literals.{are_literals}
 use Rattle.output.specs.Lines.{is_text, words_of, is_values, form_of}
 use Rattle.output.specs.declared.lines.LineForm.{LineForm}
 use Rattle.output.specs.declared.lines.LineForm.TheVariants.{Comment, Satisfiable, Unsatisfiable, Values}
 
 -- ---- what the library says of a key
-flip : (x y : ℕ) → eqb x y ≡ eqb y x
+pub flip : (x y : ℕ) → eqb x y ≡ eqb y x
 flip x y = by (eqb x y) refl
   where
     by : (t : Bool) → eqb x y ≡ t → eqb x y ≡ eqb y x
     by true e = e ∙ sym (eq-eqb y x (sym (eqb-true x y e)))
     by false e = e ∙ sym (ne_eqb y x (λ h. eqb-false x y e (sym h)))
 
-begins_is : (k l : List ℕ) → pointwise eqb k (take (length k) l) ≡ starts_with k l
+pub begins_is : (k l : List ℕ) → pointwise eqb k (take (length k) l) ≡ starts_with k l
 unfolding starts_with
 begins_is [] l = refl
 begins_is (x ∷ k) [] = refl
@@ -80,14 +79,6 @@ key_short a b (x ∷ y ∷ l) h = absurd (omega arith)
 pub values_short : (l : List ℕ) → length l < 2 → is_values l ≡ false
 unfolding is_values
 values_short l h = rw (key_short 118 32 l h)
-
-pub values_key : (l : List ℕ) → starts_with (ascii "v ") l ≡ true → are_literals (split_on 32 (take (length l - 2) (drop 2 l))) ≡ is_values l
-unfolding is_values words_of
-values_key l h = rw (h, part_to_end l 2)
-
-pub values_other : (l : List ℕ) → starts_with (ascii "v ") l ≡ false → is_values l ≡ false
-unfolding is_values
-values_other l h = rw h
 
 form_short : (l : List ℕ) → length l < 2 → form_of l ≡ None
 unfolding form_of is_text starts_with

@@ -1,13 +1,12 @@
 // One pass over a text: the forms and places of its lines, the ranges of its literals, and where the reading ends.
 ghost use Rattle.std.specs.Prelude.{◌≡◌, ◌≤◌, ◌<◌, length, is_some};
-ghost use mathlib.Core.List.{foldl, map};
-ghost use Rattle.text.specs.bytes.Bytes.{split_on};
-ghost use Rattle.output.specs.Tokens.{literal, line_tokens, tokens_of};
+ghost use mathlib.Core.List.{foldl};
+ghost use Rattle.output.specs.Tokens.{line_tokens, tokens_of};
 ghost use Rattle.output.specs.Counting.{literal_up_to, no_reading, count_line, count_literal, count};
 
 use crate::lines::{LineForm, Stage};
-use crate::literals::Literal;
-use crate::{bytes, lines, literals};
+use crate::literals::{Literal, Literals};
+use crate::{bytes, lines};
 
 // Why a text is refused.
 #[derive(Clone, Copy, Debug, PartialEq, Eq)]
@@ -91,23 +90,6 @@ impl Reading {
     }
 }
 
-// The literals of a line, from its first word on.
-fn judge_words(first: Reading, s: &[u8], most: usize, limit: usize) -> Reading
-    requires { most < 9223372036854775808 }
-    ensures { result ≡ foldl (count most limit) first (map (λ w. literal (literal_up_to most w)) (split_on 32 s.now)) }
-{
-    let mut r = first;
-    let mut i = 0;
-    loop {
-        let w = literals::word_at(s, i, most);
-        r = r.judge_literal(w.literal, most, limit);
-        if w.end == s.len() {
-            return r;
-        }
-        i = w.end + 1;
-    }
-}
-
 // A line without its LF, and then its literals.
 fn judge_whole_line(before: Reading, l: &[u8], most: usize, limit: usize) -> Reading
     requires { (most < 9223372036854775808) × (before.line < 9223372036854775808) }
@@ -116,7 +98,9 @@ fn judge_whole_line(before: Reading, l: &[u8], most: usize, limit: usize) -> Rea
     let form = lines::form(l);
     let r = before.judge_line(form);
     match form {
-        Some(LineForm::Values) => judge_words(r, &l[2..], most, limit),
+        Some(LineForm::Values) => {
+            Literals::new(&l[2..], most).fold(r, |r, literal| r.judge_literal(literal, most, limit))
+        }
         _ => r,
     }
 }
@@ -132,19 +116,17 @@ pub fn read_through(text: &[u8], most: usize, limit: usize) -> Reading
         stage: Stage::BeforeStatus,
         named: 0,
     };
-    let mut i = 0;
-    loop {
-        let e = bytes::find(text, i, b'\n');
-        if e == text.len() {
-            if i == e {
-                return r;
-            }
-            return r.judge_line(None);
-        }
-        r = judge_whole_line(r, &text[i..e], most, limit);
+    let mut rest = text;
+    while let Some((line, after)) = bytes::split_once(rest, b'\n') {
+        r = judge_whole_line(r, line, most, limit);
         if r.has_ended() {
             return r;
         }
-        i = e + 1;
+        rest = after;
+    }
+    if rest.is_empty() {
+        r
+    } else {
+        r.judge_line(None)
     }
 }
