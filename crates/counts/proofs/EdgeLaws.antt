@@ -21,12 +21,11 @@ use Rattle.parts.specs.Rules.{part_clauses}
 use Rattle.parts.specs.declared.GroupTable.{GroupTable}
 use Rattle.parts.specs.StateBlock.{size_at, Bounded}
 use Rattle.parts.specs.PartsOf.{next_at, exclude_part, atom_part, set_part, update_part, reset_part, edge_part}
-use Rattle.parts.specs.Pieces.{group_piece, atom_piece, edge_piece}
+use Rattle.parts.specs.Pieces.{atom_piece, edge_piece}
 use Rattle.counts.specs.Counted.{Counted}
 use Rattle.counts.specs.PartCounts.{part_count, part_words}
 use Rattle.counts.proofs.CountLaws.{Most, most_few}
-use Rattle.counts.proofs.GroupLaws.{group_32}
-use Rattle.counts.proofs.PartLaws.{counted_part, most_part, part_most, rule_words_le, exclude_words_le}
+use Rattle.counts.proofs.PartLaws.{counted_part, most_part, rule_words_le, exclude_words_le}
 
 -- a part without its places
 abbrev kind : Part → Part
@@ -115,9 +114,3 @@ module _ (b : GroupTable) (h : Bounded b) (o : ℕ) where
 
   pub atoms_most : (x : ℕ) (atoms : List Atom) (n : ℕ) → n ≤ 4 → Most (each n (atom_piece b o x atoms)) 128 384
   atoms_most x atoms n l = most_few (atom_piece b o x atoms) 32 96 n 4 l (λ k p. atom_most x (atom_at atoms k))
-
-  pub edge_parts_most : (x : ℕ) (e : Edge) (n : ℕ) → n ≤ 14 → Most (each n (edge_piece x b e o)) 448 1792
-  edge_parts_most x e n l = most_few (edge_piece x b e o) 32 128 n 14 l (λ j p. part_most x (edge_part b e o j) (edge_small e j))
-
-  pub groups_most : (n : ℕ) → n ≤ 9 → Most (each n (group_piece b o)) 4473 13689
-  groups_most n l = most_few (group_piece b o) 497 1521 n 9 l (λ g p. group_32 _ (size_at b g) (h.size_le g))

@@ -84,14 +84,6 @@ counted_group b n =
           (arith, head.words_are, members_length b n, measured_pairs (λ l. length (words_of l)) by_words b n 3 pair_words, fewer_half n));
     }
 
--- n (n - 1) at the largest group
-pub square_le : (n : ℕ) → n ≤ 64 → n * n ≤ 4096
-square_le n h = mul-le-mul {m₂ = 64} h h
-
-pub le_square : (n : ℕ) → n ≤ n * n
-le_square zero = omega (arith, zero-mul 0)
-le_square (suc n) = omega (arith, suc-mul n (suc n))
-
 -- ---- groups of up to 16, 32 and 64 members
 module _ (b n : ℕ) where
   pub group_16 : n ≤ 16 → Most (group_clauses b n) 121 377

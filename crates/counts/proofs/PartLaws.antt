@@ -1,22 +1,19 @@
 -- A part has as many clauses and words as its rule and its size say, whatever the numbers of its variables; and what the sums over its values are.
 use mathlib.Core.Path.{◌≡◌, refl, sym, ap, ap₂, ◌∙◌}
-use mathlib.Core.Bool.{Bool, true, false, true≢false, cond, not}
+use mathlib.Core.Bool.{Bool, true, false, cond, not}
 use mathlib.Core.List.{List, [], ◌∷◌, map}
 use mathlib.Core.Logic.{⊎_elim}
 use Rattle.std.specs.Prelude.{Option, None, Some}
 use Prim.Native.Nat.{ℕ, zero, suc, ◌+◌, ◌-◌, ◌*◌, ◌≤◌, ◌<◌, min}
 use native.Mathlib.Omega.{arith}
-use lib.Dec.{eqb, ltb, leb}
+use lib.Dec.{eqb, ltb}
 use lib.ListN.{length, length-append}
-use lib.IntN.{ℤ, pos, nat_abs}
-use lib.Signed.{lt_z}
 use borrow.Author.Tests.{lt-ltb, le-ltb, le-leb, lt-leb, ne_eqb, eq-eqb}
 use Rattle.model.specs.declared.Relation.{Relation}
 use Rattle.model.specs.declared.Relation.TheVariants.{Less, LessEqual, Equal, GreaterEqual, Greater, NotEqual}
-use Rattle.model.specs.Indexed.{each, sum_below, only_if, is_some}
-use Rattle.model.specs.Automaton.{meets, in_range, moved, shifted}
+use Rattle.model.specs.Indexed.{each, sum_below}
+use Rattle.model.specs.Automaton.{meets, shifted}
 use Rattle.model.proofs.IndexedLaws.{length_each, sum_below_lem, sum_none, sum_suc, sum_closed, lt_or_le}
-use Rattle.new_values.proofs.Signed.{negative_test}
 use Rattle.list.specs.Clauses.{Clause, bare, negated, one, clause_words, words_of}
 use Rattle.list.specs.Lists.{to_list}
 use Rattle.list.proofs.OneHot.{words_app}
@@ -169,40 +166,3 @@ exclude_words relation k =
     three : (b : Bool) → cond b 0 3 ≡ cond b 0 1 * 3
     three true = refl
     three false = refl
-
--- ---- whether a counter plus an offset lies in range
-pub length_some : (x : Option ℕ) → is_some x ≡ true → length (to_list x) ≡ 1
-length_some None e = absurd (true≢false (sym e))
-length_some (Some v) e = refl
-
-pub length_none : (x : Option ℕ) → is_some x ≡ false → length (to_list x) ≡ 0
-length_none None e = refl
-length_none (Some v) e = absurd (true≢false e)
-
-some_if : {A : Type 0} (b : Bool) (x : A) → is_some (only_if b x) ≡ b
-some_if true x = refl
-some_if false x = refl
-
-module _ (v a g : ℕ) where
-  moved_up : is_some (moved v false a g) ≡ leb (v + a) g
-  moved_up = some_if (leb (v + a) g) (v + a)
-
-  moved_down : leb a v ≡ true → is_some (moved v true a g) ≡ leb (v - a) g
-  moved_down e = ap (λ (b : Bool). is_some (cond b (in_range g (v - a)) None)) e ∙ some_if (leb (v - a) g) (v - a)
-
-  moved_past : leb a v ≡ false → is_some (moved v true a g) ≡ false
-  moved_past e = ap (λ (b : Bool). is_some (cond b (in_range g (v - a)) None)) e
-
--- z is negative or not, and a is its size
-module _ (z : ℤ) (g v : ℕ) {a : ℕ} (size : a ≡ nat_abs z) where
-  moved_by : {b : Bool} → lt_z z (pos 0) ≡ b → is_some (shifted z g v) ≡ is_some (moved v b a g)
-  moved_by {b} e = ap₂ (λ (s : Bool) (n : ℕ). is_some (moved v s n g)) (sym (negative_test z) ∙ e) (sym size)
-
-  pub lands_up : lt_z z (pos 0) ≡ false → leb (v + a) g ≡ is_some (shifted z g v)
-  lands_up e = sym (moved_by e ∙ moved_up v a g)
-
-  pub lands_down : lt_z z (pos 0) ≡ true → a ≤ v → leb (v - a) g ≡ is_some (shifted z g v)
-  lands_down e l = sym (moved_by e ∙ moved_down v a g (le-leb a v l))
-
-  pub lands_past : lt_z z (pos 0) ≡ true → v < a → false ≡ is_some (shifted z g v)
-  lands_past e l = sym (moved_by e ∙ moved_past v a g (lt-leb a v l))

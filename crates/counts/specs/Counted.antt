@@ -6,3 +6,7 @@ use Rattle.list.specs.Clauses.{Clause, words_of}
 pub record Counted (cs : List Clause) (clauses words : ℕ) : Type 0 where
   pub clauses_are : clauses ≡ length cs
   pub words_are : words ≡ length (words_of cs)
+
+-- A piece that is counted on its own, such as a group, an invariant or an edge, has no more clauses, and no more words.
+abbrev pub most_piece : ℕ
+most_piece = 8192

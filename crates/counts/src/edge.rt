@@ -1,42 +1,46 @@
-// How many clauses and words the atoms of an invariant or a guard and an edge have, wherever the state block begins.
-ghost use Rattle.std.specs.Prelude.{ℕ, ◌+◌};
-ghost use Rattle.model.specs.Indexed.{each};
-ghost use Rattle.parts.specs.StateBlock.{Bounded};
-ghost use Rattle.parts.specs.Pieces.{atom_piece, edge_piece};
+// How many clauses and words the invariant of a location and an edge have, wherever the state block begins.
+ghost use Rattle.std.specs.Prelude.{ℕ, ◌+◌, ◌<◌};
+ghost use Rattle.list.specs.Items.{invariant_of, edge_of};
+ghost use Rattle.list.specs.Clauses.{one_hot_width, clauses_of};
+ghost use Rattle.parts.specs.Rules.{part_clauses};
+ghost use Rattle.parts.specs.PartsOf.{atom_part};
+ghost use Rattle.parts.specs.Pieces.{edge_piece};
 ghost use Rattle.counts.specs.Counted.{Counted};
 
 use crate::Count;
 use crate::part::count_part;
 use model::{Atom, Edge, Model};
-use parts::GroupTable;
+use parts::layout::Layout;
 
-// The values that fail the atoms of an invariant or a guard.
-pub fn atoms_count(b: GroupTable, atoms: [Atom; Model::ATOMS]) -> Count
-    requires { Bounded b }
-    ensures { (x o : ℕ) → Counted (each 4 (atom_piece b o x atoms)) result.clauses result.words }
+// The values that fail an atom.
+fn atom_count(l: &Layout, atom: Atom) -> Count
+    ensures { (x o : ℕ) → Counted (part_clauses x (atom_part l.now.table o atom)) result.clauses result.words }
 {
-    let mut clauses: usize = 0;
-    let mut words: usize = 0;
-    for k in 0..Model::ATOMS {
-        let atom = atoms[k];
-        let a = count_part(b.atom_part(0, atom));
-        clauses += a.clauses;
-        words += a.words;
-    }
-    Count { clauses, words }
+    count_part(l.table.atom_part(0, atom))
 }
 
-// An edge, part after part.
-pub fn edge_count(b: GroupTable, e: Edge) -> Count
-    requires { Bounded b }
-    ensures { (x o : ℕ) → Counted (each (b.groups + 5) (edge_piece x b e o)) result.clauses result.words }
+// The values that fail the invariant of location `i`.
+pub fn invariant_count(l: &Layout, i: usize) -> Count
+    requires { i < l.now.model.locations }
+    ensures { (o : ℕ) → Counted (clauses_of (invariant_of one_hot_width l.now.model o i)) result.clauses result.words }
 {
-    let mut clauses: usize = 0;
-    let mut words: usize = 0;
-    for j in 0..b.groups + 5 {
-        let part = count_part(b.edge_part(e, 0, j));
-        clauses += part.clauses;
-        words += part.words;
-    }
-    Count { clauses, words }
+    let atoms = &l.model.invariants[i].atoms;
+    Count::sum(Model::ATOMS, |k| atom_count(l, atoms[k]))
+}
+
+// Part `j` of an edge.
+fn edge_part_count(l: &Layout, e: &Edge, j: usize) -> Count
+    requires { j < l.now.table.groups + 5 }
+    ensures { (x o : ℕ) → Counted (edge_piece x l.now.table e.now o j) result.clauses result.words }
+{
+    count_part(l.table.edge_part(e, 0, j))
+}
+
+// Edge `i`, part after part.
+pub fn edge_count(l: &Layout, i: usize) -> Count
+    requires { i < l.now.model.used }
+    ensures { (o : ℕ) → Counted (clauses_of (edge_of one_hot_width l.now.model o i)) result.clauses result.words }
+{
+    let e = &l.model.edges[i];
+    Count::sum(l.table.groups + 5, |j| edge_part_count(l, e, j))
 }

@@ -2,12 +2,11 @@
 ghost use Rattle.std.specs.Prelude.{ℕ, ◌≤◌};
 ghost use Rattle.model.specs.Indexed.{each};
 ghost use Rattle.list.specs.Clauses.{group_clauses};
-ghost use Rattle.parts.specs.StateBlock.{Bounded};
 ghost use Rattle.parts.specs.Pieces.{group_piece};
 ghost use Rattle.counts.specs.Counted.{Counted};
 
 use crate::Count;
-use parts::GroupTable;
+use parts::layout::Layout;
 
 // A group of n members: all members in one clause, then the pairs, half of n (n - 1).
 pub fn group_count(n: usize) -> Count
@@ -22,16 +21,8 @@ pub fn group_count(n: usize) -> Count
 }
 
 // The groups of a state block.
-pub fn groups_count(b: GroupTable) -> Count
-    requires { Bounded b }
-    ensures { (o : ℕ) → Counted (each b.groups (group_piece b o)) result.clauses result.words }
+pub fn groups_count(l: &Layout) -> Count
+    ensures { (o : ℕ) → Counted (each l.now.table.groups (group_piece l.now.table o)) result.clauses result.words }
 {
-    let mut clauses: usize = 0;
-    let mut words: usize = 0;
-    for g in 0..b.groups {
-        let a = group_count(b.size[g] as usize);
-        clauses += a.clauses;
-        words += a.words;
-    }
-    Count { clauses, words }
+    Count::sum(l.table.groups, |g| group_count(l.table.group(g).size as usize))
 }

@@ -1,122 +1,93 @@
--- list_counts: start, the bound times a step, end; every sum on the way is at most the total, and that has its bound.
-use native.Mathlib.Omega.{arith}
-use Prim.Native.Nat.{◌+◌, ◌*◌, ◌≤◌}
+-- `list_counts`: start, the bound times a step, end; every sum on the way is at most the total, and that has its bound.
+use Rattle.std.proofs.Common.{arith, ℕ, ◌+◌, ◌*◌, ◌≤◌, ap, ◌≡◌}
 use Rattle.model.proofs.FormLaws.{formed, variables_le}
-use Rattle.list.specs.Clauses.{clauses}
 use Rattle.parts.specs.Numbering.{most_variables}
-use Rattle.counts.specs.Counted.{Counted}
+use Rattle.parts.specs.declared.layout.Layout.{Layout}
+use Rattle.parts.proofs.KnownLaws.{at_most_nine}
+use Rattle.parts.proofs.LayoutLaws.{known_of_layout, totals_of_layout}
 use Rattle.counts.specs.KnownCounts.{most_clauses, most_words}
-use Rattle.counts.proofs.CountLaws.{Most, clauses_le, words_le}
+use Rattle.counts.proofs.CountLaws.{clauses_le, words_le, counted_is}
 use Rattle.counts.proofs.CountedList.{list_counted, list_words, known_variables}
 use Rattle.counts.proofs.PieceBounds.{state_most, moves_most, list_most}
 use Rattle.counts.proofs.list_counts.Goals as goal
-use Rattle.counts.proofs.list_counts.Goals.{After-moves_count-t}
+use Rattle.counts.proofs.list_counts.Goals.{After-add-step, After-add-all}
 
-variables_le_most : (c : After-moves_count-t)
-    → let a = c.args in a.z.state + a.bound * (a.z.state + a.z.choices) ≤ most_variables
-variables_le_most c =
-    let a = c.args in
-    omega (arith, known_variables a.m a.z c.requires.0 a.bound, variables_le a.m (formed a.m c.requires.1.formed) a.bound c.requires.2)
+-- the bound times a step, by the counts of its two parts
+steps : (c : After-add-step) → let n = c.args.bound in let s = c.state_count-state.result in let t = c.moves_count.result in
+    (n * c.add-step.result.clauses ≡ n * (t.clauses + s.clauses)) × (n * c.add-step.result.words ≡ n * (t.words + s.words))
+steps c = (ap (λ (x : ℕ). c.args.bound * x) c.add-step.ensures.0, ap (λ (x : ℕ). c.args.bound * x) c.add-step.ensures.1)
 
-counted : (c : After-moves_count-t)
-    → let a = c.args in
-    let s = c.state_count-s.result in
-    let t = c.moves_count-t.result in
-    Counted (clauses a.m a.bound) (s.clauses + a.b.groups + a.bound * (t.clauses + s.clauses) + 1)
-    (s.words + a.b.groups * 2 + a.bound * (t.words + s.words) + 2)
-counted c = list_counted c.requires.1 c.args.bound c.state_count-s.ensures c.moves_count-t.ensures
+-- the whole list
+most : (c : After-add-step) → let n = c.args.bound in let s = c.state_count-state.result in let t = c.moves_count.result in let g = c.args.l.now.table.groups in
+    (s.clauses + g + n * (t.clauses + s.clauses) + 1 ≤ most_clauses) × (s.words + g * 2 + n * (t.words + s.words) + 2 ≤ most_words)
+most c =
+    let l = c.args.l.now in
+    let n = list_counted (known_of_layout l) c.args.bound c.state_count-state.ensures c.moves_count.ensures in
+    let m = list_most l.model l.formed c.args.bound c.requires in
+    (clauses_le n m, words_le n m)
 
-most : (c : After-moves_count-t) → let a = c.args in Most (clauses a.m a.bound) most_clauses most_words
-most c = list_most c.args.m c.requires.1.formed c.args.bound c.requires.2
+variables_most : (l : Layout) (k : ℕ) → k ≤ 64 → l.totals.state + k * (l.totals.state + l.totals.choices) ≤ most_variables
+variables_most l k h = omega (arith, known_variables l.model l.totals (totals_of_layout l) k, variables_le l.model (formed l.model l.formed) k h)
 
--- a step
-step_clauses_lem : (c : After-moves_count-t) → c.moves_count-t.result.clauses + c.state_count-s.result.clauses ≤ 29218
-step_clauses_lem c =
-    let s = clauses_le (c.state_count-s.ensures 0) (state_most c.args.m c.requires.1.formed 0) in
-    let t = clauses_le (c.moves_count-t.ensures 0) (moves_most c.args.m c.requires.1.formed 0) in
-    omega (arith, s, t)
+pub add-step-requires : goal.add-step-requires
+add-step-requires c =
+    let l = c.args.l.now in
+    let s = state_most l.model l.formed 0 in
+    let t = moves_most l.model l.formed 0 in
+    let p = c.state_count-state.ensures 0 in
+    let q = c.moves_count.ensures 0 in
+    (omega (arith, clauses_le p s, clauses_le q t), omega (arith, words_le p s, words_le q t))
 
-step_words : (c : After-moves_count-t) → c.moves_count-t.result.words + c.state_count-s.result.words ≤ 104866
-step_words c =
-    let s = words_le (c.state_count-s.ensures 0) (state_most c.args.m c.requires.1.formed 0) in
-    let t = words_le (c.moves_count-t.ensures 0) (moves_most c.args.m c.requires.1.formed 0) in
-    omega (arith, s, t)
+pub overflow_mul-initial : goal.overflow_mul-initial
+overflow_mul-initial c = record { fits = omega (arith, at_most_nine (known_of_layout c.args.l.now)) }
+
+pub add-requires : goal.add-requires
+add-requires c =
+    let n = most (goal.at.add-requires c).After-add-step in
+    (omega (arith, n.0), omega (arith, n.1))
+
+pub times-requires : goal.times-requires
+times-requires c =
+    let k = (goal.at.times-requires c).After-add-step in
+    (omega (arith, (most k).0, (steps k).0), omega (arith, (most k).1, (steps k).1))
+
+pub add-requires-2 : goal.add-requires-2
+add-requires-2 c =
+    let k = (goal.at.add-requires-2 c).After-add-step in
+    (omega (arith, (most k).0, (steps k).0, c.add.ensures.0, c.times.ensures.0), omega (arith, (most k).1, (steps k).1, c.add.ensures.1, c.times.ensures.1))
+
+pub add-all-requires : goal.add-all-requires
+add-all-requires c =
+    let k = (goal.at.add-all-requires c).After-add-step in
+    (
+      omega (arith, (most k).0, (steps k).0, c.add.ensures.0, c.times.ensures.0, c.add-2.ensures.0),
+      omega (arith, (most k).1, (steps k).1, c.add.ensures.1, c.times.ensures.1, c.add-2.ensures.1),
+    )
+
+pub overflow_add-result : goal.overflow_add-result
+overflow_add-result c =
+    let z = totals_of_layout c.args.l.now in
+    record { fits = omega (arith, z.state_most, z.choices_most) }
 
 pub overflow_mul-result : goal.overflow_mul-result
-overflow_mul-result c =
-    let k = (goal.at.overflow_mul-result c).After-moves_count-t in
-    omega (arith, variables_le_most k)
+overflow_mul-result c = record { fits = omega (arith, variables_most c.args.l.now c.args.bound c.requires) }
 
 pub overflow_add-result-2 : goal.overflow_add-result-2
-overflow_add-result-2 c =
-    let k = (goal.at.overflow_add-result-2 c).After-moves_count-t in
-    omega (arith, variables_le_most k)
-
-pub overflow_add-result-3 : goal.overflow_add-result-3
-overflow_add-result-3 c =
-    let k = (goal.at.overflow_add-result-3 c).After-moves_count-t in
-    omega (arith, clauses_le (counted k) (most k))
-
-pub overflow_add-result-4 : goal.overflow_add-result-4
-overflow_add-result-4 c =
-    let k = (goal.at.overflow_add-result-4 c).After-moves_count-t in
-    omega (arith, step_clauses_lem k)
-
-pub overflow_mul-result-2 : goal.overflow_mul-result-2
-overflow_mul-result-2 c =
-    let k = (goal.at.overflow_mul-result-2 c).After-moves_count-t in
-    omega (arith, clauses_le (counted k) (most k))
-
-pub overflow_add-result-5 : goal.overflow_add-result-5
-overflow_add-result-5 c =
-    let k = (goal.at.overflow_add-result-5 c).After-moves_count-t in
-    omega (arith, clauses_le (counted k) (most k))
-
-pub overflow_add-result-6 : goal.overflow_add-result-6
-overflow_add-result-6 c =
-    let k = (goal.at.overflow_add-result-6 c).After-moves_count-t in
-    omega (arith, clauses_le (counted k) (most k))
-
-pub overflow_mul-result-3 : goal.overflow_mul-result-3
-overflow_mul-result-3 c =
-    let k = (goal.at.overflow_mul-result-3 c).After-moves_count-t in
-    omega (arith, words_le (counted k) (most k))
-
-pub overflow_add-result-7 : goal.overflow_add-result-7
-overflow_add-result-7 c =
-    let k = (goal.at.overflow_add-result-7 c).After-moves_count-t in
-    omega (arith, words_le (counted k) (most k))
-
-pub overflow_add-result-8 : goal.overflow_add-result-8
-overflow_add-result-8 c =
-    let k = (goal.at.overflow_add-result-8 c).After-moves_count-t in
-    omega (arith, step_words k)
-
-pub overflow_mul-result-4 : goal.overflow_mul-result-4
-overflow_mul-result-4 c =
-    let k = (goal.at.overflow_mul-result-4 c).After-moves_count-t in
-    omega (arith, words_le (counted k) (most k))
-
-pub overflow_add-result-9 : goal.overflow_add-result-9
-overflow_add-result-9 c =
-    let k = (goal.at.overflow_add-result-9 c).After-moves_count-t in
-    omega (arith, words_le (counted k) (most k))
-
-pub overflow_add-result-10 : goal.overflow_add-result-10
-overflow_add-result-10 c =
-    let k = (goal.at.overflow_add-result-10 c).After-moves_count-t in
-    omega (arith, words_le (counted k) (most k))
+overflow_add-result-2 c = record { fits = omega (arith, variables_most c.args.l.now c.args.bound c.requires) }
 
 pub returns : goal.returns
 returns c =
-    let k = (goal.at.returns c).After-moves_count-t in
-    let a = c.args in
-    let n = counted k in
+    let l = c.args.l.now in
+    let k = (goal.at.returns c).After-add-step in
+    let m = list_most l.model l.formed c.args.bound c.requires in
+    let n = counted_is (list_counted (known_of_layout l) c.args.bound c.state_count-state.ensures c.moves_count.ensures)
+        (omega (arith, (steps k).0, c.add.ensures.0, c.times.ensures.0, c.add-2.ensures.0, c.add-all.ensures.0))
+        (omega (arith, (steps k).1, c.add.ensures.1, c.times.ensures.1, c.add-2.ensures.1, c.add-all.ensures.1)) in
     record {
-      variables = known_variables a.m a.z c.requires.0 a.bound;
+      variables = known_variables l.model l.totals (totals_of_layout l) c.args.bound;
       clauses = n.clauses_are;
-      words = list_words a.m a.bound n;
-      variables_most = variables_le_most k;
-      clauses_most = clauses_le n (most k);
-      words_most = words_le n (most k);
+      words = list_words l.model c.args.bound n;
+      variables_most = variables_most l c.args.bound c.requires;
+      clauses_most = clauses_le n m;
+      words_most = words_le n m;
     }

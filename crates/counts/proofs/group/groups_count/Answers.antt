@@ -1,51 +1,30 @@
--- groups_count: group after group.
-use native.Mathlib.Omega.{arith}
-use Prim.Native.Nat.{ℕ, ◌+◌}
-use mathlib.Core.Path.{◌≡◌}
-use Rattle.model.specs.Indexed.{each}
-use Rattle.parts.specs.StateBlock.{first_at}
-use Rattle.parts.specs.Pieces.{group_piece}
+-- `groups_count`: group after group.
+use Rattle.std.proofs.Common.{arith, rules, tests, ℕ, ◌+◌, ◌≤◌}
+use Rattle.list.specs.Clauses.{group_clauses}
+use Rattle.parts.proofs.KnownLaws.{at_most_nine, known_small}
+use Rattle.parts.proofs.LayoutLaws.{known_of_layout}
+use Rattle.parts.specs.StateBlock.{first_at, size_at}
 use Rattle.counts.specs.Counted.{Counted}
-use Rattle.counts.proofs.CountLaws.{counted_each_none, counted_each_more, Most, clauses_le, words_le}
-use Rattle.counts.proofs.EdgeLaws.{groups_most}
-use borrow.Author.Rules.{rules}
+use Rattle.counts.proofs.CountLaws.{clauses_le, words_le}
+use Rattle.counts.proofs.GroupLaws.{group_32}
 use Rattle.counts.proofs.group.groups_count.Goals as goal
-use Rattle.counts.proofs.group.groups_count.Goals.{After-group_count-a}
 
--- with one group more
-next : (c : After-group_count-a) → let l = c.loop-g in let r = c.group_count-a.result in
-    (o : ℕ) → Counted (each (l.g + 1) (group_piece c.args.b o)) (l.clauses + r.clauses) (l.words + r.words)
-next c o = counted_each_more _ (c.loop-g.invariant.2 o) (c.group_count-a.ensures (o + first_at c.args.b c.loop-g.g))
+pub sum-requires-clause-few : goal.sum-requires-clause-few
+sum-requires-clause-few c = omega (arith, at_most_nine (known_of_layout c.args.l.now))
 
-most : (c : After-group_count-a) → Most (each (c.loop-g.g + 1) (group_piece c.args.b 0)) 4473 13689
-most c = groups_most c.args.b c.requires 0 (c.loop-g.g + 1) (omega (arith, c.requires.groups_le, c.requires.vars_le))
+pub sum-requires-clause-callable : goal.sum-requires-clause-callable
+sum-requires-clause-callable c g p =
+    let l = c.args.l.now in
+    let few : size_at l.table g ≤ 64 = omega (arith, known_small (known_of_layout l) g p) in
+    search (rules, tests, few)
 
-pub loop-g-init : goal.loop-g-init
-loop-g-init c = (search rules, search rules, λ o. counted_each_none _)
-
-pub offset_bounds-b-g : goal.offset_bounds-b-g
-offset_bounds-b-g c = omega (arith, c.requires.groups_le, c.requires.vars_le)
-
-pub bounds-b-g : goal.bounds-b-g
-bounds-b-g c = omega (arith, c.requires.groups_le, c.requires.vars_le)
-
-pub group_count-a-requires : goal.group_count-a-requires
-group_count-a-requires c = omega (arith, c.requires.size_le c.loop-g.g)
-
-pub overflow_add-clauses : goal.overflow_add-clauses
-overflow_add-clauses c =
-    let k = (goal.at.overflow_add-clauses c).After-group_count-a in
-    omega (arith, clauses_le (next k 0) (most k))
-
-pub overflow_add-words : goal.overflow_add-words
-overflow_add-words c =
-    let k = (goal.at.overflow_add-words c).After-group_count-a in
-    omega (arith, words_le (next k 0) (most k))
-
-pub loop-g-preserved : goal.loop-g-preserved
-loop-g-preserved c = (search rules, search rules, next (goal.at.loop-g-preserved c).After-group_count-a)
+pub sum-requires-clause-small : goal.sum-requires-clause-small
+sum-requires-clause-small c g r p q =
+    let l = c.args.l.now in
+    let n : (first : ℕ) → Counted (group_clauses first (size_at l.table g)) r.clauses r.words = search (rules, tests) in
+    let m = group_32 0 (size_at l.table g) (known_small (known_of_layout l) g p) in
+    (omega (arith, clauses_le (n 0) m), omega (arith, words_le (n 0) m))
 
 pub returns : goal.returns
-returns c =
-    let done : c.loop-g.g ≡ c.args.b.groups = omega arith in
-    λ o. rw done at (c.loop-g.invariant.2 o)
+returns c o = c.sum.ensures _ (λ g r l e.
+    let n : (first : ℕ) → Counted (group_clauses first (size_at c.args.l.now.table g)) r.clauses r.words = search (rules, tests) in n (o + first_at c.args.l.now.table g))

@@ -1,21 +1,16 @@
--- count_part: for each rule the sum over the values in closed form.
-use native.Mathlib.Omega.{arith}
-use mathlib.Core.Path.{◌≡◌, ap, sym, ◌∙◌}
-use Prim.Native.Nat.{ℕ, ◌*◌}
-use lib.IntN.{ℤ}
-use mir.Syntax.{w8}
-use mir.Val.{to_z, of_z}
+-- `count_part`: for each rule the sum over the values in closed form.
+use Rattle.std.proofs.Common.{arith, rules, ap, sym, ◌∙◌, ◌≡◌, ◌*◌, ℕ, ℤ, to_z, of_z, w8}
+use mathlib.Core.Logic.{⊎_elim}
 use Rattle.model.specs.Indexed.{sum_below}
 use Rattle.model.proofs.IndexedLaws.{sum_const}
 use Rattle.parts.specs.declared.Rule.TheVariants.{Exclude, Shift}
 use Rattle.counts.specs.PartCounts.{rule_words}
 use Rattle.counts.proofs.PartLaws.{rule_sum_le, exclude_words}
-use borrow.Author.Rules.{rules}
 use Rattle.counts.proofs.part.count_part.Goals as goal
 
 pub overflow_mul-result : goal.overflow_mul-result
 overflow_mul-result c =
-    omega (arith, c.failing_count-failing.ensures, rule_sum_le (Exclude c.in-Exclude.relation c.in-Exclude.constant) c.args.p.size)
+    record { fits = omega (arith, c.failing_count-failing.ensures, rule_sum_le (Exclude c.in-Exclude.relation c.in-Exclude.constant) c.args.p.size) }
 
 pub returns-in-Exclude : goal.returns-in-Exclude
 returns-in-Exclude c =
@@ -26,12 +21,9 @@ returns-in-Exclude c =
 pub returns-in-Keep : goal.returns-in-Keep
 returns-in-Keep c =
     let n = c.args.p.size in
-    rw c.in-Keep.is (omega (arith, sum_const n 1), sym (sum_const n 4))
-
-pub returns-in-Rise : goal.returns-in-Rise
-returns-in-Rise c =
-    let n = c.args.p.size in
-    rw c.in-Rise.is (omega (arith, sum_const n 1), sym (sum_const n 4))
+    ⊎_elim
+    (λ e. rw e (omega (arith, sum_const n 1), sym (sum_const n 4)))
+    (λ e. rw e.2 (omega (arith, sum_const n 1), sym (sum_const n 4))) c.in-Keep.is
 
 pub returns-in-Shift : goal.returns-in-Shift
 returns-in-Shift c =
