@@ -43,5 +43,5 @@ pub fn put_page(
     }
     fill_row(layout, row - 1, texts);
     let count = put_base_piece(layout, bound, row - 1, p, words);
-    put_words(words, count, texts, out, 0)
+    put_words(&words[..count], texts, out, 0)
 }

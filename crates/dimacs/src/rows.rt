@@ -25,20 +25,14 @@ use parts::layout::Layout;
 fn base_row(row: usize) -> usize
     ensures { result ≡ base_row row }
 {
-    if row == 0 {
-        return 0;
-    }
-    1
+    if row == 0 { 0 } else { 1 }
 }
 
 // The bound of the list that has it.
 fn base_bound(bound: usize, row: usize) -> usize
     ensures { result ≡ base_bound bound row }
 {
-    if row <= bound {
-        return 1;
-    }
-    0
+    if row <= bound { 1 } else { 0 }
 }
 
 // The words of piece `p` of row `row`, as at the first block.
@@ -52,9 +46,7 @@ pub fn put_base_piece(
     requires { (row ≤ bound + 1) × (p < row_pieces layout.now.model bound row) × (most_piece_words ≤ length words.old) }
     ensures { Holds (piece_of layout.now.model (base_bound bound row) (base_row row) p) words.new result × (length words.new ≡ length words.old) }
 {
-    let reach = base_bound(bound, row);
-    let near = base_row(row);
-    put_piece(layout, reach, near, p, words)
+    put_piece(layout, base_bound(bound, row), base_row(row), p, words)
 }
 
 // The words of row `row`, as at the first block.
@@ -62,9 +54,7 @@ fn put_base_row(layout: &Layout, bound: usize, row: usize, words: &mut [i32]) ->
     requires { (row ≤ bound + 1) × FewWords layout.now.model × (most_piece_words ≤ length words.old) }
     ensures { Holds (row_of layout.now.model (base_bound bound row) (base_row row)) words.new result × (length words.new ≡ length words.old) }
 {
-    let reach = base_bound(bound, row);
-    let near = base_row(row);
-    put_rows(layout, reach, near, 1, words)
+    put_rows(layout, base_bound(bound, row), base_row(row), 1, words)
 }
 
 // How many variables come before those that row `row` names.
@@ -97,8 +87,7 @@ pub fn fill_row(layout: &Layout, row: usize, texts: &mut [u64])
     requires { (row ≤ 65) × (length texts.old ≡ entry_count) }
     ensures { TextsOf (block_at one_hot_width layout.now.model (row - 1)) (variables layout.now.model 1) texts.new }
 {
-    let start = row_start(layout, row);
-    fill_texts(start, row_width(layout), texts);
+    fill_texts(row_start(layout, row), row_width(layout), texts);
 }
 
 // Row `row`, piece after piece.
@@ -117,7 +106,7 @@ fn put_cut_row(
     let mut end = at;
     for p in 0..row_pieces(layout, bound, row) {
         let count = put_base_piece(layout, bound, row, p, words);
-        end = put_words(words, count, texts, out, end);
+        end = put_words(&words[..count], texts, out, end);
     }
     end
 }
@@ -170,7 +159,7 @@ fn put_whole_rows(
     for row in 0..bound + 2 {
         fill_row(layout, row, texts);
         held = put_row_words(layout, bound, row, held, words);
-        end = put_words(words, held, texts, out, end);
+        end = put_words(&words[..held], texts, out, end);
     }
     end
 }
@@ -209,7 +198,7 @@ fn cut_row_bytes(
     let mut bytes: usize = 0;
     for piece in 0..row_pieces(layout, bound, row) {
         let count = put_base_piece(layout, bound, row, piece, words);
-        bytes += words_bytes(words, count, texts);
+        bytes += words_bytes(&words[..count], texts);
     }
     bytes
 }
@@ -229,7 +218,7 @@ fn row_bytes(
     fill_row(layout, row, texts);
     if one.words <= WORDS {
         let count = put_base_row(layout, bound, row, words);
-        return words_bytes(words, count, texts);
+        return words_bytes(&words[..count], texts);
     }
     cut_row_bytes(layout, bound, row, words, texts)
 }
