@@ -102,10 +102,7 @@ fn read_output(text: &[u8], most: usize) -> Reading
 }
 
 // Reads a solver's output and writes the assignment that it names: 33, 34, 35.
-pub fn output_to_assignment(
-    text: &[u8],
-    assignment: &mut [u8],
-) -> Result<Outcome, OutputRefusal>
+pub fn output_to_assignment(text: &[u8], assignment: &mut [u8]) -> Result<Outcome, OutputRefusal>
     ensures result_value { output_told result ≡ output_report text.now (length assignment.old) }
     ensures assignment_after { assignment.new ≡ output_left text.now assignment.old }
 {

@@ -34,10 +34,7 @@ fn place(p: Placing, l: Literal, low: usize, marks: &mut [u8]) -> Placing
         && i < marks.len()
     {
         if marks[i] != Placing::UNNAMED {
-            return Placing {
-                bound: p.seen,
-                ..p
-            };
+            return Placing { bound: p.seen, ..p };
         }
         marks[i] = l.bare as u8;
     }

@@ -42,17 +42,15 @@ impl Reading {
         if self.has_ended() {
             return self;
         }
-        let line = self.line + 1;
+        let next = Reading {
+            line: self.line + 1,
+            ..self
+        };
         match self.stage.after(form) {
-            Some(stage) => Reading {
-                line,
-                stage,
-                ..self
-            },
+            Some(stage) => Reading { stage, ..next },
             None => Reading {
                 fault: Some(Fault::OutOfFormOrPlace),
-                line,
-                ..self
+                ..next
             },
         }
     }

@@ -1,8 +1,6 @@
 -- `is_values`: what follows the key decides; without the key it is false.
-use mathlib.Core.Path.{sym, ap, ◌∙◌}
+use mathlib.Core.Path.{sym}
 use Rattle.text.specs.bytes.Ascii.{ascii}
-use Rattle.text.specs.bytes.Bytes.{split_on}
-use Rattle.output.specs.Literals.{are_literals}
 use Rattle.output.specs.Lines.{is_values, words_of}
 use Rattle.output.proofs.LineLaws.{stripped}
 use Rattle.output.proofs.lines.is_values.Goals as goal

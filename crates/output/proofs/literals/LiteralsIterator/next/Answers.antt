@@ -1,15 +1,13 @@
 -- `next`: the first of the words that are left is read, and the others are left.
-use Prim.Native.Nat.{ℕ}
 use mathlib.Core.Path.{◌≡◌, sym, ap, ◌∙◌}
-use mathlib.Core.Bool.{Bool, not}
-use mathlib.Core.List.{List, [], ◌∷◌, map}
+use mathlib.Core.Bool.{not}
+use mathlib.Core.List.{◌∷◌, map}
 use native.Mathlib.Omega.{arith}
 use lib.ListN.{length}
 use Rattle.std.proofs.lemmas.Grind.{common_steps}
 use Rattle.text.specs.bytes.Bytes.{split_on}
 use Rattle.output.specs.Literals.{has_minus}
 use Rattle.output.specs.Counting.{literal_up_to, words_left, literals_left}
-use Rattle.output.specs.declared.literals.Literal.{Literal}
 use Rattle.output.proofs.WordLaws.{begins_minus, word_read}
 use Rattle.output.proofs.literals.LiteralsIterator.next.Goals as goal
 use Rattle.output.proofs.literals.LiteralsIterator.next.Goals.{After-starts_with}
