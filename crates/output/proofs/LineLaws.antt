@@ -91,7 +91,7 @@ one_of_values (Some Satisfiable) = 0
 one_of_values (Some Unsatisfiable) = 0
 one_of_values (Some Values) = 1
 
-pub values_long : (l : List ℕ) → form_of l ≡ (Some Values) → 2 ≤ length l
+pub values_long : (l : List ℕ) → form_of l ≡ Some Values → 2 ≤ length l
 values_long l e = ⊎_elim
     (λ h. let no : 0 ≡ 1 = ap one_of_values (sym (form_short l h) ∙ e) in absurd (omega (arith, no)))
     (λ h. h)

@@ -27,7 +27,7 @@ line_tokens_lem : (read : List ℕ → Literal) (l : List ℕ) {f : Option LineF
 unfolding line_tokens
 line_tokens_lem read l e = rw e
 
-other_words : (read : List ℕ → Literal) (l : List ℕ) (f : Option LineForm) → (f ≡ (Some Values) → ⊥) → literals_by read f l ≡ []
+other_words : (read : List ℕ → Literal) (l : List ℕ) (f : Option LineForm) → (f ≡ Some Values → ⊥) → literals_by read f l ≡ []
 other_words read l None other = refl
 other_words read l (Some Comment) other = refl
 other_words read l (Some Satisfiable) other = refl

@@ -15,10 +15,10 @@ use Rattle.output.proofs.literals.LiteralsIterator.next.Goals.{After-starts_with
 -- what is read, and what is left
 read : (c : After-starts_with) → literals_left c.args.self.now
     ≡ record { variable = c.number-variable.result.0; bare = not c.starts_with.result }
-    ∷ map (literal_up_to c.args.self.now.most) (words_left c.number-variable.result.1)
+    ∷ map (literal_up_to c.args.self.now.variables.most) (words_left c.number-variable.result.1)
 read c =
     let w = c.in_ok-words.words.now in
-    let most = c.args.self.now.most in
+    let most = c.args.self.now.variables.most in
     let n = c.number-variable.ensures in
     let minus : c.starts_with.result ≡ has_minus w = c.starts_with.ensures.value ∙ begins_minus w in
     let parts = ap (split_on 32) (sym c.unsigned.ensures) ∙ n.1 in
