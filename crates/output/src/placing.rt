@@ -21,27 +21,30 @@ impl Placing {
 
     // A byte of the window: the variable is not named yet.
     pub const UNNAMED: u8 = 2;
-}
 
-// One literal more.
-#[tactic(auto, unfolding(crate::specs::Placing::placed))]
-fn place(p: Placing, l: Literal, low: usize, marks: &mut [u8]) -> Placing
-    ensures { marking result marks.new ≡ placed low (marking p marks.old) l }
-{
-    if p.bound <= p.seen {
-        return p;
-    }
-    if let Some(i) = l.variable.checked_sub(low)
-        && i < marks.len()
+    // One literal more.
+    #[tactic(auto, unfolding(crate::specs::Placing::placed))]
+    fn place(self, l: Literal, low: usize, marks: &mut [u8]) -> Placing
+        ensures { marking result marks.new ≡ placed low (marking self marks.old) l }
     {
-        if marks[i] != Placing::UNNAMED {
-            return Placing { bound: p.seen, ..p };
+        if self.bound <= self.seen {
+            return self;
         }
-        marks[i] = l.bare as u8;
-    }
-    Placing {
-        seen: p.seen + 1,
-        ..p
+        if let Some(i) = l.variable.checked_sub(low)
+            && i < marks.len()
+        {
+            if marks[i] != Placing::UNNAMED {
+                return Placing {
+                    bound: self.seen,
+                    ..self
+                };
+            }
+            marks[i] = l.bare as u8;
+        }
+        Placing {
+            seen: self.seen + 1,
+            ..self
+        }
     }
 }
 
@@ -60,7 +63,7 @@ fn place_line(
     };
     let mut p = first;
     for literal in Literals::new(words, variables) {
-        p = place(p, literal, low, marks);
+        p = p.place(literal, low, marks);
     }
     p
 }

@@ -87,22 +87,20 @@ impl Reading {
             ..self
         }
     }
-}
 
-// A line without its LF, and then its literals.
-fn judge_whole_line(before: Reading, l: &[u8], variables: Variables, limit: usize) -> Reading
-    requires { before.line < 9223372036854775808 }
-    ensures { result ≡ foldl (count variables.most limit) before (line_tokens (literal_up_to variables.most) l.now) }
-{
-    let form = lines::form(l);
-    let r = before.judge_line(form);
-    match form {
-        Some(LineForm::Values) => {
-            Literals::new(&l[2..], variables).fold(r, |r, literal| {
+    // A line without its LF, and then its literals.
+    fn judge_whole_line(self, l: &[u8], variables: Variables, limit: usize) -> Reading
+        requires { self.line < 9223372036854775808 }
+        ensures { result ≡ foldl (count variables.most limit) self (line_tokens (literal_up_to variables.most) l.now) }
+    {
+        let form = lines::form(l);
+        let r = self.judge_line(form);
+        match form {
+            Some(LineForm::Values) => Literals::new(&l[2..], variables).fold(r, |r, literal| {
                 r.judge_literal(literal, variables.most, limit)
-            })
+            }),
+            _ => r,
         }
-        _ => r,
     }
 }
 
@@ -118,7 +116,7 @@ pub fn read_through(text: &[u8], variables: Variables, limit: usize) -> Reading
     };
     let mut rest = text;
     while let Some((line, after)) = bytes::split_once(rest, b'\n') {
-        r = judge_whole_line(r, line, variables, limit);
+        r = r.judge_whole_line(line, variables, limit);
         if r.has_ended() {
             return r;
         }

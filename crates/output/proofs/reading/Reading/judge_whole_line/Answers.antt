@@ -14,7 +14,7 @@ use Rattle.output.proofs.Parts.{rest_is}
 use Rattle.output.proofs.LiteralLaws.{left_is}
 use Rattle.output.proofs.LineLaws.{values_long}
 use Rattle.output.proofs.TokenLaws.{line_alone, line_words, fold_words}
-use Rattle.output.proofs.reading.judge_whole_line.Goals as goal
+use Rattle.output.proofs.reading.Reading.judge_whole_line.Goals as goal
 
 pub returns-in-Some-Values : goal.returns-in-Some-Values
 returns-in-Some-Values c =
