@@ -1,20 +1,18 @@
 -- Laws of the forms of a line.
 use Rattle.std.specs.Prelude.{Option, Some, None}
-use Prim.Native.Nat.{ℕ, ◌-◌, ◌≤◌, ◌<◌}
+use Prim.Native.Nat.{ℕ, ◌≤◌, ◌<◌}
 use mathlib.Core.Path.{◌≡◌, refl, sym, ◌∙◌, ap}
 use mathlib.Core.List.{List, [], ◌∷◌}
 use mathlib.Core.Logic.{⊎_elim}
 use mathlib.Core.Bool.{Bool, true, false, ◌&&◌}
 use native.Mathlib.Omega.{arith}
-use lib.ListN.{length, take, drop}
+use lib.ListN.{length, take}
 use lib.Dec.{eqb, eqb-suc-suc, eqb-suc-zero, eqb-zero-suc}
 use lib.Pointwise.{pointwise}
 use borrow.Author.Tests.{eq-eqb, ne_eqb, eqb-true, eqb-false}
 use Rattle.model.proofs.IndexedLaws.{lt_or_le}
-use Rattle.text.specs.bytes.Ascii.{ascii}
-use Rattle.text.specs.bytes.Bytes.{starts_with, split_on}
-use Rattle.output.specs.Literals.{are_literals}
-use Rattle.output.specs.Lines.{is_text, words_of, is_values, form_of}
+use Rattle.text.specs.bytes.Bytes.{starts_with}
+use Rattle.output.specs.Lines.{is_text, is_values, form_of}
 use Rattle.output.specs.declared.lines.LineForm.{LineForm}
 use Rattle.output.specs.declared.lines.LineForm.TheVariants.{Comment, Satisfiable, Unsatisfiable, Values}
 
@@ -93,7 +91,7 @@ one_of_values (Some Satisfiable) = 0
 one_of_values (Some Unsatisfiable) = 0
 one_of_values (Some Values) = 1
 
-pub values_long : (l : List ℕ) → form_of l ≡ (Some Values) → 2 ≤ length l
+pub values_long : (l : List ℕ) → form_of l ≡ Some Values → 2 ≤ length l
 values_long l e = ⊎_elim
     (λ h. let no : 0 ≡ 1 = ap one_of_values (sym (form_short l h) ∙ e) in absurd (omega (arith, no)))
     (λ h. h)

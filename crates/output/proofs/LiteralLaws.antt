@@ -1,13 +1,13 @@
 -- The literals of a text whatever the forms of its lines: what they are line by line, and that those counted by the first pass are the same as those
 -- of the lines that have the form.
 use Rattle.std.specs.Prelude.{Option, Some, None}
-use Prim.Native.Nat.{ℕ, zero, suc, ◌+◌, ◌-◌, ◌≤◌, ◌<◌}
+use Prim.Native.Nat.{ℕ, zero, suc, ◌+◌, ◌-◌, ◌≤◌}
 use mathlib.Core.Path.{◌≡◌, refl, sym, ap, ◌∙◌}
 use mathlib.Core.Logic.{◌⊎◌, inl, inr, ⊎_elim}
 use mathlib.Core.List.{List, [], ◌∷◌, ◌++◌, map, foldl, foldl-append}
 use mathlib.Core.Bool.{Bool, true, false, cond, ◌&&◌, ◌||◌, and-eq-true_iff}
 use native.Mathlib.Omega.{arith}
-use lib.ListN.{length, take, drop}
+use lib.ListN.{length, take}
 use lib.Dec.{ltb, leb, eqb}
 use borrow.Author.Tests.{ne_eqb, eqb-true}
 use Rattle.text.specs.bytes.Ascii.{ascii}
@@ -22,13 +22,14 @@ use Rattle.output.specs.declared.lines.LineForm.{LineForm}
 use Rattle.output.specs.declared.lines.LineForm.TheVariants.{Comment, Satisfiable, Unsatisfiable, Values}
 use Rattle.output.specs.declared.literals.Literal.{Literal}
 use Rattle.output.specs.declared.literals.Literals.{Literals}
+use Rattle.output.specs.declared.variables.Variables.{Variables}
 use Rattle.output.specs.declared.reading.Reading.{Reading}
 use Rattle.output.proofs.TokenLaws.{ByLine}
 use Rattle.output.proofs.CapLaws.{cut}
 use Rattle.output.proofs.CountLaws.{count_stays, line_case, literal_case, count_rises}
 
 -- ---- the literals of a line
-pub left_is : (l : Literals) {most : ℕ} {ws : List (List ℕ)} → l.most ≡ most → words_left l.words ≡ ws → literals_left l ≡ map (literal_up_to most) ws
+pub left_is : (l : Literals) {n : Variables} {ws : List (List ℕ)} → l.variables ≡ n → words_left l.words ≡ ws → literals_left l ≡ map (literal_up_to n.most) ws
 left_is l e h = rw (e, h)
 
 pub literals_by_line : (read : List ℕ → Literal) → ByLine (part_literals read) (line_literals read) (λ l. [])

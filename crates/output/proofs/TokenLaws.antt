@@ -1,13 +1,12 @@
 -- The tokens of a text, line by line: what they are from a place of the text on, a state that takes them one after the other, and the line
 -- that a reading has come to.
 use Rattle.std.specs.Prelude.{Option, Some, None}
-use Prim.Native.Nat.{ℕ, ◌+◌, ◌-◌, ◌≤◌, ◌<◌}
+use Prim.Native.Nat.{ℕ, ◌+◌, ◌≤◌}
 use mathlib.Core.Path.{◌≡◌, refl, sym, ap, ◌∙◌}
 use mathlib.Core.List.{List, [], ◌∷◌, ◌++◌, map, foldl, foldl-append}
 use mathlib.Core.Bool.{Bool, true, false, ◌||◌}
 use native.Mathlib.Omega.{arith}
-use lib.ListN.{length, take, drop, length-take, length-drop}
-use lib.Seq.{take_all}
+use lib.ListN.{length, drop}
 use lib.Dec.{ltb, leb, eqb}
 use borrow.Author.Tests.{le-leb}
 use Rattle.std.specs.List.{fold}
@@ -28,7 +27,7 @@ line_tokens_lem : (read : List ℕ → Literal) (l : List ℕ) {f : Option LineF
 unfolding line_tokens
 line_tokens_lem read l e = rw e
 
-other_words : (read : List ℕ → Literal) (l : List ℕ) (f : Option LineForm) → (f ≡ (Some Values) → ⊥) → literals_by read f l ≡ []
+other_words : (read : List ℕ → Literal) (l : List ℕ) (f : Option LineForm) → (f ≡ Some Values → ⊥) → literals_by read f l ≡ []
 other_words read l None other = refl
 other_words read l (Some Comment) other = refl
 other_words read l (Some Satisfiable) other = refl

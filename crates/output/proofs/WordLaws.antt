@@ -19,7 +19,6 @@ use Rattle.model.proofs.IndexedLaws.{lt_or_le}
 use Rattle.text.specs.bytes.Bytes.{is_digit, split_on, grow}
 use Rattle.output.specs.Literals.{are_digits, is_positive, has_minus, unsigned, is_zero, names_variable, are_literals, number_after}
 use Rattle.output.specs.Counting.{capped, literal_up_to}
-use Rattle.output.specs.declared.literals.Literal.{Literal}
 use Rattle.output.proofs.Parts.{part_any}
 use Rattle.output.proofs.LineLaws.{flip}
 
@@ -44,7 +43,7 @@ begins_minus (b ∷ w) = rw (flip 45 b) (and_true (eqb b 45))
 
 pub unsigned_is : (w : Bor (List ℕ)) (r : Option (Bor (List ℕ))) {u : Bor (List ℕ)}
     → MatchOption r (pointwise eqb (take 1 w.now) (45 ∷ []) ≡ false)
-      (λ x. (pointwise eqb (take 1 w.now) (45 ∷ []) ≡ true) × (x.now ≡ drop 1 w.now) × (length x.now + 1 ≡ length w.now))
+    (λ x. (pointwise eqb (take 1 w.now) (45 ∷ []) ≡ true) × (x.now ≡ drop 1 w.now) × (length x.now + 1 ≡ length w.now))
     → u ≡ unwrap_or r w → u.now ≡ unsigned w.now
 unfolding unsigned
 unsigned_is w None m e = ap (λ (l : Bor (List ℕ)). l.now) e ∙ rw (sym (stripped_minus w.now) ∙ m)

@@ -28,7 +28,7 @@ words_left (Some l) = split_on 32 l.now
 
 -- the literals that they are
 abbrev pub literals_left : Literals → List Literal
-literals_left l = map (literal_up_to l.most) (words_left l.words)
+literals_left l = map (literal_up_to l.variables.most) (words_left l.words)
 
 -- what was read so far, by numbers
 abbrev pub counted_from : Progress → Reading

@@ -6,6 +6,7 @@ ghost use Rattle.output.specs.Literals.{unsigned, is_positive, names_variable, a
 ghost use Rattle.output.specs.Counting.{capped, words_left, literals_left};
 
 use crate::bytes;
+use crate::variables::Variables;
 
 // A variable, counted from 1, or 0, and whether the literal is bare.
 #[derive(Clone, Copy, Debug, PartialEq, Eq)]
@@ -18,12 +19,7 @@ pub struct Literal {
 #[derive(Drop)]
 pub struct Literals<'a> {
     words: Option<&'a [u8]>,
-    most: usize,
-}
-
-impl Literal {
-    // A tenth of 2 to the 63, which no buffer's length reaches.
-    pub const TENTH: usize = 922337203685477580;
+    variables: Variables,
 }
 
 // What follows the minus, if there is one.
@@ -71,40 +67,38 @@ pub fn are_literals(s: &[u8]) -> bool
 }
 
 // One digit more, up to `most` and one.
-fn next_number(v: usize, b: u8, most: usize) -> usize
-    requires { most < 9223372036854775808 }
-    ensures { result ≡ capped most (v * 10 + (b - 48)) }
+fn next_number(v: usize, b: u8, variables: Variables) -> usize
+    ensures { result ≡ capped variables.most (v * 10 + (b - 48)) }
 {
-    if Literal::TENTH < v {
-        return most + 1;
+    if Variables::TENTH < v {
+        return variables.most + 1;
     }
     let n = v * 10 + b.saturating_sub(b'0') as usize;
-    if most < n { most + 1 } else { n }
+    n.min(variables.most + 1)
 }
 
 // The number that the bytes before the first space say, of any length, up to `most` and one, and the words that follow.
-fn number(s: &[u8], most: usize) -> (usize, Option<&[u8]>)
-    requires { most < 9223372036854775808 }
-    ensures { (w : List ℕ) × (split_on 32 s.now ≡ w ∷ words_left result.1) × (result.0 ≡ capped most (number_after 0 w)) }
+fn number(s: &[u8], variables: Variables) -> (usize, Option<&[u8]>)
+    ensures { (w : List ℕ) × (split_on 32 s.now ≡ w ∷ words_left result.1) × (result.0 ≡ capped variables.most (number_after 0 w)) }
 {
     let mut n = 0;
     for (i, b) in s.iter().enumerate() {
         if *b == b' ' {
             return (n, Some(&s[i + 1..]));
         }
-        n = next_number(n, *b, most);
+        n = next_number(n, *b, variables);
     }
     (n, None)
 }
 
 impl<'a> Literals<'a> {
     // Those of a line, from its first word on.
-    pub fn new(words: &'a [u8], most: usize) -> Literals<'a>
-        ensures { (result.most ≡ most) × (words_left result.words ≡ split_on 32 words.now) }
+    pub fn new(words: &'a [u8], variables: Variables) -> Literals<'a>
+        ensures { (result.variables ≡ variables) × (words_left result.words ≡ split_on 32 words.now) }
     {
         Literals {
             words: Some(words),
-            most,
+            variables,
         }
     }
 }
@@ -112,15 +106,13 @@ impl<'a> Literals<'a> {
 impl<'a> Iterator for Literals<'a> {
     type Item = Literal;
 
-    ghost can_next = { λ s. s.most < 9223372036854775808 };
-
     ghost next_gives = { YieldsFirst literals_left };
 
     ghost remaining = { item_count literals_left };
 
     fn next(&mut self) -> Option<Literal> {
         let words = self.words?;
-        let (variable, rest) = number(unsigned(words), self.most);
+        let (variable, rest) = number(unsigned(words), self.variables);
         self.words = rest;
         Some(Literal {
             variable,

@@ -6,6 +6,7 @@ ghost use Rattle.output.specs.Counting.{literal_up_to, no_reading, count_line, c
 
 use crate::lines::{LineForm, Stage};
 use crate::literals::{Literal, Literals};
+use crate::variables::Variables;
 use crate::{bytes, lines};
 
 // Why a text is refused.
@@ -42,17 +43,15 @@ impl Reading {
         if self.has_ended() {
             return self;
         }
-        let line = self.line + 1;
+        let next = Reading {
+            line: self.line + 1,
+            ..self
+        };
         match self.stage.after(form) {
-            Some(stage) => Reading {
-                line,
-                stage,
-                ..self
-            },
+            Some(stage) => Reading { stage, ..next },
             None => Reading {
                 fault: Some(Fault::OutOfFormOrPlace),
-                line,
-                ..self
+                ..next
             },
         }
     }
@@ -88,27 +87,26 @@ impl Reading {
             ..self
         }
     }
-}
 
-// A line without its LF, and then its literals.
-fn judge_whole_line(before: Reading, l: &[u8], most: usize, limit: usize) -> Reading
-    requires { (most < 9223372036854775808) × (before.line < 9223372036854775808) }
-    ensures { result ≡ foldl (count most limit) before (line_tokens (literal_up_to most) l.now) }
-{
-    let form = lines::form(l);
-    let r = before.judge_line(form);
-    match form {
-        Some(LineForm::Values) => {
-            Literals::new(&l[2..], most).fold(r, |r, literal| r.judge_literal(literal, most, limit))
+    // A line without its LF, and then its literals.
+    fn judge_whole_line(self, l: &[u8], variables: Variables, limit: usize) -> Reading
+        requires { self.line < 9223372036854775808 }
+        ensures { result ≡ foldl (count variables.most limit) self (line_tokens (literal_up_to variables.most) l.now) }
+    {
+        let form = lines::form(l);
+        let r = self.judge_line(form);
+        match form {
+            Some(LineForm::Values) => Literals::new(&l[2..], variables).fold(r, |r, literal| {
+                r.judge_literal(literal, variables.most, limit)
+            }),
+            _ => r,
         }
-        _ => r,
     }
 }
 
 // The whole text, up to the first fault.
-pub fn read_through(text: &[u8], most: usize, limit: usize) -> Reading
-    requires { most < 9223372036854775808 }
-    ensures { (result ≡ foldl (count most limit) no_reading (tokens_of (literal_up_to most) text.now)) × (result.line ≤ length text.now) }
+pub fn read_through(text: &[u8], variables: Variables, limit: usize) -> Reading
+    ensures { (result ≡ foldl (count variables.most limit) no_reading (tokens_of (literal_up_to variables.most) text.now)) × (result.line ≤ length text.now) }
 {
     let mut r = Reading {
         fault: None,
@@ -118,7 +116,7 @@ pub fn read_through(text: &[u8], most: usize, limit: usize) -> Reading
     };
     let mut rest = text;
     while let Some((line, after)) = bytes::split_once(rest, b'\n') {
-        r = judge_whole_line(r, line, most, limit);
+        r = r.judge_whole_line(line, variables, limit);
         if r.has_ended() {
             return r;
         }

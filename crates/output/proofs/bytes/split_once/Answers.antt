@@ -1,5 +1,5 @@
 -- `split_once`: a list is cut at the place that `position` answers.
-use Rattle.std.proofs.Common.{ℕ, ◌+◌, rules, tests, arith, eqb}
+use Rattle.std.proofs.Common.{◌+◌, rules, tests, arith, eqb}
 use Rattle.std.proofs.lemmas.Iterator.{YieldsList-from_slice}
 use Rattle.std.proofs.lemmas.Iterator.Search.{position_from_yields_List}
 use lib.ListN.{length-take, length-drop}

@@ -1,5 +1,5 @@
 -- `is_positive`: the first byte decides the definition, and then the others.
-use Rattle.std.proofs.Common.{ℕ, ◌<◌, length, rules, tests, arith, ◌∙◌}
+use Rattle.std.proofs.Common.{rules, tests, arith, ◌∙◌}
 use borrow.Author.Tests.{eq-eqb}
 use Rattle.std.proofs.lemmas.Iterator.{YieldsList-from_slice}
 use Rattle.std.proofs.lemmas.Iterator.Search.{all_from_yields_List}

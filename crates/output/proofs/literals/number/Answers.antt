@@ -1,6 +1,5 @@
 -- `number`: the invariant is `Saying`, that the bytes passed say the number and none of them is a space.
 use Prim.Native.Nat.{◌+◌}
-use mathlib.Core.List.{List}
 use lib.ListN.{take}
 use Rattle.output.proofs.Parts.{rest_is}
 use Rattle.output.proofs.WordLaws.{saying_none, saying_more, saying_space, saying_all}

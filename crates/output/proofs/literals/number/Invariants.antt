@@ -3,4 +3,4 @@ use Rattle.output.proofs.WordLaws.{Saying}
 use Rattle.output.proofs.literals.number.Given as goal
 
 abbrev pub invariant-loop-i : goal.invariant-loop-i
-invariant-loop-i l = Saying l.s l.most l.n l.i
+invariant-loop-i l = Saying l.s l.variables.most l.n l.i

@@ -15,6 +15,6 @@ loop-low-preserved c = (omega arith, look_next 32768 c.loop-low.invariant.1 c.pl
 pub returns : goal.returns
 returns c =
     let args = c.args in
-    let most = args.most in
+    let most = args.variables.most in
     let text = args.text.now in
     look_end c.loop-low.invariant.1 most (literals_of literal_of text) (literals_cut most text) c.loop-low-test.false

@@ -8,7 +8,7 @@ use Rattle.output.proofs.placing.place_literals.Given as goal
 
 abbrev pub invariant-loop-line : goal.invariant-loop-line
 invariant-loop-line l =
-    Passing (placed l.low) (part_literals (literal_up_to l.most)) (marking (record { seen = 0; bound = l.bound }) l.initial.marks) l.text
+    Passing (placed l.low) (part_literals (literal_up_to l.variables.most)) (marking (record { seen = 0; bound = l.bound }) l.initial.marks) l.text
     (marking l.p l.marks) l.rest
 
 abbrev pub decreases-loop-line : goal.decreases-loop-line

@@ -35,7 +35,7 @@ loop-line-init c = (pass_none, omega arith)
 pub loop-line-preserved : goal.loop-line-preserved
 loop-line-preserved c =
     let a = c.args in
-    turned a.text.now a.most a.limit c.loop-line.r _ _ _ _ c.loop-line.invariant c.in-Some.ensures c.judge_whole_line-r.ensures
+    turned a.text.now a.variables.most a.limit c.loop-line.r _ _ _ _ c.loop-line.invariant c.in-Some.ensures c.judge_whole_line-r.ensures
 
 pub returns-then-has_ended : goal.returns-then-has_ended
 unfolding tokens_of
@@ -43,15 +43,15 @@ returns-then-has_ended c =
     let a = c.args in
     let r = c.judge_whole_line-r.result in
     let fault : is_no_fault r.fault ≡ false = grind (arith, common_steps) in
-    let after = turned a.text.now a.most a.limit c.loop-line.r _ _ _ _ c.loop-line.invariant c.in-Some.ensures c.judge_whole_line-r.ensures in
-    (pass_stays after.0 (fault_stays a.most a.limit r fault), omega (arith, after.1))
+    let after = turned a.text.now a.variables.most a.limit c.loop-line.r _ _ _ _ c.loop-line.invariant c.in-Some.ensures c.judge_whole_line-r.ensures in
+    (pass_stays after.0 (fault_stays a.variables.most a.limit r fault), omega (arith, after.1))
 
 pub returns-then-is_empty : goal.returns-then-is_empty
 unfolding tokens_of
 returns-then-is_empty c =
     let loop = c.loop-line in
     let a = c.args in
-    let nothing = ap (foldl (count a.most a.limit) loop.r) (sym (last_none loop.rest.now (grind (arith, common_steps)))) in
+    let nothing = ap (foldl (count a.variables.most a.limit) loop.r) (sym (last_none loop.rest.now (grind (arith, common_steps)))) in
     (nothing ∙ pass_last loop.invariant.0 (tokens_by_line _) c.in_default.ensures, omega (arith, loop.invariant.1))
 
 pub returns-else-is_empty : goal.returns-else-is_empty
@@ -60,7 +60,7 @@ returns-else-is_empty c =
     let loop = c.loop-line in
     let a = c.args in
     let long : 0 < length loop.rest.now = grind (arith, common_steps) in
-    let some = ap (foldl (count a.most a.limit) loop.r) (sym (last_some loop.rest.now (λ h. omega (arith, h, long)))) in
+    let some = ap (foldl (count a.variables.most a.limit) loop.r) (sym (last_some loop.rest.now (λ h. omega (arith, h, long)))) in
     let number = ap (λ (r : Reading). r.line) c.judge_line.ensures in (
       c.judge_line.ensures ∙ some ∙ pass_last loop.invariant.0 (tokens_by_line _) c.in_default.ensures,
       omega (arith, number, line_grows None loop.r, loop.invariant.1, long),

@@ -9,7 +9,8 @@ use Rattle.output.proofs.reading.read_through.Given as goal
 
 abbrev pub invariant-loop-line : goal.invariant-loop-line
 invariant-loop-line l =
-    Passing (count l.most l.limit) (part_tokens (literal_up_to l.most)) no_reading l.text l.r l.rest × (l.r.line + length l.rest ≤ length l.text)
+    Passing (count l.variables.most l.limit) (part_tokens (literal_up_to l.variables.most)) no_reading l.text l.r l.rest
+    × (l.r.line + length l.rest ≤ length l.text)
 
 abbrev pub decreases-loop-line : goal.decreases-loop-line
 decreases-loop-line l = length l.rest

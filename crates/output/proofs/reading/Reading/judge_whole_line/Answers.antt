@@ -14,20 +14,21 @@ use Rattle.output.proofs.Parts.{rest_is}
 use Rattle.output.proofs.LiteralLaws.{left_is}
 use Rattle.output.proofs.LineLaws.{values_long}
 use Rattle.output.proofs.TokenLaws.{line_alone, line_words, fold_words}
-use Rattle.output.proofs.reading.judge_whole_line.Goals as goal
+use Rattle.output.proofs.reading.Reading.judge_whole_line.Goals as goal
 
 pub returns-in-Some-Values : goal.returns-in-Some-Values
 returns-in-Some-Values c =
     let a = c.args in
+    let most = a.variables.most in
     let words = split_on 32 (drop 2 a.l.now) in
     let parts = c.new.ensures.1 ∙ ap (split_on 32) (rest_is 2 a.l.now) in
-    let read = map (literal_up_to a.most) words in
+    let read = map (literal_up_to most) words in
     let folded =
-    fold_from_yields_List _ (λ (r : Reading) (l : Literal). count_literal a.most a.limit l r) _ _ c.fold.ensures.ran
+    fold_from_yields_List _ (λ (r : Reading) (l : Literal). count_literal most a.limit l r) _ _ c.fold.ensures.ran
     (YieldsList-from_first (λ l. l) literals_left read (left_is c.new.result c.new.ensures.0 parts))
     (λ r l b q k. search rules) in
-    line_words (count a.most a.limit) (literal_up_to a.most) a.l.now c.form-form.ensures c.judge_line-r.ensures
-    (search rules) (folded ∙ fold_words a.most a.limit (literal_up_to a.most) words c.judge_line-r.result)
+    line_words (count most a.limit) (literal_up_to most) a.l.now c.form-form.ensures c.judge_line-r.ensures
+    (search rules) (folded ∙ fold_words most a.limit (literal_up_to most) words c.judge_line-r.result)
 
 pub slice_bounds-new-end : goal.slice_bounds-new-end
 slice_bounds-new-end c =
@@ -47,9 +48,11 @@ slice_bounds-new-start c =
 pub returns-in_default : goal.returns-in_default
 returns-in_default c =
     let a = c.args in
-    line_alone (count a.most a.limit) (literal_up_to a.most) a.l.now c.form-form.ensures c.judge_line-r.ensures (grind (arith, common_steps))
+    let most = a.variables.most in
+    line_alone (count most a.limit) (literal_up_to most) a.l.now c.form-form.ensures c.judge_line-r.ensures (grind (arith, common_steps))
 
 pub returns-in_default-2 : goal.returns-in_default-2
 returns-in_default-2 c =
     let a = c.args in
-    line_alone (count a.most a.limit) (literal_up_to a.most) a.l.now c.form-form.ensures c.judge_line-r.ensures (grind (arith, common_steps))
+    let most = a.variables.most in
+    line_alone (count most a.limit) (literal_up_to most) a.l.now c.form-form.ensures c.judge_line-r.ensures (grind (arith, common_steps))
