@@ -33,22 +33,15 @@ fn put_update(
     ensures { WroteClauses (part_clauses x (update_part b.now o order i update)) out.old out.new at result }
 {
     let group = b.group(1 + i);
+    let size = group.size as usize;
     let greatest = b.counters[i].greatest;
     let block = o as u16;
     let next = block + b.state as u16 + b.choices as u16;
     let after = (next + group.first) as usize;
     match update {
         Update::Keep => {
-            let kept = block + group.first;
-            put_row(
-                x,
-                kept as usize,
-                after,
-                group.size as usize,
-                Rule::Keep,
-                out,
-                at,
-            )
+            let kept = (block + group.first) as usize;
+            put_row(x, kept, after, size, Rule::Keep, out, at)
         }
         Update::Constant(n) => {
             if n <= greatest {
@@ -61,9 +54,9 @@ fn put_update(
             let read = b.group(1 + source as usize);
             let following = next as usize;
             let from = read_at(order, source, i as u8, o, following);
-            let before = from as u16 + read.first;
+            let before = (from as u16 + read.first) as usize;
             let rule = Rule::Shift { offset, greatest };
-            put_row(x, before as usize, after, read.size as usize, rule, out, at)
+            put_row(x, before, after, read.size as usize, rule, out, at)
         }
     }
 }
@@ -94,35 +87,20 @@ fn put_reset(
     ensures { WroteClauses (part_clauses x (reset_part b.now o i update)) out.old out.new at result }
 {
     let group = b.group(1 + b.vars + i);
+    let size = group.size as usize;
     let block = o as u16;
     let later = block + b.state as u16 + b.choices as u16;
     let after = (later + group.first) as usize;
     match update {
         ClockUpdate::Unchanged => {
-            let unchanged = block + group.first;
-            put_row(
-                x,
-                unchanged as usize,
-                after,
-                group.size as usize,
-                Rule::Keep,
-                out,
-                at,
-            )
+            let unchanged = (block + group.first) as usize;
+            put_row(x, unchanged, after, size, Rule::Keep, out, at)
         }
         ClockUpdate::Reset => put_row(x, 0, after, 1, Rule::Set(0), out, at),
         ClockUpdate::Copy { source } => {
             let read = b.group(1 + b.vars + source as usize);
-            let copied = block + read.first;
-            put_row(
-                x,
-                copied as usize,
-                after,
-                read.size as usize,
-                Rule::Keep,
-                out,
-                at,
-            )
+            let copied = (block + read.first) as usize;
+            put_row(x, copied, after, read.size as usize, Rule::Keep, out, at)
         }
     }
 }

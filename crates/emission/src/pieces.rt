@@ -27,10 +27,10 @@ pub fn row_pieces(layout: &Layout, bound: usize, row: usize) -> usize
 {
     if row == 0 {
         state_pieces(layout) + 1
-    } else if row <= bound {
-        1 + layout.table.choices + state_pieces(layout)
-    } else {
+    } else if row > bound {
         1
+    } else {
+        1 + layout.table.choices + state_pieces(layout)
     }
 }
 
@@ -91,10 +91,10 @@ fn put_row(layout: &Layout, bound: usize, row: usize, out: &mut [i32]) -> usize
 {
     if row == 0 {
         put_start(layout, out)
-    } else if row <= bound {
-        put_step(layout, row - 1, out)
-    } else {
+    } else if bound < row {
         put_end(layout, bound, out)
+    } else {
+        put_step(layout, row - 1, out)
     }
 }
 

@@ -81,12 +81,12 @@ fn put_members(b: usize, n: usize, out: &mut [i32], at: usize) -> usize
     requires { (b + n ≤ most_variables) × RoomFor (one (members b n)) out.old at }
     ensures { WroteClauses (one (members b n)) out.old out.new at result }
 {
-    let end = at + n;
-    for (v, member) in out[at..end].iter_mut().enumerate() {
+    let last = at + n;
+    for (v, member) in out[at..last].iter_mut().enumerate() {
         *member = positive((b as u16 + v as u16) as usize);
     }
-    out[end] = 0;
-    end + 1
+    out[last] = 0;
+    last + 1
 }
 
 // The pairs of member `i` and each member after it.

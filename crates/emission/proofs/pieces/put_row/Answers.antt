@@ -21,22 +21,22 @@ pub put_step-requires : goal.put_step-requires
 put_step-requires c =
     let a = c.args in
     let m = a.layout.now.model in
-    (omega (arith, c.requires.0, c.if-row-eq0.false, c.if-row-bound.true), room_as (step_row m a.bound a.row c.if-row-eq0.false c.if-row-bound.true) c.requires.2)
+    (omega (arith, c.requires.0, c.if-row-eq0.false, c.if-bound-row.false), room_as (step_row m a.bound a.row c.if-row-eq0.false c.if-bound-row.false) c.requires.2)
 
-pub returns-then-row-bound : goal.returns-then-row-bound
-returns-then-row-bound c =
+pub returns-else-bound-row : goal.returns-else-bound-row
+returns-else-bound-row c =
     let a = c.args in
     let m = a.layout.now.model in
-    wrote_as (step_row m a.bound a.row c.if-row-eq0.false c.if-row-bound.true) c.put_step.ensures
+    wrote_as (step_row m a.bound a.row c.if-row-eq0.false c.if-bound-row.false) c.put_step.ensures
 
 pub put_end-requires : goal.put_end-requires
 put_end-requires c =
     let a = c.args in
     let m = a.layout.now.model in
-    (c.requires.0, room_as (end_joined m a.bound a.row c.if-row-bound.false) c.requires.2)
+    (c.requires.0, room_as (end_joined m a.bound a.row c.if-bound-row.true) c.requires.2)
 
-pub returns-else-row-bound : goal.returns-else-row-bound
-returns-else-row-bound c =
+pub returns-then-bound-row : goal.returns-then-bound-row
+returns-then-bound-row c =
     let a = c.args in
     let m = a.layout.now.model in
-    wrote_as (end_joined m a.bound a.row c.if-row-bound.false) c.put_end.ensures
+    wrote_as (end_joined m a.bound a.row c.if-bound-row.true) c.put_end.ensures
