@@ -12,7 +12,7 @@ use lib.Seq.{take-suc, get_or-drop}
 use Rattle.model.specs.Indexed.{each}
 use Rattle.model.proofs.IndexedLaws.{each_zero, each_suc}
 use Rattle.list.specs.Clauses.{Literal, bare, Clause, one, members}
-use Rattle.list.specs.Assignments.{bit, literal_true, clause_true, true_before}
+use Rattle.list.specs.Assignments.{literal_true, clause_true, true_before}
 use Rattle.list.proofs.ListLaws.{each_more}
 use Rattle.list.proofs.Searching.{true_before_le}
 use Rattle.std.specs.Prelude.{Result, Ok, Err}
@@ -222,11 +222,5 @@ pub checked_in : (a : List ℕ) (c : Clause) (i : ℕ) {b : Bool} {r : Result �
 checked_in a c i e h = rw e h
 
 -- ---- the same clauses, said otherwise
-pub passed_as : {a : List ℕ} {cs ds : List Clause} {i j : ℕ} → cs ≡ ds → Passed a cs i j → Passed a ds i j
-passed_as {a} {cs} {ds} {i} {j} e p = subst (λ (x : List Clause). Passed a x i j) e p
-
-pub failed_as : {a : List ℕ} {cs ds : List Clause} {i j : ℕ} → cs ≡ ds → Failed a cs i j → Failed a ds i j
-failed_as {a} {cs} {ds} {i} {j} e p = subst (λ (x : List Clause). Failed a x i j) e p
-
 pub checked_as : {a : List ℕ} {cs ds : List Clause} {i n : ℕ} {r : Result ℕ ℕ} → cs ≡ ds → Checked a cs i n r → Checked a ds i n r
 checked_as {a} {cs} {ds} {i} {n} {r} e p = subst (λ (x : List Clause). Checked a x i n r) e p

@@ -59,7 +59,7 @@ module _ {m : Model} {b : GroupTable} (k : Known m b) (o t : ℕ) (at-o : o ≡ 
           → Checked a (step_clauses m t) i most_step_clauses (Err j)
       edges_failed d =
           checked_as step_is (checked_stop _ most_step_clauses
-            (checked_then (most_front_clauses + 32 * most_edge_clauses) (passed_check c) d (omega (arith, c.most))) (omega arith))
+          (checked_then (most_front_clauses + 32 * most_edge_clauses) (passed_check c) d (omega (arith, c.most))) (omega arith))
 
       -- a false clause of the state, or none
       pub state_checked : {j : ℕ} {r : Result ℕ ℕ} → Checked a (each m.used (edge_clauses m o)) front (32 * most_edge_clauses) (Ok j)

@@ -119,9 +119,9 @@ fn check_list(layout: &Layout, bound: usize, a: &[u8]) -> Result<usize, usize>
     requires { (bound ≤ 64) × (length a.now ≡ variables layout.now.model bound) }
     ensures { Checked a.now (clauses layout.now.model bound) 0 most_counted result }
 {
-    let invariants = invariant_table(layout.model, layout.table);
+    let invariants = invariant_table(layout);
     let start = check_start(layout, &invariants, a)?;
-    let edges = edge_table(layout.model, layout.table);
+    let edges = edge_table(layout);
     let count = check_steps(layout, &invariants, &edges, bound, a, start)?;
     let end = layout.variable_number(bound, layout.model.target as usize) - 1;
     counted(is_true(a, end), count)

@@ -44,13 +44,13 @@ fn check_location(
         × (at + most_invariant_clauses ≤ most_counted) }
     ensures { Checked a.now (location_piece layout.now.model layout.now.table o l) at most_invariant_clauses result }
 {
-    let x = o + l;
-    if !is_true(a, x) {
+    let location = o + l;
+    if !is_true(a, location) {
         return Ok(at + table[l]);
     }
     let mut count = at;
     for atom in &layout.model.invariants[l].atoms {
-        count = check_part(a, x, layout.table.atom_part(o, *atom), count)?;
+        count = check_part(a, location, layout.table.atom_part(o, *atom), count)?;
     }
     Ok(count)
 }

@@ -1,7 +1,6 @@
 -- check_edge: the clauses of the first parts of the edge are true; those of an edge that is false are passed over.
-use Rattle.std.proofs.Common.{arith, ap, sym, refl, length, ◌+◌, ◌≡◌}
+use Rattle.std.proofs.Common.{arith, ap, sym, refl, length}
 use Rattle.model.proofs.FormLaws.{choices_is}
-use Rattle.model.specs.Automaton.{ceiling, state_size}
 use Rattle.counts.specs.Tables.{most_edge_clauses}
 use Rattle.parts.specs.Rules.{part_clauses}
 use Rattle.parts.proofs.KnownLaws.{known_bounded, known_state, known_top, wf}
@@ -65,10 +64,11 @@ edge_part-requires c = (known_bounded (known_of_layout c.args.layout.now), c.req
 pub check_part-requires : goal.check_part-requires
 check_part-requires c =
     let k = known_of_layout c.args.layout.now in
-    let pre = c.requires in
-    (omega (arith, known_state k, known_top k, choices_is c.args.layout.now.model, pre.1, pre.3),
-     part_fits k c.args.o (length c.args.a.now) c.args.e c.loop-j.j pre.3 pre.1 c.loop-j-test.true c.edge_part.ensures,
-     omega (arith, c.loop-j.invariant.few, c.loop-j-test.true, (known_bounded k).groups_le, (known_bounded k).vars_le, pre.4))
+    let pre = c.requires in (
+      omega (arith, known_state k, known_top k, choices_is c.args.layout.now.model, pre.1, pre.3),
+      part_fits k c.args.o (length c.args.a.now) c.args.e c.loop-j.j pre.3 pre.1 c.loop-j-test.true c.edge_part.ensures,
+      omega (arith, c.loop-j.invariant.few, c.loop-j-test.true, (known_bounded k).groups_le, (known_bounded k).vars_le, pre.4),
+    )
 
 pub returns-in_err-count : goal.returns-in_err-count
 returns-in_err-count c =

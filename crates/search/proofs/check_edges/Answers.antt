@@ -11,9 +11,13 @@ loop-e-init c = upto_none
 
 pub check_edge-requires : goal.check_edge-requires
 check_edge-requires c =
-    let pre = c.requires in
-    (pre.0, c.loop-e-test.true, pre.1, pre.2,
-     omega (arith, pre.3, c.loop-e.invariant.few, c.loop-e-test.true, (wf (known_of_layout c.args.layout.now)).used_le))
+    let pre = c.requires in (
+      pre.0,
+      c.loop-e-test.true,
+      pre.1,
+      pre.2,
+      omega (arith, pre.3, c.loop-e.invariant.few, c.loop-e-test.true, (wf (known_of_layout c.args.layout.now)).used_le),
+    )
 
 pub returns-in_err-count : goal.returns-in_err-count
 returns-in_err-count c =

@@ -39,9 +39,12 @@ check_state-requires c =
     let k = known_of_layout c.args.layout.now in
     let at-o = c.block_start-o.ensures in
     let pre = c.requires in
-    let next = c.block_start.ensures ∙ after_step k _ c.args.t at-o in
-    (pre.0, omega (arith, next, step_small k _ c.args.t at-o pre.2), omega (arith, next, at-o, pre.3),
-     omega (arith, c.in_ok-front.ensures.most, c.in_ok-count.ensures.most, pre.4))
+    let next = c.block_start.ensures ∙ after_step k _ c.args.t at-o in (
+      pre.0,
+      omega (arith, next, step_small k _ c.args.t at-o pre.2),
+      omega (arith, next, at-o, pre.3),
+      omega (arith, c.in_ok-front.ensures.most, c.in_ok-count.ensures.most, pre.4),
+    )
 
 pub returns : goal.returns
 returns c =

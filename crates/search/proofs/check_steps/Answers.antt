@@ -10,10 +10,13 @@ loop-t-init c = upto_none
 
 pub check_step-requires : goal.check_step-requires
 check_step-requires c =
-    let pre = c.requires in
-    (pre.0, pre.1, omega (arith, c.loop-t-test.true, pre.2),
-     omega (arith, step_room c.args.layout.now.model c.loop-t.t c.args.bound c.loop-t-test.true, pre.3),
-     omega (arith, c.loop-t.invariant.few, c.loop-t-test.true, pre.2, pre.4))
+    let pre = c.requires in (
+      pre.0,
+      pre.1,
+      omega (arith, c.loop-t-test.true, pre.2),
+      omega (arith, step_room c.args.layout.now.model c.loop-t.t c.args.bound c.loop-t-test.true, pre.3),
+      omega (arith, c.loop-t.invariant.few, c.loop-t-test.true, pre.2, pre.4),
+    )
 
 pub returns-in_err-count : goal.returns-in_err-count
 returns-in_err-count c =

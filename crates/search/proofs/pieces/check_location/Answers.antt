@@ -10,8 +10,8 @@ use Rattle.search.proofs.FalseChoices.{location_clauses, location_true}
 use Rattle.search.proofs.Skips.{passed_over}
 use Rattle.search.proofs.pieces.check_location.Goals as goal
 
-pub overflow_add-x : goal.overflow_add-x
-overflow_add-x c = record { fits = omega (arith, (wf (known_of_layout c.args.layout.now)).locations_le, c.requires.1, c.requires.2) }
+pub overflow_add-location : goal.overflow_add-location
+overflow_add-location c = record { fits = omega (arith, (wf (known_of_layout c.args.layout.now)).locations_le, c.requires.1, c.requires.2) }
 
 pub is_true-requires : goal.is_true-requires
 is_true-requires c = omega (arith, known_locations (known_of_layout c.args.layout.now), c.requires.1, c.requires.3)
@@ -45,9 +45,11 @@ pub check_part-requires : goal.check_part-requires
 check_part-requires c =
     let k = known_of_layout c.args.layout.now in
     let pre = c.requires in
-    let fits = invariant_fits k c.args.o (length c.args.a.now) c.args.l pre.3 pre.1 c.loop-atom.atom-index c.loop-atom-test.true in
-    (omega (arith, known_locations k, pre.1, pre.3), subst (λ (p : Part). Fits p (length c.args.a.now)) (sym c.atom_part.ensures) fits,
-     omega (arith, c.loop-atom.invariant.few, c.loop-atom-test.true, pre.4))
+    let fits = invariant_fits k c.args.o (length c.args.a.now) c.args.l pre.3 pre.1 c.loop-atom.atom-index c.loop-atom-test.true in (
+      omega (arith, known_locations k, pre.1, pre.3),
+      subst (λ (p : Part). Fits p (length c.args.a.now)) (sym c.atom_part.ensures) fits,
+      omega (arith, c.loop-atom.invariant.few, c.loop-atom-test.true, pre.4),
+    )
 
 pub returns-in_err-count : goal.returns-in_err-count
 returns-in_err-count c =

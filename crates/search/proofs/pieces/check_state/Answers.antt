@@ -1,5 +1,5 @@
 -- check_state: the groups, then the invariants of the first locations.
-use Rattle.std.proofs.Common.{arith, sym, ◌*◌, length}
+use Rattle.std.proofs.Common.{arith, sym, ◌*◌}
 use Rattle.list.proofs.PieceClauses.{state_piece_lem}
 use Rattle.counts.specs.Tables.{most_invariant_clauses}
 use Rattle.parts.proofs.KnownLaws.{groups_piece_of, invariants_piece_of, wf}
@@ -22,9 +22,13 @@ loop-l-init c = upto_none
 
 pub check_location-requires : goal.check_location-requires
 check_location-requires c =
-    let pre = c.requires in
-    (pre.0, c.loop-l-test.true, pre.1, pre.2,
-     omega (arith, pre.3, (wf (known_of_layout c.args.layout.now)).locations_le, c.loop-l.invariant.few, c.loop-l-test.true, c.in_ok-count.ensures.most))
+    let pre = c.requires in (
+      pre.0,
+      c.loop-l-test.true,
+      pre.1,
+      pre.2,
+      omega (arith, pre.3, (wf (known_of_layout c.args.layout.now)).locations_le, c.loop-l.invariant.few, c.loop-l-test.true, c.in_ok-count.ensures.most),
+    )
 
 pub returns-in_err-count-2 : goal.returns-in_err-count-2
 returns-in_err-count-2 c =
