@@ -160,12 +160,8 @@ fn pair_moves(list: Moves, a: Formed, b: Formed) -> Moves
 pub(crate) fn moves_of(a: Formed, b: Formed) -> Moves
     ensures { result ≡ added no_moves (moves a.model b.model) }
 {
-    let first = lone_moves(
-        no_moves(),
-        a,
-        b,
-        |edge, stays| Move::FirstAlone { edge, stays },
-    );
+    let none = no_moves();
+    let first = lone_moves(none, a, b, |edge, stays| Move::FirstAlone { edge, stays });
     let alone = lone_moves(first, b, a, |edge, stays| Move::SecondAlone { edge, stays });
     pair_moves(alone, a, b)
 }
