@@ -6,8 +6,6 @@ pub mod Fronts
 pub mod Rows
 pub mod PlacedLaws
 pub mod Adding
-pub mod Parts
-pub mod Sizes
 pub mod ComposedLaws
 pub mod Answers
 pub mod PairLaws

@@ -1,13 +1,12 @@
 -- Storing one list after the other, and adding moves.
 use mathlib.Core.Path.{◌≡◌, refl, sym, ap, ◌∙◌}
 use mathlib.Core.List.{List, [], ◌∷◌, ◌++◌}
-use Prim.Native.Nat.{ℕ, zero, suc, ◌+◌, ◌*◌, ◌≤◌, ◌<◌}
-use native.Mathlib.Numerals.{add-one}
+use Prim.Native.Nat.{ℕ, zero, suc, ◌+◌, ◌≤◌, ◌<◌}
 use native.Mathlib.Omega.{arith}
 use lib.ListN.{length, get_or, set, replicate, length-set, length-append, length-replicate, get_or-replicate}
 use lib.Seq.{ext_get_or, set_out, get_or-set_same, get_or-set_other}
-use Rattle.model.specs.Indexed.{each, list_below}
-use Rattle.model.proofs.IndexedLaws.{each_suc, length_each, length_list, get_d_list, list_more, sum_const}
+use Rattle.model.specs.Indexed.{list_below}
+use Rattle.model.proofs.IndexedLaws.{length_list, get_d_list}
 use Rattle.compose.specs.declared.moves.Move.{Move}
 use Rattle.compose.specs.declared.moves.Moves.{Moves}
 use Rattle.compose.specs.Moves.{no_move, placed, added, no_moves}
@@ -17,10 +16,6 @@ module _ {A : Type 0} where
   pub placed_none : (slots : List A) (n : ℕ) → placed slots n [] ≡ slots
   unfolding placed
   placed_none slots n = refl
-
-  pub placed_one : (slots : List A) (n : ℕ) (x : A) → placed slots n (x ∷ []) ≡ set slots n x
-  unfolding placed
-  placed_one slots n x = refl
 
   -- two lists in a row are stored as one
   pub placed_app : (slots : List A) (n : ℕ) (l r : List A) → placed slots n (l ++ r) ≡ placed (placed slots n l) (n + length l) r
@@ -69,22 +64,6 @@ module _ {A : Type 0} where
       let long = length_placed (replicate n z) 0 l ∙ length-replicate n z in
       ext_get_or z (placed (replicate n z) 0 l) (list_below (λ k. get_or l k z) n) (long ∙ sym (length_list (λ k. get_or l k z) n))
       (λ i p. let q : i < n = omega (arith, p, long) in placed_blank z z n l i q ∙ sym (get_d_list z (λ k. get_or l k z) n i q))
-
-  -- one element more of a list
-  pub placed_turn : (f : ℕ → A) (s₀ : List A) (n j : ℕ) {s : List A} {x : A} → s ≡ placed s₀ n (list_below f j) → x ≡ f j
-      → set s (n + j) x ≡ placed s₀ n (list_below f (j + 1))
-  placed_turn f s₀ n j p q =
-      let done = placed s₀ n (list_below f j) in
-      (λ i. set (p i) (n + j) (q i)) ∙ ap (λ (k : ℕ). set done (n + k) (f j)) (sym (length_list f j)) ∙
-      sym (placed_one done (n + length (list_below f j)) (f j)) ∙ sym (placed_app s₀ n (list_below f j) (f j ∷ [])) ∙ ap (placed s₀ n) (sym (list_more f j))
-
-  -- one row more, where every row is c long
-  pub rows_turn : (f : ℕ → List A) (c : ℕ) (s₀ : List A) (i : ℕ) {s r : List A} → ((k : ℕ) → length (f k) ≡ c) → s ≡ placed s₀ 0 (each i f)
-      → r ≡ placed s (i * c) (f i) → r ≡ placed s₀ 0 (each (i + 1) f)
-  rows_turn f c s₀ i h p q =
-      let e : i * c ≡ 0 + length (each i f) = omega (arith, length_each (λ _. c) i f h, sum_const i c) in
-      q ∙ ap (λ (x : List A). placed x (i * c) (f i)) p ∙ ap (λ (k : ℕ). placed (placed s₀ 0 (each i f)) k (f i)) e ∙
-      sym (placed_app s₀ 0 (each i f) (f i)) ∙ ap (placed s₀ 0) (sym (ap (λ (k : ℕ). each k f) (add-one i) ∙ each_suc i f))
 
 -- ---- adding moves
 pub added_none : (h : Moves) → added h [] ≡ h

@@ -6,7 +6,7 @@ ghost use Rattle.compose.specs.Moves.{label_at, bears, shared, pairs_of, moves, 
 ghost use Rattle.compose.specs.Parts.{first_edge, second_edge};
 
 use crate::formed::Formed;
-use crate::joined::{joined_edge, standing};
+use crate::joined::{Shift, standing};
 use model::{Edge, Model};
 
 // An edge of one model while the other stays in a location, or an edge of each.
@@ -160,12 +160,8 @@ fn pair_moves(list: Moves, a: Formed, b: Formed) -> Moves
 pub(crate) fn moves_of(a: Formed, b: Formed) -> Moves
     ensures { result ≡ added no_moves (moves a.model b.model) }
 {
-    let first = lone_moves(
-        no_moves(),
-        a,
-        b,
-        |edge, stays| Move::FirstAlone { edge, stays },
-    );
+    let none = no_moves();
+    let first = lone_moves(none, a, b, |edge, stays| Move::FirstAlone { edge, stays });
     let alone = lone_moves(first, b, a, |edge, stays| Move::SecondAlone { edge, stays });
     pair_moves(alone, a, b)
 }
@@ -175,20 +171,20 @@ pub(crate) fn edge_of(a: Formed, b: Formed, way: Move) -> Edge
     requires { MoveOf a.model b.model way }
     ensures { result ≡ edge_of a.model b.model way }
 {
-    let (a, b) = (a.model, b.model);
+    let shift = Shift::new(a, b);
     match way {
         Move::FirstAlone { edge, stays } => {
-            let e = a.edges[edge as usize];
-            joined_edge(a.clocks, a.vars, b.locations, e.label, e, standing(stays))
+            let e = a.model.edges[edge as usize];
+            shift.edge(e.label, e, standing(stays))
         }
         Move::SecondAlone { edge, stays } => {
-            let f = b.edges[edge as usize];
-            joined_edge(a.clocks, a.vars, b.locations, f.label, standing(stays), f)
+            let f = b.model.edges[edge as usize];
+            shift.edge(f.label, standing(stays), f)
         }
         Move::Together { first, second } => {
-            let e = a.edges[first as usize];
-            let f = b.edges[second as usize];
-            joined_edge(a.clocks, a.vars, b.locations, e.label, e, f)
+            let e = a.model.edges[first as usize];
+            let f = b.model.edges[second as usize];
+            shift.edge(e.label, e, f)
         }
     }
 }

@@ -9,7 +9,7 @@ ghost use Rattle.compose.specs.Parts.{edge_byte, stays, steps_report, parts_told
 
 use crate::fit::fits;
 use crate::formed::Formed;
-use crate::joined::{joined, joined_atoms, standing};
+use crate::joined::{Shift, joined, standing};
 use crate::moves::{Moves, edge_of, moves_of};
 use crate::{ComposeRefusal, PartSteps, PartsRefusal};
 use model::{Atom, Counter, Edge, Invariant, Model};
@@ -65,7 +65,7 @@ impl Pair {
         let atoms = if n < a.locations as usize * row {
             let first = a.invariants[n / row].atoms;
             let second = b.invariants[n % row].atoms;
-            joined_atoms(first, second, a.clocks, a.vars)
+            Shift::new(self.a, self.b).atoms(first, second)
         } else {
             [Atom::Blank; Model::ATOMS]
         };

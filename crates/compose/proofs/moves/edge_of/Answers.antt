@@ -15,17 +15,14 @@ bounds-a-edge c =
     let move = subst (MoveOf m n) c.in-FirstAlone.is c.requires in
     omega (arith, move.0, (formed m (form_of a.a)).used_le)
 
-pub joined_edge-requires : goal.joined_edge-requires
-joined_edge-requires c =
+pub edge-requires : goal.edge-requires
+edge-requires c =
     let a = c.args in
     let m = a.a.model in
     let n = a.b.model in
     let move = subst (MoveOf m n) c.in-FirstAlone.is c.requires in
     let w = formed m (form_of a.a) in
     let v = formed n (form_of a.b) in (
-      w.clocks_le,
-      w.vars_le,
-      v.locations_le,
       used-edge m (form_of a.a) c.in-FirstAlone.edge move.0,
       formed_as c.standing.ensures (standing_formed c.in-FirstAlone.stays (omega (arith, move.1, v.locations_le))),
     )
@@ -38,17 +35,14 @@ bounds-b-edge c =
     let move = subst (MoveOf m n) c.in-SecondAlone.is c.requires in
     omega (arith, move.0, (formed n (form_of a.b)).used_le)
 
-pub joined_edge-requires-in-SecondAlone : goal.joined_edge-requires-in-SecondAlone
-joined_edge-requires-in-SecondAlone c =
+pub edge-requires-in-SecondAlone : goal.edge-requires-in-SecondAlone
+edge-requires-in-SecondAlone c =
     let a = c.args in
     let m = a.a.model in
     let n = a.b.model in
     let move = subst (MoveOf m n) c.in-SecondAlone.is c.requires in
     let w = formed m (form_of a.a) in
     let v = formed n (form_of a.b) in (
-      w.clocks_le,
-      w.vars_le,
-      v.locations_le,
       formed_as c.standing-in-SecondAlone.ensures (standing_formed c.in-SecondAlone.stays (omega (arith, move.1, w.locations_le))),
       used-edge n (form_of a.b) c.in-SecondAlone.edge move.0,
     )
@@ -69,17 +63,14 @@ bounds-b-second c =
     let move = subst (MoveOf m n) c.in-Together.is c.requires in
     omega (arith, move.1, (formed n (form_of a.b)).used_le)
 
-pub joined_edge-requires-in-Together : goal.joined_edge-requires-in-Together
-joined_edge-requires-in-Together c =
+pub edge-requires-in-Together : goal.edge-requires-in-Together
+edge-requires-in-Together c =
     let a = c.args in
     let m = a.a.model in
     let n = a.b.model in
     let move = subst (MoveOf m n) c.in-Together.is c.requires in
     let w = formed m (form_of a.a) in
     let v = formed n (form_of a.b) in (
-      w.clocks_le,
-      w.vars_le,
-      v.locations_le,
       used-edge m (form_of a.a) c.in-Together.first move.0,
       used-edge n (form_of a.b) c.in-Together.second move.1,
     )

@@ -33,7 +33,7 @@ lone_moves-alone-requires-clause-few c =
     let a = c.args.a.model in
     let b = c.args.b.model in
     first_few a b (formed a (form_of c.args.a)).used_le (formed b (form_of c.args.b)).locations_le
-    (first_is a b c.no_moves.ensures (c.lone_moves-first.ensures FirstAlone (λ e j x p q h. search rules)))
+    (first_is a b c.no_moves-none.ensures (c.lone_moves-first.ensures FirstAlone (λ e j x p q h. search rules)))
 
 pub pair_moves-requires : goal.pair_moves-requires
 pair_moves-requires c =
@@ -42,7 +42,7 @@ pair_moves-requires c =
     let v = formed a (form_of c.args.a) in
     let w = formed b (form_of c.args.b) in
     second_few a b c.lone_moves-first.result w.used_le v.locations_le
-    (first_few a b v.used_le w.locations_le (first_is a b c.no_moves.ensures (c.lone_moves-first.ensures FirstAlone (λ e j x p q h. search rules))))
+    (first_few a b v.used_le w.locations_le (first_is a b c.no_moves-none.ensures (c.lone_moves-first.ensures FirstAlone (λ e j x p q h. search rules))))
     (second_is a b c.lone_moves-first.result (c.lone_moves-alone.ensures SecondAlone (λ e j x p q h. search rules)))
 
 pub returns : goal.returns
@@ -50,7 +50,7 @@ unfolding moves
 returns c =
     let a = c.args.a.model in
     let b = c.args.b.model in
-    let first = first_is a b c.no_moves.ensures (c.lone_moves-first.ensures FirstAlone (λ e j x p q h. search rules)) in
+    let first = first_is a b c.no_moves-none.ensures (c.lone_moves-first.ensures FirstAlone (λ e j x p q h. search rules)) in
     let second = second_is a b c.lone_moves-first.result (c.lone_moves-alone.ensures SecondAlone (λ e j x p q h. search rules)) in
     let alone = added_on no_moves (each a.used (first_alone a b)) (each b.used (second_alone a b)) first second refl in
     added_on no_moves (each a.used (first_alone a b) ++ each b.used (second_alone a b)) (each a.used (pairs_of a b)) alone c.pair_moves.ensures refl

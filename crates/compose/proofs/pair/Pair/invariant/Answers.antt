@@ -1,7 +1,8 @@
 -- `invariant`: the place is that of a row and a column.
-use Rattle.std.proofs.Common.{arith, ◌%◌, ◌∙◌, sym}
-use Rattle.model.specs.Record.{blank_invariant}
+use Rattle.std.proofs.Common.{arith, ◌/◌, ◌%◌, ◌∙◌, sym}
+use Rattle.model.specs.Record.{blank_invariant, invariant_at}
 use Rattle.model.proofs.FormLaws.{formed}
+use Rattle.compose.specs.Joined.{joined_atoms}
 use Rattle.compose.specs.Composed.{joined_invariant, joined_invariants}
 use Rattle.compose.proofs.Fronts.{form_of}
 use Rattle.compose.proofs.JoinedLaws.{used-invariant}
@@ -18,19 +19,19 @@ bounds-b-n c =
     let b = c.args.self.b in
     omega (arith, column_lt c.args.self.a.model.locations b.model.locations c.args.n c.if-n-a.true, (formed b.model (form_of b)).locations_le)
 
-pub joined_atoms-atoms-requires : goal.joined_atoms-atoms-requires
-joined_atoms-atoms-requires c =
+pub atoms-atoms-requires : goal.atoms-atoms-requires
+atoms-atoms-requires c =
     let a = c.args.self.a in
     let b = c.args.self.b in
-    let w = formed a.model (form_of a) in
-    (w.clocks_le, w.vars_le, used-invariant b.model (form_of b) (c.args.n % b.model.locations) (column_lt a.model.locations b.model.locations c.args.n c.if-n-a.true))
+    used-invariant b.model (form_of b) (c.args.n % b.model.locations) (column_lt a.model.locations b.model.locations c.args.n c.if-n-a.true)
 
 pub returns-then-n-a : goal.returns-then-n-a
 unfolding joined_invariants
 returns-then-n-a c =
     let a = c.args.self.a.model in
     let b = c.args.self.b.model in
-    let is = c.joined_atoms-atoms.ensures in
+    let by = c.new.ensures in
+    let is = c.atoms-atoms.ensures ∙ (λ i. joined_atoms (by.0 i) (by.1 i) (invariant_at a (c.args.n / b.locations)) (invariant_at b (c.args.n % b.locations))) in
     (λ i. record { atoms = is i }) ∙ sym (row_at (joined_invariant a b) blank_invariant a.locations b.locations c.args.n c.if-n-a.true)
 
 pub returns-else-n-a : goal.returns-else-n-a
