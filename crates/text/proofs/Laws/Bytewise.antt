@@ -9,7 +9,7 @@ use lib.ListN.{length, get_or, take, drop, drop_of_length-le, length-drop}
 use lib.Seq.{drop-cons, take_all}
 use lib.Dec.{eqb}
 use borrow.Author.Tests.{eq-eqb, ne_eqb}
-use Rattle.text.specs.declared.bytes.NumberRead.TheVariants.{Malformed}
+use Rattle.std.specs.Prelude.{None}
 use Rattle.text.specs.bytes.Bytes.{first_at, digits_of, is_digit, number_of, starts_with, is_hyphen}
 
 -- ---- the first b
@@ -48,7 +48,7 @@ pub list3 : (s : List ℕ) → length s ≡ 3 → (get_or s 0 0 ∷ get_or s 1 0
 list3 [] h = absurd (omega arith)
 list3 (a ∷ s) h = rw (list2 s (omega arith))
 
-pub number_of_none : (s : List ℕ) → (length s ≡ 1 → ⊥) → (length s ≡ 2 → ⊥) → (length s ≡ 3 → ⊥) → Malformed ≡ number_of s
+pub number_of_none : (s : List ℕ) → (length s ≡ 1 → ⊥) → (length s ≡ 2 → ⊥) → (length s ≡ 3 → ⊥) → None ≡ number_of s
 unfolding number_of
 number_of_none [] p q r = refl
 number_of_none (a ∷ []) p q r = absurd (p refl)

@@ -7,6 +7,7 @@ use lib.IntN.{ℤ, pos, neg_ℤ, ◌-ℤ◌, +ℤ_idl}
 use mir.Syntax.{w8}
 use mir.Val.{SFits, to_z, of_z}
 use mir.Facts.{to_z-of_z, to_z_pos}
+use Rattle.std.specs.Prelude.{Some}
 use Rattle.model.specs.declared.Update.TheVariants.{Sum}
 use Rattle.text.specs.declared.updates.SetRead.TheVariants.{ToSum}
 use Rattle.text.specs.bytes.Bytes.{narrowed}
@@ -32,5 +33,5 @@ minus_read n h = to_z-of_z (minus_fits n h) ∙ minus_is n h
 
 -- a sum as it is stored
 pub sum_stored : (v w : ℕ) (negative : Bool) (n : ℕ) {x : ℕ} {y z : ℤ} → x ≡ narrowed w → y ≡ z → z ≡ stored_offset negative n
-    → Sum x y ≡ stored_update (ToSum v w negative n)
+    → Sum x y ≡ stored_update (Some (ToSum v w negative n))
 sum_stored v w negative n p q r = λ i. Sum (p i) ((q ∙ r) i)
