@@ -46,6 +46,16 @@ impl EmitRefusal {
             EmitRefusal::BufferTooShort { .. } => 22,
         }
     }
+
+    // The words that the list takes where they are more than may be written, else 0.
+    pub fn words(self) -> usize
+        ensures { result ≡ (emit_told (Err self)).words }
+    {
+        match self {
+            EmitRefusal::BufferTooShort { words } => words,
+            EmitRefusal::NotWellFormed | EmitRefusal::BoundTooLarge => 0,
+        }
+    }
 }
 
 impl From<ListRefusal> for EmitRefusal {
