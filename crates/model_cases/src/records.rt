@@ -44,15 +44,15 @@ fn atom(sort: u8, index: u8, relate: u8, constant: u8) -> Atom {
     match sort {
         0 => Atom::Blank,
         1 => Atom::OnClock {
-                clock: index,
-                relation,
-                constant,
-            },
+            clock: index,
+            relation,
+            constant,
+        },
         _ => Atom::OnCounter {
-                counter: index,
-                relation,
-                constant,
-            },
+            counter: index,
+            relation,
+            constant,
+        },
     }
 }
 
