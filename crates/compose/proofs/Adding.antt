@@ -1,6 +1,7 @@
 -- The loops that add moves: what the list is after a turn.
-use mathlib.Core.Path.{◌≡◌, sym, ap, ◌∙◌}
-use mathlib.Core.Bool.{true, false}
+use mathlib.Core.Path.{◌≡◌, refl, sym, ap, ◌∙◌}
+use mathlib.Core.Bool.{Bool, true, false, not, ◌&&◌, cond}
+use lib.Dec.{eqb}
 use mathlib.Core.List.{List, [], ◌∷◌, ◌++◌}
 use Prim.Native.Nat.{ℕ, ◌+◌}
 use native.Mathlib.Numerals.{add-one}
@@ -11,7 +12,7 @@ use Rattle.model.proofs.IndexedLaws.{each_suc, each_zero, list_more, list_none}
 use Rattle.compose.specs.declared.moves.Move.{Move}
 use Rattle.compose.specs.declared.moves.Move.TheVariants.{FirstAlone, SecondAlone, Together}
 use Rattle.compose.specs.declared.moves.Moves.{Moves}
-use Rattle.compose.specs.Moves.{label_at, shared, paired, first_alone, second_alone, pair_of, added}
+use Rattle.compose.specs.Moves.{label_at, bears, shared, paired, first_alone, second_alone, pair_of, added}
 use Rattle.compose.proofs.PlacedLaws.{added_none, added_then, added_count}
 
 module _ (h₀ : Moves) where
@@ -42,22 +43,37 @@ module _ (h₀ : Moves) where
   each_skip {h} f n p q e = each_turn f n [] p (q ∙ sym (added_none h)) e
 
 -- ---- the pieces, by the test of the label
+-- the moves of an edge that moves alone, none where its label is shared; f is the move of an edge and a location
+abbrev pub lone : Model → Model → (ℕ → ℕ → Move) → ℕ → List Move
+lone own other f e = cond (shared own other (label_at own e)) [] (list_below (f e) other.locations)
+
+module _ (own other : Model) (f : ℕ → ℕ → Move) (e : ℕ) where
+  pub lone_here : shared own other (label_at own e) ≡ false → lone own other f e ≡ list_below (f e) other.locations
+  lone_here t = rw t
+
+  pub lone_none : shared own other (label_at own e) ≡ true → lone own other f e ≡ []
+  lone_none t = rw t
+
 module _ (a b : Model) where
-  pub first_here : (e : ℕ) → shared a b (label_at a e) ≡ false → first_alone a b e ≡ list_below (λ j. FirstAlone e j) b.locations
+  -- either model's labels are shared with the other's
+  shared_sym : (l : ℕ) → shared b a l ≡ shared a b l
+  unfolding shared
+  shared_sym l = by (not (eqb l 0)) (bears a l) (bears b l)
+    where
+      by : (p q r : Bool) → p && r && q ≡ p && q && r
+      by false q r = refl
+      by true false false = refl
+      by true false true = refl
+      by true true false = refl
+      by true true true = refl
+
+  pub first_lone : (n : ℕ) → each n (lone a b FirstAlone) ≡ each n (first_alone a b)
   unfolding first_alone
-  first_here e t = rw t
+  first_lone n = refl
 
-  pub first_none : (e : ℕ) → shared a b (label_at a e) ≡ true → first_alone a b e ≡ []
-  unfolding first_alone
-  first_none e t = rw t
-
-  pub second_here : (f : ℕ) → shared a b (label_at b f) ≡ false → second_alone a b f ≡ list_below (λ i. SecondAlone f i) a.locations
+  pub second_lone : (n : ℕ) → each n (lone b a SecondAlone) ≡ each n (second_alone a b)
   unfolding second_alone
-  second_here f t = rw t
-
-  pub second_none : (f : ℕ) → shared a b (label_at b f) ≡ true → second_alone a b f ≡ []
-  unfolding second_alone
-  second_none f t = rw t
+  second_lone n = λ i. each n (λ f. cond (shared_sym (label_at b f) i) [] (list_below (SecondAlone f) a.locations))
 
   pub pair_here : (e f : ℕ) → paired a b e f ≡ true → pair_of a b e f ≡ Together e f ∷ []
   pair_here e f t = rw t

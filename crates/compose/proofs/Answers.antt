@@ -1,10 +1,11 @@
 -- What the calls on two records answer, row by row.
-use mathlib.Core.Path.{◌≡◌, refl, sym, ap, ap₂, ◌∙◌}
+use mathlib.Core.Path.{◌≡◌, sym, ap, ◌∙◌}
 use mathlib.Core.Bool.{Bool, true, false, not, ◌&&◌, cond}
 use Prim.Native.Nat.{ℕ, ◌+◌, ◌-◌, ◌≤◌, ◌<◌, min}
 use native.Mathlib.Omega.{arith}
 use borrow.Author.Tests.{le-leb, lt-leb}
 use lib.ListN.{length, get_or}
+use Rattle.std.specs.Prelude.{Some, None}
 use Rattle.model.specs.declared.Model.{Model}
 use Rattle.model.specs.declared.Totals.{Totals}
 use Rattle.model.specs.Indexed.{maybe}
@@ -12,9 +13,12 @@ use Rattle.model.specs.Automaton.{ceiling, choices}
 use Rattle.model.specs.Bounds.{KnownTotals}
 use Rattle.model.specs.Form.{well_formed}
 use Rattle.model.proofs.FormLaws.{ceiling_of_totals, choices_of_totals}
+use Rattle.model.proofs.IndexedLaws.{some_inj, some_none}
+use Rattle.compose.specs.declared.ComposeRefusal.{ComposeRefusal}
+use Rattle.compose.specs.declared.ComposeRefusal.TheVariants.{NotWellFormed, TooLarge}
+use Rattle.compose.specs.ComposeCall.{compose_number, refusal}
 use Rattle.compose.specs.declared.moves.Move.{Move}
 use Rattle.compose.specs.declared.moves.Move.TheVariants.{FirstAlone, SecondAlone, Together}
-use Rattle.compose.specs.declared.moves.MoveSlot.{MoveSlot}
 use Rattle.compose.specs.declared.moves.Moves.{Moves}
 use Rattle.compose.specs.Moves.{moves, move_at, MoveOf, added, no_moves}
 use Rattle.compose.specs.Composed.{fits, composed}
@@ -23,24 +27,22 @@ use Rattle.compose.proofs.ComposedLaws.{move_in, used-is}
 use Rattle.compose.proofs.MoveLaws.{move_of}
 
 -- ---- 20, 38
-module _ {R : Type 0} (a b : Model) (unformed large accepted : R) where
-  abbrev pub judged : R
-  judged = cond (not (well_formed a && well_formed b)) unformed (cond (not (fits a b)) large accepted)
+module _ {R : Type 0} (a b : Model) (told : ℕ → R) (accepted : R) where
+  abbrev judged : R
+  judged = cond (not (well_formed a && well_formed b)) (told 20) (cond (not (fits a b)) (told 38) accepted)
 
-  either : {p q : Bool} → well_formed a && well_formed b ≡ p → fits a b ≡ q → cond (not p) unformed (cond (not q) large accepted) ≡ judged
-  either p q = λ i. cond (not (sym p i)) unformed (cond (not (sym q i)) large accepted)
-
-  pub first_unformed : well_formed a ≡ false → unformed ≡ judged
-  first_unformed p = either (ap (λ (t : Bool). t && well_formed b) p) refl
-
-  pub second_unformed : well_formed a ≡ true → well_formed b ≡ false → unformed ≡ judged
-  second_unformed p q = either (ap₂ (λ (s t : Bool). s && t) p q) refl
-
-  pub too_large : well_formed a ≡ true → well_formed b ≡ true → fits a b ≡ false → large ≡ judged
-  too_large p q r = either (ap₂ (λ (s t : Bool). s && t) p q) r
+  -- what is refused, and why
+  pub refused : (e : ComposeRefusal) → refusal a b ≡ Some e → told (compose_number e) ≡ judged
+  refused e h = by (well_formed a && well_formed b) (fits a b) h
+    where
+      by : (p q : Bool) → cond (not p) (Some NotWellFormed) (cond (not q) (Some TooLarge) None) ≡ Some e
+          → told (compose_number e) ≡ cond (not p) (told 20) (cond (not q) (told 38) accepted)
+      by false q h = ap (λ (x : ComposeRefusal). told (compose_number x)) (sym (some_inj h))
+      by true false h = ap (λ (x : ComposeRefusal). told (compose_number x)) (sym (some_inj h))
+      by true true h = absurd (some_none h)
 
   pub taken : well_formed a ≡ true → well_formed b ≡ true → fits a b ≡ true → accepted ≡ judged
-  taken p q r = either (ap₂ (λ (s t : Bool). s && t) p q) r
+  taken p q r = λ i. cond (not (sym p i && sym q i)) (told 20) (cond (not (sym r i)) (told 38) accepted)
 
 -- ---- 27, and what each part does
 module _ (a b : Model) (n : ℕ) where
@@ -102,6 +104,6 @@ module _ (a b : Model) {m : Model} {z : Totals} (is : m ≡ composed a b) (known
   pub byte_below : (n : ℕ) → z.ceiling < n → n < z.choices → n - (z.ceiling + 1) < length (moves a b)
   byte_below n l h = omega (arith, l, h, top_of, choices_of, choices_sum)
 
-  pub byte_move : {h : Moves} → h ≡ added no_moves (moves a b) → (d : MoveSlot) (n : ℕ) → n - (z.ceiling + 1) < 32
-      → (get_or h.slots (n - (z.ceiling + 1)) d).way ≡ move_at a b (n - (ceiling (composed a b) + 1))
+  pub byte_move : {h : Moves} → h ≡ added no_moves (moves a b) → (d : Move) (n : ℕ) → n - (z.ceiling + 1) < 32
+      → get_or h.slots (n - (z.ceiling + 1)) d ≡ move_at a b (n - (ceiling (composed a b) + 1))
   byte_move given d n l = move_in a b given d (n - (z.ceiling + 1)) l ∙ ap (λ (t : ℕ). move_at a b (n - (t + 1))) top_of

@@ -12,7 +12,6 @@ use Rattle.model.specs.declared.Model.{Model}
 use Rattle.model.specs.Record.{blank_edge}
 use Rattle.model.proofs.IndexedLaws.{and_T}
 use Rattle.compose.specs.declared.moves.Move.{Move}
-use Rattle.compose.specs.declared.moves.MoveSlot.{MoveSlot}
 use Rattle.compose.specs.declared.moves.Moves.{Moves}
 use Rattle.compose.specs.Joined.{standing}
 use Rattle.compose.specs.Moves.{moves, move_at, edge_of, added, no_moves}
@@ -58,8 +57,8 @@ module _ (a b : Model) {h : Moves} (given : h ≡ added no_moves (moves a b)) wh
   pub count_in : h.count ≡ length (moves a b)
   count_in = ap (λ (x : Moves). x.count) given ∙ count_is (moves a b)
 
-  pub move_in : (d : MoveSlot) (n : ℕ) → n < 32 → (get_or h.slots n d).way ≡ move_at a b n
-  move_in d n l = ap (λ (x : Moves). (get_or x.slots n d).way) given ∙ slot_is d (moves a b) n l
+  pub move_in : (d : Move) (n : ℕ) → n < 32 → get_or h.slots n d ≡ move_at a b n
+  move_in d n l = ap (λ (x : Moves). get_or x.slots n d) given ∙ slot_is d (moves a b) n l
 
 -- ---- the edges
 module _ (a b : Model) where

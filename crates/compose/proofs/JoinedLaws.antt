@@ -1,18 +1,13 @@
--- An array that a loop fills with any kind of element, and well-formedness where more is declared.
-use Prim.Native.Nat.{ℕ, ◌+◌, ◌-◌, ◌*◌, ◌≤◌, ◌<◌}
-use mathlib.Core.Path.{◌≡◌, refl, sym, ap, subst, ◌∙◌}
+-- The parts of a formed edge, and well-formedness where more is declared.
+use Prim.Native.Nat.{ℕ, ◌*◌, ◌≤◌, ◌<◌}
+use mathlib.Core.Path.{◌≡◌, sym, subst}
 use mathlib.Core.Logic.{⊎_elim}
 use mathlib.Core.Bool.{Bool, true, false, not, ◌&&◌, cond}
 use mathlib.Core.List.{List}
-use native.Mathlib.Nat.{not-suc-le-zero, mul-le-mul}
+use native.Mathlib.Nat.{mul-le-mul}
 use native.Mathlib.Omega.{arith}
-use lib.Dec.{T, ltb, leb, ltb→lt, lt→ltb, leb→le, le→leb, not_T}
-use borrow.Author.Tests.{not-true}
+use lib.Dec.{T, ltb, leb, ltb→lt, lt→ltb, le→leb}
 use lib.IntN.{nat_abs}
-use lib.ListN.{length, get_or, set, length-set}
-use mir.Val.{Val}
-use denote.Laws.{Is}
-use lib.Seq.{ext_get_or, get_or-set_same, get_or-set_other}
 use Rattle.model.specs.declared.Atom.{Atom}
 use Rattle.model.specs.declared.Atom.TheVariants.{Blank, OnClock, OnCounter}
 use Rattle.model.specs.declared.Update.{Update}
@@ -21,7 +16,7 @@ use Rattle.model.specs.declared.ClockUpdate.{ClockUpdate}
 use Rattle.model.specs.declared.ClockUpdate.TheVariants.{Unchanged, Reset, Copy}
 use Rattle.model.specs.declared.Edge.{Edge}
 use Rattle.model.specs.declared.Model.{Model}
-use Rattle.model.specs.Indexed.{list_below, all_below, sum_below}
+use Rattle.model.specs.Indexed.{all_below, sum_below}
 use Rattle.model.specs.Record.{atom_at, update_at, counter_in, reset_at, invariant_at, edge_at}
 use Rattle.model.specs.Automaton.{is_keep, listed}
 use Rattle.model.specs.Form.{is_not_equal, atom_formed, is_blank, each_formed, filled_from_first, atoms_formed, update_formed}
@@ -30,108 +25,16 @@ use Rattle.model.specs.Form.{order_slot_formed, order_formed, clock_update_forme
 use Rattle.model.specs.Form.{counters_formed, invariant_slot_formed, invariants_formed, edge_slot_formed, edges_formed, head_formed, well_formed}
 use Rattle.model.proofs.FormLaws.{and₃, and₄, and₇, yes, no, keep_is, hold_is, atoms_at, edge_parts, order_slot, formed}
 use Rattle.model.proofs.BlankSlots.{and₇_of}
-use Rattle.model.specs.contracts.Edge as EdgeT
-use Rattle.model.proofs.IndexedLaws.{and_T, T_true, lt_or_le, cond_T, cond_F, not_lt, all_below_lem, below_more, sum_below_lem, length_list, get_d_list}
-use Rattle.compose.specs.Joined.{atom_count, joined_place, standing}
+use Rattle.model.proofs.IndexedLaws.{and_T, lt_or_le, cond_T, all_below_lem, sum_below_lem}
+use Rattle.compose.specs.Joined.{atom_count, standing}
 
--- ---- the first's part, then the second's
-module _ {A : Type 0} (n : ℕ) (f g : ℕ → A) where
-  -- an index below n is the first's, another is the second's
-  abbrev pub in_two : ℕ → A
-  in_two k = cond (ltb k n) (f k) (g (k - n))
-
-  pub in_first : (k : ℕ) → k < n → f k ≡ in_two k
-  in_first k l = sym (cond_T (ltb k n) (f k) (g (k - n)) (lt→ltb k n l))
-
-  pub in_second : (k : ℕ) → n ≤ k → g (k - n) ≡ in_two k
-  in_second k l = sym (cond_F (ltb k n) (f k) (g (k - n)) (not_lt k n l))
-
--- ---- filling an array
-module _ {A : Type 0} (d : A) (f : ℕ → A) where
-  -- the first k slots hold the values of f, the others what they held before
-  pub record FilledTo (old now : List A) (k : ℕ) : Type 0 where
-    pub filled : (i : ℕ) → i < k → get_or now i d ≡ f i
-    pub kept : (i : ℕ) → k ≤ i → get_or now i d ≡ get_or old i d
-
-  -- nothing is stored yet
-  pub filled_none : (l : List A) → FilledTo l l 0
-  filled_none l = record { filled = λ i p. absurd (not-suc-le-zero p); kept = λ i p. refl }
-
-  -- slot k gets its value
-  pub filled_next : {old now : List A} {k : ℕ} {x : A} → k < length now → FilledTo old now k → x ≡ f k → FilledTo old (set now k x) (k + 1)
-  filled_next {old} {now} {k} {x} l h e = record {
-    filled = below_more {P = λ i. get_or (set now k x) i d ≡ f i}
-        (λ i p. get_or-set_other now k i x d (λ z. omega (arith, z)) ∙ h.filled i p) (get_or-set_same now k x d l ∙ e);
-    kept = λ i p. get_or-set_other now k i x d (λ z. omega (arith, z)) ∙ h.kept i (omega arith);
-  }
-
-  -- slot k holds its value already
-  pub filled_stays : {old now : List A} {k : ℕ} → FilledTo old now k → get_or old k d ≡ f k → FilledTo old now (k + 1)
-  filled_stays {old} {now} {k} h e = record {
-    filled = below_more {P = λ i. get_or now i d ≡ f i} h.filled (h.kept k (omega arith) ∙ e);
-    kept = λ i p. h.kept i (omega arith);
-  }
-
-  -- one turn of the loop: slot k is stored, or left as it was
-  pub stored : {old now later : List A} {k n : ℕ} {x : A} → later ≡ set now k x → k < n → length now ≡ n → FilledTo old now k → x ≡ f k
-      → (length later ≡ n) × FilledTo old later (k + 1)
-  stored {old} {now} {later} {k} {n} {x} e l p h q = rw e (length-set now k x ∙ p, filled_next (omega arith) h q)
-
-  pub left : {old now later : List A} {k n : ℕ} → later ≡ now → length now ≡ n → FilledTo old now k → get_or old k d ≡ f k
-      → (length later ≡ n) × FilledTo old later (k + 1)
-  left e p h q = rw e (p, filled_stays h q)
-
-  -- every slot has its value
-  pub filled_all : {old now : List A} {n : ℕ} → length now ≡ n → FilledTo old now n → now ≡ list_below f n
-  filled_all {old} {now} {n} l h =
-      ext_get_or d now (list_below f n) (l ∙ sym (length_list f n))
-      (λ i p. h.filled i (omega arith) ∙ sym (get_d_list d f n i (omega arith)))
-
--- ---- what is named where 4 clocks and 4 counters are declared
--- the clock of an atom
-pub atom_clock : {a : Atom} {x r c : _} → a ≡ OnClock x r c → T (atom_formed 4 4 a) → x < 4
-atom_clock {x = x} {r} {c} e h = ltb→lt x 4 (and₃ (ltb x 4) (leb c 30) (not (is_not_equal r)) (subst (λ (a : Atom). T (atom_formed 4 4 a)) e h)).0
-
--- the counter of an atom
-pub atom_counter : {a : Atom} {v r c : _} → a ≡ OnCounter v r c → T (atom_formed 4 4 a) → v < 4
-atom_counter {v = v} {r} {c} e h = ltb→lt v 4 ((and_T (ltb v 4) (leb c 31)).0 (subst (λ (a : Atom). T (atom_formed 4 4 a)) e h)).0
-
--- the counter that an update reads
-pub update_source : {u : Update} {w o : _} → u ≡ Sum w o → T (update_formed 4 u) → w < 4
-update_source {w = w} {o} e h = ltb→lt w 4 ((and_T (ltb w 4) (leb (nat_abs o) 31)).0 (subst (λ (u : Update). T (update_formed 4 u)) e h)).0
-
--- the clock that a copy reads
-pub reset_source : {u : ClockUpdate} {w : ℕ} → u ≡ Copy w → T (clock_update_formed 4 u) → w < 4
-reset_source {w = w} e h = ltb→lt w 4 (subst (λ (u : ClockUpdate). T (clock_update_formed 4 u)) e h)
-
--- ---- the order of two edges, slot by slot; the first lists n updates and the second m
-module _ (vars : ℕ) (e f : Edge) {n m : ℕ} (p : n ≡ listed e) (q : m ≡ listed f) where
-  abbrev second : ℕ → ℕ
-  second k = cond (ltb k (listed e + listed f)) (vars + counter_in f.order (k - listed e)) 0
-
-  pub place_first : {k : ℕ} → k < n → counter_in e.order k ≡ joined_place vars e f k
-  place_first {k} l = sym (cond_T (ltb k (listed e)) (counter_in e.order k) (second k) (lt→ltb k (listed e) (omega arith)))
-
-  after_first : (k : ℕ) → n ≤ k → second k ≡ joined_place vars e f k
-  after_first k l = sym (cond_F (ltb k (listed e)) (counter_in e.order k) (second k) (not_lt k (listed e) (omega arith)))
-
-  pub place_second : {k : ℕ} → n ≤ k → k < n + m → vars + counter_in f.order (k - n) ≡ joined_place vars e f k
-  place_second {k} l r =
-      ap (λ (x : ℕ). vars + counter_in f.order (k - x)) p ∙
-      sym (cond_T (ltb k (listed e + listed f)) (vars + counter_in f.order (k - listed e)) 0 (lt→ltb k (listed e + listed f) (omega arith)))
-      ∙ after_first k l
-
-  pub place_none : {k : ℕ} → n + m ≤ k → 0 ≡ joined_place vars e f k
-  place_none {k} l =
-      sym (cond_F (ltb k (listed e + listed f)) (vars + counter_in f.order (k - listed e)) 0 (not_lt k (listed e + listed f) (omega arith)))
-      ∙ after_first k (omega arith)
-
+-- ---- slots that are formed
 -- the counter in a used slot of an order
 pub order_below : (e : Edge) → T (order_formed e) → (k : ℕ) → k < listed e → counter_in e.order k < 4
 unfolding order_formed
 order_below e h k l = (order_slot e ((all_below_lem (order_slot_formed e) 4).0 h)).slot_lt k l
 
--- ---- slots that are formed, where 4 clocks and 4 counters are declared
+-- where 4 clocks and 4 counters are declared
 pub each_at : (atoms : List Atom) → T (each_formed 4 4 atoms) → (k : ℕ) → k < 4 → T (atom_formed 4 4 (atom_at atoms k))
 unfolding each_formed
 each_at atoms h = (all_below_lem (λ k. atom_formed 4 4 (atom_at atoms k)) 4).0 h
@@ -147,12 +50,6 @@ resets_at e h k l =
     yes k 4 (clock_update_formed 4 (reset_at e k)) (is_unchanged (reset_at e k)) ((all_below_lem (λ k. reset_slot_formed 4 (reset_at e k) k) 4).0 h k l) l
 
 -- ---- how many atoms
-pub at_most : {x y b : ℕ} → x ≡ y → x ≤ b → leb y b ≡ true
-at_most {y = y} {b} e l = (T_true (leb y b)).0 (le→leb y b (omega arith))
-
-pub above : {x y b : ℕ} → x ≡ y → b < x → leb y b ≡ false
-above {y = y} {b} e l = not-true (leb y b) ((T_true (not (leb y b))).0 (not_T (leb y b) (λ t. omega (arith, leb→le y b t))))
-
 one_at_most : (b : Bool) → cond b 0 1 ≤ 1
 one_at_most true = omega arith
 one_at_most false = omega arith
@@ -161,10 +58,6 @@ one_at_most false = omega arith
 pub atom_count_le : (atoms : List Atom) → atom_count atoms ≤ 4
 unfolding atom_count
 atom_count_le atoms = sum_below_lem (λ k. cond (is_blank (atom_at atoms k)) 0 1) 4 1 (λ k l. one_at_most (is_blank (atom_at atoms k)))
-
--- what owning an edge tells of its clock slots
-pub resets_long : (e : Edge) (vs : List Val) → Is EdgeT.the_row e vs → length e.resets ≡ 4
-resets_long e vs g = g.1.1.1.1.1.1.1.1.0.1.0.1
 
 -- ---- what is formed stays so where more is declared
 pub atom_wider : (c v c' v' : ℕ) → c ≤ c' → v ≤ v' → (x : Atom) → T (atom_formed c v x) → T (atom_formed c' v' x)
@@ -191,13 +84,13 @@ reset_wider c c' p (Copy w) h = lt→ltb w c' (omega (arith, ltb→lt w c h))
 
 -- a slot past the declared ones is blank, which is formed
 update_slot_more : (vars : ℕ) (u : Update) (k : ℕ) → vars ≤ 4 → k < 4 → T (update_slot_formed vars u k) → T (update_slot_formed 4 u k)
-update_slot_more vars u k p l h = subst T (in_first 4 (λ _. update_formed 4 u) (λ _. is_keep u) k l) (⊎_elim
+update_slot_more vars u k p l h = subst T (sym (cond_T (ltb k 4) (update_formed 4 u) (is_keep u) (lt→ltb k 4 l))) (⊎_elim
     (λ q. update_wider vars 4 p u (yes k vars (update_formed vars u) (is_keep u) h q))
     (λ q. subst (λ (x : Update). T (update_formed 4 x)) (sym (keep_is u (no k vars (update_formed vars u) (is_keep u) h q))) tt)
     (lt_or_le k vars))
 
 reset_slot_more : (clocks : ℕ) (u : ClockUpdate) (k : ℕ) → clocks ≤ 4 → k < 4 → T (reset_slot_formed clocks u k) → T (reset_slot_formed 4 u k)
-reset_slot_more clocks u k p l h = subst T (in_first 4 (λ _. clock_update_formed 4 u) (λ _. is_unchanged u) k l) (⊎_elim
+reset_slot_more clocks u k p l h = subst T (sym (cond_T (ltb k 4) (clock_update_formed 4 u) (is_unchanged u) (lt→ltb k 4 l))) (⊎_elim
     (λ q. reset_wider clocks 4 p u (yes k clocks (clock_update_formed clocks u) (is_unchanged u) h q))
     (λ q. subst (λ (x : ClockUpdate). T (clock_update_formed 4 x)) (sym (hold_is u (no k clocks (clock_update_formed clocks u) (is_unchanged u) h q))) tt)
     (lt_or_le k clocks))

@@ -1,10 +1,12 @@
 pub mod Members
 pub mod MoveLaws
 pub mod MoveCounts
+pub mod MadeBelow
+pub mod Fronts
+pub mod Rows
 pub mod PlacedLaws
 pub mod Adding
-pub mod Parts
-pub mod Sizes
 pub mod ComposedLaws
 pub mod Answers
+pub mod PairLaws
 pub mod JoinedLaws

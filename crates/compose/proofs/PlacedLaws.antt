@@ -1,15 +1,13 @@
 -- Storing one list after the other, and adding moves.
 use mathlib.Core.Path.{◌≡◌, refl, sym, ap, ◌∙◌}
-use mathlib.Core.List.{List, [], ◌∷◌, ◌++◌, map, map-append}
-use Prim.Native.Nat.{ℕ, zero, suc, ◌+◌, ◌*◌, ◌≤◌, ◌<◌}
-use native.Mathlib.Numerals.{add-one}
+use mathlib.Core.List.{List, [], ◌∷◌, ◌++◌}
+use Prim.Native.Nat.{ℕ, zero, suc, ◌+◌, ◌≤◌, ◌<◌}
 use native.Mathlib.Omega.{arith}
-use lib.ListN.{length, get_or, set, replicate, length-set, length-append, length-map, length-replicate, get_or-replicate, get_or-map}
-use lib.Seq.{set_out, get_or-set_same, get_or-set_other}
-use Rattle.model.specs.Indexed.{each, list_below}
-use Rattle.model.proofs.IndexedLaws.{each_suc, length_each, length_list, list_more, sum_const}
+use lib.ListN.{length, get_or, set, replicate, length-set, length-append, length-replicate, get_or-replicate}
+use lib.Seq.{ext_get_or, set_out, get_or-set_same, get_or-set_other}
+use Rattle.model.specs.Indexed.{list_below}
+use Rattle.model.proofs.IndexedLaws.{length_list, get_d_list}
 use Rattle.compose.specs.declared.moves.Move.{Move}
-use Rattle.compose.specs.declared.moves.MoveSlot.{MoveSlot}
 use Rattle.compose.specs.declared.moves.Moves.{Moves}
 use Rattle.compose.specs.Moves.{no_move, placed, added, no_moves}
 
@@ -18,10 +16,6 @@ module _ {A : Type 0} where
   pub placed_none : (slots : List A) (n : ℕ) → placed slots n [] ≡ slots
   unfolding placed
   placed_none slots n = refl
-
-  pub placed_one : (slots : List A) (n : ℕ) (x : A) → placed slots n (x ∷ []) ≡ set slots n x
-  unfolding placed
-  placed_one slots n x = refl
 
   -- two lists in a row are stored as one
   pub placed_app : (slots : List A) (n : ℕ) (l r : List A) → placed slots n (l ++ r) ≡ placed (placed slots n l) (n + length l) r
@@ -64,42 +58,24 @@ module _ {A : Type 0} where
       ap (λ (i : ℕ). get_or (placed (replicate n z) 0 l) i d) e ∙ from_place d z (replicate n z) 0 l k (omega (arith, p, length-replicate n z))
       (λ i _ t. get_or-replicate n i z d (omega (arith, t, length-replicate n z)))
 
-  -- one element more of a list
-  pub placed_turn : (f : ℕ → A) (s₀ : List A) (n j : ℕ) {s : List A} {x : A} → s ≡ placed s₀ n (list_below f j) → x ≡ f j
-      → set s (n + j) x ≡ placed s₀ n (list_below f (j + 1))
-  placed_turn f s₀ n j p q =
-      let done = placed s₀ n (list_below f j) in
-      (λ i. set (p i) (n + j) (q i)) ∙ ap (λ (k : ℕ). set done (n + k) (f j)) (sym (length_list f j)) ∙
-      sym (placed_one done (n + length (list_below f j)) (f j)) ∙ sym (placed_app s₀ n (list_below f j) (f j ∷ [])) ∙ ap (placed s₀ n) (sym (list_more f j))
-
-  -- one row more, where every row is c long
-  pub rows_turn : (f : ℕ → List A) (c : ℕ) (s₀ : List A) (i : ℕ) {s r : List A} → ((k : ℕ) → length (f k) ≡ c) → s ≡ placed s₀ 0 (each i f)
-      → r ≡ placed s (i * c) (f i) → r ≡ placed s₀ 0 (each (i + 1) f)
-  rows_turn f c s₀ i h p q =
-      let e : i * c ≡ 0 + length (each i f) = omega (arith, length_each (λ _. c) i f h, sum_const i c) in
-      q ∙ ap (λ (x : List A). placed x (i * c) (f i)) p ∙ ap (λ (k : ℕ). placed (placed s₀ 0 (each i f)) k (f i)) e ∙
-      sym (placed_app s₀ 0 (each i f) (f i)) ∙ ap (placed s₀ 0) (sym (ap (λ (k : ℕ). each k f) (add-one i) ∙ each_suc i f))
+  -- so the blank slots with a list are the list of its elements, and blanks
+  pub placed_list : (z : A) (n : ℕ) (l : List A) → placed (replicate n z) 0 l ≡ list_below (λ k. get_or l k z) n
+  placed_list z n l =
+      let long = length_placed (replicate n z) 0 l ∙ length-replicate n z in
+      ext_get_or z (placed (replicate n z) 0 l) (list_below (λ k. get_or l k z) n) (long ∙ sym (length_list (λ k. get_or l k z) n))
+      (λ i p. let q : i < n = omega (arith, p, long) in placed_blank z z n l i q ∙ sym (get_d_list z (λ k. get_or l k z) n i q))
 
 -- ---- adding moves
-abbrev slot_of : Move → MoveSlot
-slot_of x = record { way = x }
-
 pub added_none : (h : Moves) → added h [] ≡ h
 unfolding added placed
 added_none h = let e : h.count + 0 ≡ h.count = omega arith in λ i. record { count = e i; slots = h.slots }
-
-slots_then : (h : Moves) (l r : List Move)
-    → placed (placed h.slots h.count (map slot_of l)) (h.count + length l) (map slot_of r) ≡ placed h.slots h.count (map slot_of (l ++ r))
-slots_then h l r =
-    ap (λ (n : ℕ). placed (placed h.slots h.count (map slot_of l)) (h.count + n) (map slot_of r)) (sym (length-map l slot_of)) ∙
-    sym (placed_app h.slots h.count (map slot_of l) (map slot_of r)) ∙ ap (placed h.slots h.count) (sym (map-append slot_of l r))
 
 -- two lists in a row are added as one
 pub added_then : (h : Moves) (l r : List Move) → added (added h l) r ≡ added h (l ++ r)
 unfolding added
 added_then h l r =
     let e : h.count + length l + length r ≡ h.count + length (l ++ r) = omega (arith, length-append l r) in
-    λ i. record { count = e i; slots = slots_then h l r i }
+    λ i. record { count = e i; slots = sym (placed_app h.slots h.count l r) i }
 
 pub added_count : (h : Moves) (l : List Move) → (added h l).count ≡ h.count + length l
 unfolding added
@@ -110,17 +86,15 @@ pub count_is : (l : List Move) → (added no_moves l).count ≡ length l
 count_is l = added_count no_moves l ∙ omega arith
 
 -- slot k holds move k
-pub slot_is : (d : MoveSlot) (l : List Move) (k : ℕ) → k < 32 → (get_or (added no_moves l).slots k d).way ≡ get_or l k no_move
+pub slot_is : (d : Move) (l : List Move) (k : ℕ) → k < 32 → get_or (added no_moves l).slots k d ≡ get_or l k no_move
 unfolding added
-slot_is d l k p =
-    ap (λ (s : MoveSlot). s.way) (placed_blank d (slot_of no_move) 32 (map slot_of l) k p ∙ get_or-map slot_of l k no_move)
+slot_is d l k p = placed_blank d no_move 32 l k p
 
 -- one move more, stored or not
-pub one_stored : (h : Moves) (x : Move) {s : List MoveSlot} → s ≡ set h.slots h.count (record { way = x })
-    → record { count = h.count + 1; slots = s } ≡ added h (x ∷ [])
+pub one_stored : (h : Moves) (x : Move) {s : List Move} → s ≡ set h.slots h.count x → record { count = h.count + 1; slots = s } ≡ added h (x ∷ [])
 unfolding added placed
 one_stored h x e = λ i. record { count = h.count + 1; slots = e i }
 
-pub one_counted : (h : Moves) (x : Move) {s : List MoveSlot} → s ≡ h.slots → length h.slots ≤ h.count
+pub one_counted : (h : Moves) (x : Move) {s : List Move} → s ≡ h.slots → length h.slots ≤ h.count
     → record { count = h.count + 1; slots = s } ≡ added h (x ∷ [])
-one_counted h x e l = one_stored h x (e ∙ sym (set_out h.slots h.count (record { way = x }) l))
+one_counted h x e l = one_stored h x (e ∙ sym (set_out h.slots h.count x l))

@@ -1,5 +1,5 @@
 -- What the call on two records answers.
-use Rattle.std.specs.Prelude.{ℕ, not, ◌&&◌, cond, Result, Ok, Err}
+use Rattle.std.specs.Prelude.{ℕ, not, ◌&&◌, cond, Option, None, Some, Result, Ok, Err}
 use Rattle.model.specs.declared.Model.{Model}
 use Rattle.model.specs.Record.{blank_model}
 use Rattle.model.specs.Form.{well_formed}
@@ -14,6 +14,10 @@ pub record ComposeReport : Type 0 where
 
 abbrev pub compose_reported : ℕ → Model → ComposeReport
 compose_reported n m = record { number = n; model = m }
+
+-- which refusal, if any: either record is not well formed, then the composed model is too large
+abbrev pub refusal : Model → Model → Option ComposeRefusal
+refusal a b = cond (not (well_formed a && well_formed b)) (Some NotWellFormed) (cond (not (fits a b)) (Some TooLarge) None)
 
 -- 20 for either record, then 38 the composed model has more locations, clocks, counters, edges or atoms than a record may hold
 unfoldable pub compose_report : Model → Model → ComposeReport

@@ -1,5 +1,5 @@
 -- The model that two models compose, and whether a record may hold it.
-use Rattle.std.specs.Prelude.{ℕ, ◌+◌, ◌-◌, ◌*◌, Bool, true, ◌&&◌, cond, List, ltb, leb, length, replicate}
+use Rattle.std.specs.Prelude.{ℕ, ◌+◌, ◌-◌, ◌*◌, Bool, true, ◌&&◌, cond, List, ltb, leb, eqb, length, replicate}
 use Rattle.model.specs.declared.Counter.{Counter}
 use Rattle.model.specs.declared.Invariant.{Invariant}
 use Rattle.model.specs.declared.Edge.{Edge}
@@ -7,12 +7,16 @@ use Rattle.model.specs.declared.Model.{Model}
 use Rattle.model.specs.Indexed.{each, list_below, all_below}
 use Rattle.model.specs.Record.{blank_invariant, blank_edge, counter_at, invariant_at, edge_at}
 use Rattle.compose.specs.Joined.{joined_location, atom_count, joined_atoms}
-use Rattle.compose.specs.Moves.{paired, moves, move_at, edge_of, placed}
+use Rattle.compose.specs.Moves.{shared, paired, moves, move_at, edge_of, placed}
 
 -- ---- 38: more than a record may hold
 -- the invariant of every pair of locations has at most 4 atoms
 unfoldable pub invariants_fit : Model → Model → Bool
 invariants_fit a b = all_below (λ i. all_below (λ j. leb (atom_count (invariant_at a i) + atom_count (invariant_at b j)) 4) b.locations) a.locations
+
+-- the guard of an edge of the first and one of the second has at most 4 atoms, if they bear the same shared label
+abbrev pub pair_fits : Model → Model → Edge → Edge → Bool
+pair_fits a b e f = cond (shared a b e.label && eqb e.label f.label) (leb (atom_count e.guard + atom_count f.guard) 4) true
 
 -- the guard of e and f has at most 4 atoms, if they move in a pair
 abbrev pub guard_fits : Model → Model → ℕ → ℕ → Bool

@@ -1,5 +1,5 @@
 -- Which edges of two models move alone and which in pairs, and in which order.
-use Rattle.std.specs.Prelude.{ℕ, ◌+◌, ◌<◌, Bool, not, ◌&&◌, cond, List, [], ◌∷◌, ◌++◌, map, T, eqb, length, get_or, set, replicate}
+use Rattle.std.specs.Prelude.{ℕ, ◌+◌, ◌<◌, Bool, not, ◌&&◌, cond, List, [], ◌∷◌, ◌++◌, T, eqb, length, get_or, set, replicate}
 use Rattle.model.specs.declared.Edge.{Edge}
 use Rattle.model.specs.declared.Model.{Model}
 use Rattle.model.specs.Indexed.{each, list_below, all_below}
@@ -70,11 +70,11 @@ module _ {A : Type 0} where
 
 -- the moves of a list after those that are there: all are counted, as many as there are slots are stored
 unfoldable pub added : Moves → List Move → Moves
-added h l = record { count = h.count + length l; slots = placed h.slots h.count (map (λ x. record { way = x }) l) }
+added h l = record { count = h.count + length l; slots = placed h.slots h.count l }
 
 -- nothing is there yet
 abbrev pub no_moves : Moves
-no_moves = record { count = 0; slots = replicate 32 (record { way = no_move }) }
+no_moves = record { count = 0; slots = replicate 32 no_move }
 
 -- what holds of each move: its edges and the location in which a part stays are declared, and a pair is one that is formed
 abbrev pub MoveOf : Model → Model → Move → Type 0

@@ -1,31 +1,51 @@
 // Which edges of two models move alone and which in pairs, and in which order.
-ghost use Rattle.std.specs.Prelude.{◌≡◌, List, [], ◌∷◌, ℕ, ◌<◌, ◌≤◌, T};
+ghost use Rattle.std.specs.Prelude.{◌≡◌, List, [], ◌∷◌, ℕ, cond, ◌&&◌, eqb, ◌+◌, ◌<◌, ◌≤◌};
 ghost use Rattle.model.specs.Indexed.{each, list_below};
-ghost use Rattle.model.specs.Form.{well_formed};
-ghost use Rattle.compose.specs.declared.moves.Move.TheVariants.{FirstAlone, SecondAlone};
-ghost use Rattle.compose.specs.Moves.{bears, shared, paired, first_alone, second_alone, pairs_of, moves, no_moves, added, MoveOf, edge_of};
+ghost use Rattle.compose.specs.declared.moves.Move.{Move};
+ghost use Rattle.compose.specs.Moves.{label_at, bears, shared, pairs_of, moves, no_moves, added, MoveOf, edge_of};
+ghost use Rattle.compose.specs.Parts.{first_edge, second_edge};
 
-use crate::joined::{joined_edge, standing};
+use crate::formed::Formed;
+use crate::joined::{Shift, standing};
 use model::{Edge, Model};
 
 // An edge of one model while the other stays in a location, or an edge of each.
-#[derive(Clone, Copy)]
+#[derive(Clone, Copy, Debug, PartialEq, Eq)]
 pub enum Move {
     FirstAlone { edge: u8, stays: u8 },
     SecondAlone { edge: u8, stays: u8 },
     Together { first: u8, second: u8 },
 }
 
-#[derive(Clone, Copy)]
-pub(crate) struct MoveSlot {
-    pub(crate) way: Move,
+impl Move {
+    // The first model's edge that moves, if one does.
+    pub(crate) fn first_edge(self) -> Option<u8>
+        ensures { result ≡ first_edge self }
+    {
+        match self {
+            Move::FirstAlone { edge, .. } => Some(edge),
+            Move::SecondAlone { .. } => None,
+            Move::Together { first, .. } => Some(first),
+        }
+    }
+
+    // The second model's edge that moves, if one does.
+    pub(crate) fn second_edge(self) -> Option<u8>
+        ensures { result ≡ second_edge self }
+    {
+        match self {
+            Move::FirstAlone { .. } => None,
+            Move::SecondAlone { edge, .. } => Some(edge),
+            Move::Together { second, .. } => Some(second),
+        }
+    }
 }
 
 // How many moves there are, which may be more than there are slots, and the first of them.
 #[derive(Clone, Copy)]
 pub(crate) struct Moves {
     pub(crate) count: usize,
-    pub(crate) slots: [MoveSlot; Model::EDGES],
+    pub(crate) slots: [Move; Model::EDGES],
 }
 
 fn no_moves() -> Moves
@@ -33,9 +53,7 @@ fn no_moves() -> Moves
 {
     Moves {
         count: 0,
-        slots: [MoveSlot {
-            way: Move::FirstAlone { edge: 0, stays: 0 },
-        }; Model::EDGES],
+        slots: [Move::FirstAlone { edge: 0, stays: 0 }; Model::EDGES],
     }
 }
 
@@ -47,7 +65,7 @@ fn add(list: Moves, way: Move) -> Moves
     let at = list.count;
     let mut slots = list.slots;
     if at < Model::EDGES {
-        slots[at] = MoveSlot { way };
+        slots[at] = way;
     }
     Moves {
         count: at + 1,
@@ -56,108 +74,64 @@ fn add(list: Moves, way: Move) -> Moves
 }
 
 // Whether an edge of the model bears the label.
-fn bears(m: Model, label: u8) -> bool
-    requires { m.used ≤ 32 }
-    ensures { result ≡ bears m label }
+fn bears(m: Formed, label: u8) -> bool
+    ensures { result ≡ bears m.model label }
 {
-    for e in 0..m.used as usize {
-        let edge = m.edges[e];
-        if edge.label == label {
-            return true;
-        }
-    }
-    false
+    m.edges().iter().any(|edge| edge.label == label)
 }
 
 // A label other than 0 borne by edges of both models is shared.
-fn shared(a: Model, b: Model, label: u8) -> bool
-    requires { (a.used ≤ 32) × (b.used ≤ 32) }
-    ensures { result ≡ shared a b label }
+fn shared(a: Formed, b: Formed, label: u8) -> bool
+    ensures { result ≡ shared a.model b.model label }
 {
-    if label == 0 {
-        return false;
-    }
-    if !bears(a, label) {
-        return false;
-    }
-    bears(b, label)
+    label != 0 && bears(a, label) && bears(b, label)
 }
 
-// Whether edge `e` of the first model and edge `f` of the second move in a pair.
-pub(crate) fn paired(a: Model, b: Model, e: u8, f: u8) -> bool
-    requires { (a.used ≤ 32) × (b.used ≤ 32) × (e < 32) × (f < 32) }
-    ensures { result ≡ paired a b e f }
+// Whether an edge of the first model and an edge of the second move in a pair.
+pub(crate) fn paired(a: Formed, b: Formed, e: Edge, f: Edge) -> bool
+    ensures { result ≡ shared a.model b.model e.label && eqb e.label f.label }
 {
-    let first = a.edges[e as usize];
-    let second = b.edges[f as usize];
-    if !shared(a, b, first.label) {
-        return false;
-    }
-    first.label == second.label
+    shared(a, b, e.label) && e.label == f.label
 }
 
-// An edge of the first model, once for each location of the second.
-fn first_alone(list: Moves, edge: u8, locations: u8) -> Moves
-    requires { (list.count ≤ 2048) × (locations ≤ 16) }
-    ensures { result ≡ added list (list_below (λ j. FirstAlone edge j) locations) }
+// The moves of an edge that moves alone, once for each location in which the other model stays.
+fn alone<F: Fn(u8) -> Move>(list: Moves, locations: u8, way: F) -> Moves
+    requires few { (list.count ≤ 2048) × (locations ≤ 16) }
+    requires way { F.IsAlwaysCallable way }
+    ensures count { result.count ≡ list.count + locations }
+    ensures moves { (f : ℕ → Move) → ((j : ℕ) (x : Move) → j < 256 → F.post way j x → x ≡ f j) → result ≡ added list (list_below f locations) }
 {
     let mut moves = list;
     for j in 0..locations {
-        moves = add(moves, Move::FirstAlone { edge, stays: j });
+        moves = add(moves, way(j));
     }
     moves
 }
 
-// An edge of the second model, once for each location of the first.
-fn second_alone(list: Moves, edge: u8, locations: u8) -> Moves
-    requires { (list.count ≤ 2048) × (locations ≤ 16) }
-    ensures { result ≡ added list (list_below (λ i. SecondAlone edge i) locations) }
+// A model's lone edges: `way` is the move of an edge while the other model stays in a location.
+fn lone_moves<F: Fn(u8, u8) -> Move>(list: Moves, own: Formed, other: Formed, way: F) -> Moves
+    requires few { list.count ≤ 512 }
+    requires way { F.IsAlwaysCallable way }
+    ensures { (f : ℕ → ℕ → Move) → ((e j : ℕ) (x : Move) → e < 256 → j < 256 → F.post way e j x → x ≡ f e j) → result ≡ added list (each own.model.used (λ e. cond (shared own.model other.model (label_at own.model e)) [] (list_below (f e) other.model.locations))) }
 {
     let mut moves = list;
-    for i in 0..locations {
-        moves = add(moves, Move::SecondAlone { edge, stays: i });
-    }
-    moves
-}
-
-// The first model's lone edges.
-fn first_moves(a: Model, b: Model) -> Moves
-    requires { (a.used ≤ 32) × (b.used ≤ 32) × (b.locations ≤ 16) }
-    ensures { result ≡ added no_moves (each a.used (first_alone a b)) }
-{
-    let mut moves = no_moves();
-    for e in 0..a.used {
-        let edge = a.edges[e as usize];
-        if !shared(a, b, edge.label) {
-            moves = first_alone(moves, e, b.locations);
-        }
-    }
-    moves
-}
-
-// The second model's lone edges.
-fn second_moves(list: Moves, a: Model, b: Model) -> Moves
-    requires { (list.count ≤ 512) × (a.used ≤ 32) × (b.used ≤ 32) × (a.locations ≤ 16) }
-    ensures { result ≡ added list (each b.used (second_alone a b)) }
-{
-    let mut moves = list;
-    for f in 0..b.used {
-        let edge = b.edges[f as usize];
-        if !shared(a, b, edge.label) {
-            moves = second_alone(moves, f, a.locations);
+    for e in 0..own.model.used {
+        if !shared(own, other, own.model.edges[e as usize].label) {
+            moves = alone(moves, other.model.locations, |stays| way(e, stays));
         }
     }
     moves
 }
 
 // The pairs of an edge of the first model.
-fn pairs_of(list: Moves, a: Model, b: Model, e: u8) -> Moves
-    requires { (list.count ≤ 2048) × (a.used ≤ 32) × (b.used ≤ 32) × (e < 32) }
-    ensures { result ≡ added list (pairs_of a b e) }
+fn pairs_of(list: Moves, a: Formed, b: Formed, e: u8) -> Moves
+    requires { (list.count ≤ 2048) × (e < a.model.used) }
+    ensures { result ≡ added list (pairs_of a.model b.model e) }
 {
     let mut moves = list;
-    for f in 0..b.used {
-        if paired(a, b, e, f) {
+    let edge = a.model.edges[e as usize];
+    for f in 0..b.model.used {
+        if paired(a, b, edge, b.model.edges[f as usize]) {
             moves = add(
                 moves,
                 Move::Together {
@@ -171,45 +145,46 @@ fn pairs_of(list: Moves, a: Model, b: Model, e: u8) -> Moves
 }
 
 // Pairs, in lexicographic order.
-fn pair_moves(list: Moves, a: Model, b: Model) -> Moves
-    requires { (list.count ≤ 1024) × (a.used ≤ 32) × (b.used ≤ 32) }
-    ensures { result ≡ added list (each a.used (pairs_of a b)) }
+fn pair_moves(list: Moves, a: Formed, b: Formed) -> Moves
+    requires { list.count ≤ 1024 }
+    ensures { result ≡ added list (each a.model.used (pairs_of a.model b.model)) }
 {
     let mut moves = list;
-    for e in 0..a.used {
+    for e in 0..a.model.used {
         moves = pairs_of(moves, a, b, e);
     }
     moves
 }
 
 // All moves, in the order of the composed model's edges.
-pub(crate) fn moves_of(a: Model, b: Model) -> Moves
-    requires { (a.used ≤ 32) × (b.used ≤ 32) × (a.locations ≤ 16) × (b.locations ≤ 16) }
-    ensures { result ≡ added no_moves (moves a b) }
+pub(crate) fn moves_of(a: Formed, b: Formed) -> Moves
+    ensures { result ≡ added no_moves (moves a.model b.model) }
 {
-    let first = first_moves(a, b);
-    let alone = second_moves(first, a, b);
+    let none = no_moves();
+    let first = lone_moves(none, a, b, |edge, stays| Move::FirstAlone { edge, stays });
+    let alone = lone_moves(first, b, a, |edge, stays| Move::SecondAlone { edge, stays });
     pair_moves(alone, a, b)
 }
 
 // The edge of a move.
-pub(crate) fn edge_of(a: Model, b: Model, way: Move) -> Edge
-    requires { T (well_formed a) × T (well_formed b) × MoveOf a b way }
-    ensures { result ≡ edge_of a b way }
+pub(crate) fn edge_of(a: Formed, b: Formed, way: Move) -> Edge
+    requires { MoveOf a.model b.model way }
+    ensures { result ≡ edge_of a.model b.model way }
 {
+    let shift = Shift::new(a, b);
     match way {
         Move::FirstAlone { edge, stays } => {
-            let e = a.edges[edge as usize];
-            joined_edge(a.clocks, a.vars, b.locations, e.label, e, standing(stays))
+            let e = a.model.edges[edge as usize];
+            shift.edge(e.label, e, standing(stays))
         }
         Move::SecondAlone { edge, stays } => {
-            let f = b.edges[edge as usize];
-            joined_edge(a.clocks, a.vars, b.locations, f.label, standing(stays), f)
+            let f = b.model.edges[edge as usize];
+            shift.edge(f.label, standing(stays), f)
         }
         Move::Together { first, second } => {
-            let e = a.edges[first as usize];
-            let f = b.edges[second as usize];
-            joined_edge(a.clocks, a.vars, b.locations, e.label, e, f)
+            let e = a.model.edges[first as usize];
+            let f = b.model.edges[second as usize];
+            shift.edge(e.label, e, f)
         }
     }
 }

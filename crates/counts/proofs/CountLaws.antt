@@ -10,7 +10,7 @@ use Rattle.model.proofs.IndexedLaws.{each_zero, each_suc}
 use Rattle.list.specs.Clauses.{Clause, clause_words, words_of, one}
 use Rattle.list.proofs.ListLaws.{each_more}
 use Rattle.list.proofs.OneHot.{words_app}
-use Rattle.counts.specs.Counted.{Counted}
+use Rattle.counts.specs.Counted.{Counted, most_piece}
 
 -- ---- the empty piece, one clause, and two pieces
 pub counted_none : Counted [] 0 0
@@ -97,3 +97,7 @@ module _ {x : List Clause} {a b c w : ℕ} (s : Counted x a b) (m : Most x c w) 
 
   pub words_le : b ≤ w
   words_le = omega (arith, s.words_are, m.words_most)
+
+-- a piece that is counted on its own is small
+pub small_piece : {x : List Clause} {a b c w : ℕ} → Counted x a b → Most x c w → c ≤ most_piece → w ≤ most_piece → (a ≤ most_piece) × (b ≤ most_piece)
+small_piece s m p q = (omega (arith, s.clauses_are, m.clauses_most, p), omega (arith, s.words_are, m.words_most, q))

@@ -7,6 +7,11 @@ use native.Mathlib.Omega.{arith}
 use lib.Dec.{T, ltb}
 use lib.ListN.{length, drop, length-append}
 use borrow.Author.Tests.{lt-ltb, le-ltb}
+use Rattle.std.specs.Prelude.{Err}
+use Rattle.form.specs.BoundCheck.{bound_checked}
+use Rattle.form.specs.declared.ListRefusal.{ListRefusal}
+use Rattle.form.specs.declared.ListRefusal.TheVariants.{NotWellFormed, BoundTooLarge}
+use Rattle.form.proofs.BoundLaws.{bound_20, bound_21}
 use Rattle.model.specs.declared.Model.{Model}
 use Rattle.model.specs.Automaton.{variables}
 use Rattle.model.specs.Form.{well_formed}
@@ -19,7 +24,7 @@ use Rattle.counts.proofs.PieceBounds.{list_clauses_most}
 use Rattle.emission.proofs.CutLaws.{list_inside}
 use Rattle.dimacs.specs.File.{first_line, lines_of, file}
 use Rattle.dimacs.specs.Written.{Needed}
-use Rattle.dimacs.specs.DimacsCall.{FileReport, file_reported, file_report, file_left}
+use Rattle.dimacs.specs.DimacsCall.{FileReport, file_reported, file_report, file_left, file_refusal, as_file_refusal}
 use Rattle.dimacs.proofs.LineLaws.{lines_short, first_line_most}
 use Rattle.dimacs.proofs.PageLaws.{less_than}
 
@@ -56,13 +61,18 @@ pub record Answered (m : Model) (k : ℕ) (old new : List ℕ) (told : FileRepor
   pub left : new ≡ file_left m k old
 
 module _ (m : Model) (k : ℕ) (old : List ℕ) where
-  pub refused_20 : well_formed m ≡ false → Answered m k old old (file_reported 20 0)
+  refused_20 : well_formed m ≡ false → Answered m k old old (file_reported 20 0)
   unfolding file_left file_report
   refused_20 e = record { report = rw e; left = rw e }
 
-  pub refused_21 : well_formed m ≡ true → 64 < k → Answered m k old old (file_reported 21 0)
+  refused_21 : well_formed m ≡ true → 64 < k → Answered m k old old (file_reported 21 0)
   unfolding file_left file_report
   refused_21 e f = record { report = rw (e, lt-ltb 64 k f); left = rw (e, lt-ltb 64 k f) }
+
+  -- what the tests of the record and the bound refuse
+  pub refused : (e : ListRefusal) → Err e ≡ bound_checked m k → Answered m k old old (file_refusal (as_file_refusal e))
+  refused NotWellFormed q = refused_20 (bound_20 m k q)
+  refused BoundTooLarge q = let p = bound_21 m k q in refused_21 p.0 p.1
 
   module _ (e : well_formed m ≡ true) (f : k ≤ 64) (r : ℕ) (needed : Needed (file m k) (length old) r) where
     pub refused_32 : length old < r → Answered m k old old (file_reported 32 r)

@@ -7,6 +7,9 @@ use native.Mathlib.Omega.{arith}
 use lib.Dec.{T, ltb, leb}
 use lib.ListN.{length}
 use borrow.Author.Tests.{lt-ltb, le-ltb, le-leb, lt-leb, leb-true}
+use Rattle.std.specs.Prelude.{is_ok}
+use Rattle.std.proofs.lemmas.Grind.{common_steps}
+use Rattle.form.specs.BoundCheck.{bound_checked}
 use Rattle.model.specs.declared.Model.{Model}
 use Rattle.model.specs.Indexed.{each}
 use Rattle.model.specs.Form.{well_formed}
@@ -20,11 +23,9 @@ use Rattle.dimacs.proofs.PageLaws.{pages_joined}
 
 module _ (m : Model) (k : ℕ) where
   -- ---- whether there is a file
-  pub has_not : well_formed m ≡ false → has_file m k ≡ false
-  has_not e = rw e
-
-  pub has_small : well_formed m ≡ true → leb k 64 ≡ has_file m k
-  has_small e = rw e
+  pub has_is : is_ok (bound_checked m k) ≡ has_file m k
+  unfolding bound_checked
+  has_is = grind (arith, common_steps)
 
   pub file_formed : has_file m k ≡ true → T (well_formed m)
   file_formed e = go (well_formed m) e

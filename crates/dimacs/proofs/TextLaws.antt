@@ -10,9 +10,11 @@ use lib.IntN.{ℤ, pos, negsuc, neg_ℤ, nat_abs, ◌+ℤ◌}
 use lib.ListN.{length, take, drop, get_or, set, length-append, length-drop, length-set, take-append-drop}
 use lib.Seq.{take-suc, take-append-le, take-append-add, drop_at, drop-drop, take-add, get_or-take, get_or-set_same, get_or-set_other, length-take-le}
 use borrow.Author.Tests.{le-ltb, eq-eqb, ne_eqb}
-use mir.Syntax.{w32}
+use borrow.Rule.Slice.PartMut.{put_mid, Post-is}
+use mir.Syntax.{w32, w64}
 use mir.Val.{SFits, to_z, of_z}
 use mir.Facts.{to_z-of_z}
+use Rattle.std.specs.Int.{to_le_bytes}
 use Rattle.model.proofs.IndexedLaws.{lt_or_le, below_cases}
 use Rattle.list.specs.Lists.{All}
 use Rattle.list.proofs.ListLaws.{all_app, flat_app, flat_none, flat_one}
@@ -86,7 +88,7 @@ rest_more k x =
     ∙ ap (λ (n : ℕ). x / n) (mul_comm (256 ^ k) 256 ∙ sym (pow-succ' 256 k) ∙ ap (λ (n : ℕ). 256 ^ n) (sym (add-one k)))
 
 -- the first of them
-bytes_take : (k m x : ℕ) → k ≤ m → take k (bytes_of m x) ≡ bytes_of k x
+pub bytes_take : (k m x : ℕ) → k ≤ m → take k (bytes_of m x) ≡ bytes_of k x
 unfolding bytes_of
 bytes_take zero m x h = refl
 bytes_take (suc k) zero x h = absurd (omega arith)
@@ -107,6 +109,18 @@ bytes_eight x =
       div-div-eq-div-mul x 1099511627776 256,
       div-div-eq-div-mul x 281474976710656 256,
     )
+
+-- so has the library
+pub low_first : (x : ℕ) → to_le_bytes w64 x ≡ bytes_of 8 x
+low_first x = sym (bytes_eight x)
+
+-- bytes that were copied over a part of the buffer
+pub wrote_copy : {p new old : List ℕ} {at e : ℕ} → e ≡ at + length p → new ≡ p → e ≤ length old → Wrote p old (put_mid at (e - at) old new) at e
+wrote_copy {p} {new} {old} {at} {e} q is h =
+    let list : put_mid at (e - at) old new ≡ take at old ++ (p ++ drop e old) = λ i. take at old ++ (is i ++ Post-is at e old (omega (arith, q)) i) in
+    let parts : length (take at old ++ (p ++ drop e old)) ≡ length old =
+    omega (arith, length-append (take at old) (p ++ drop e old), length-append p (drop e old), length-take-le at old (omega (arith, q, h)), length-drop e old, q, h) in
+    record { ends = q; fits = h; long = ap length list ∙ parts; list = list ∙ sym (append_assoc (take at old) p (drop e old)) }
 
 -- ---- entries that are made
 -- Every element is a byte.
@@ -337,6 +351,12 @@ entry_known {x} {z} texts has f e =
     let same : text_of x ≡ entry_text texts z = ap text_of (e ∙ ap (λ (w : ℤ). get_or texts (slot w) 0) (to_z-of_z f)) in
     (same, omega (arith, has.least, text_long x, ap length same), omega (arith, has.most, text_long x, ap length same))
 
+-- the same of the word at an index
+pub known_at : {x : ℕ} (texts : List ℕ) (words : List ℤ) (i : ℕ) → i < length words → All (HasText texts) words → SFits w32 (get_or words i (pos 0))
+    → x ≡ get_or texts (slot (to_z w32 (of_z w32 (get_or words i (pos 0))))) 0
+    → (text_of x ≡ entry_text texts (get_or words i (pos 0))) × (2 ≤ x / 2 ^ 56) × (x / 2 ^ 56 ≤ 7)
+known_at texts words i h all f e = entry_known texts (all_at texts words i h all) f e
+
 -- words have two bytes at least each
 pub entries_least : (texts : List ℕ) (ws : List ℤ) → All (HasText texts) ws → 2 * length ws ≤ length (entries_text texts ws)
 unfolding entries_text flat_map
@@ -344,29 +364,14 @@ entries_least texts [] a = omega arith
 entries_least texts (z ∷ ws) a =
     omega (arith, length-append (entry_text texts z) (entries_text texts ws), a.0.least, entries_least texts ws a.1)
 
--- ---- the first n words, cut before the last three
-module _ (texts : List ℕ) (ws : List ℤ) (n : ℕ) (h : 3 ≤ n) where
-  -- the words before the last three, then those
-  cut_words : take n ws ≡ take (n - 3) ws ++ take (n - (n - 3)) (drop (n - 3) ws)
-  cut_words =
-      let sum : n ≡ n - 3 + (n - (n - 3)) = omega arith in
-      ap (λ (k : ℕ). take k ws) sum ∙ take-add (n - 3) (n - (n - 3)) ws
-
-  -- their text
-  pub cut_text : entries_text texts (take n ws) ≡ entries_text texts (take (n - 3) ws) ++ entries_text texts (take (n - (n - 3)) (drop (n - 3) ws))
-  cut_text = ap (entries_text texts) cut_words ∙ entries_append texts (take (n - 3) ws) (take (n - (n - 3)) (drop (n - 3) ws))
+-- ---- words in two parts
+module _ (texts : List ℕ) {ws : List ℤ} (first last : List ℤ) (e : ws ≡ first ++ last) where
+  pub parts_text : entries_text texts ws ≡ entries_text texts first ++ entries_text texts last
+  parts_text = ap (entries_text texts) e ∙ entries_append texts first last
 
   -- each has an entry
-  pub cut_all : All (HasText texts) (take n ws) → All (HasText texts) (take (n - 3) ws) × All (HasText texts) (take (n - (n - 3)) (drop (n - 3) ws))
-  cut_all a = (all_app (HasText texts) (take (n - 3) ws) (take (n - (n - 3)) (drop (n - 3) ws))).0 (rw cut_words at a)
-
-  -- the last three have six bytes at least
-  pub cut_least : n ≤ length ws → All (HasText texts) (take n ws) → 6 ≤ length (entries_text texts (take (n - (n - 3)) (drop (n - 3) ws)))
-  cut_least l a =
-      let last = drop (n - 3) ws in
-      let rest = length-drop (n - 3) ws in
-      let three : length (take (n - (n - 3)) last) ≡ n - (n - 3) = length-take-le (n - (n - 3)) last (omega (arith, rest)) in
-      omega (arith, entries_least texts (take (n - (n - 3)) last) (cut_all a).1, three)
+  pub parts_all : All (HasText texts) ws → All (HasText texts) first × All (HasText texts) last
+  parts_all a = (all_app (HasText texts) first last).0 (rw e at a)
 
 -- ---- texts stored eight bytes at a time
 -- lists that agree from an index on agree from a later one on

@@ -1,106 +1,78 @@
 // The clause list as text, row after row: row 0 is the start, then the steps, then the end. A row is written from the words of the row of its kind
 // that begins at the first state block, with a table of the texts of its own numbers. A row of few enough words is written at once, and the words of
 // one step are those of all; else piece after piece. What `words` and `texts` hold afterwards is free, but for how long they are.
-ghost use Rattle.std.specs.Prelude.{◌≡◌, true, ◌+◌, ◌-◌, ◌<◌, ◌≤◌, T, length};
+ghost use Rattle.std.specs.Prelude.{◌≡◌, true, ◌+◌, ◌-◌, ◌<◌, ◌≤◌, length};
 ghost use Rattle.model.specs.Indexed.{each};
 ghost use Rattle.model.specs.Automaton.{variables};
-ghost use Rattle.model.specs.Bounds.{KnownTotals};
-ghost use Rattle.model.specs.Form.{well_formed};
 ghost use Rattle.list.specs.Items.{block_at};
 ghost use Rattle.list.specs.Clauses.{one_hot_width, clauses};
-ghost use Rattle.parts.specs.Pieces.{Known};
 ghost use Rattle.buffer.specs.Buffers.{Room, Wrote};
 ghost use Rattle.counts.specs.KnownCounts.{KnownCounts};
-ghost use Rattle.emission.specs.Writable.{Lent};
 ghost use Rattle.emission.specs.Cut.{most_piece_words, row_pieces, piece_of, row_of, base_row, base_bound};
 ghost use Rattle.dimacs.specs.File.{lines_of, file};
 ghost use Rattle.dimacs.specs.Texts.{entry_count, TextsOf};
 ghost use Rattle.dimacs.specs.Rows.{follows_step, repeats_row, FewWords, Holds};
 
-use crate::FileAnswer;
+use crate::WORDS;
 use crate::lines::{first_line_bytes, put_first_line};
 use crate::texts::{fill_texts, put_words, words_bytes};
 use counts::ListCounts;
 use decimal::places;
 use emission::pieces::{put_piece, put_rows, row_pieces};
-use model::{Model, Totals};
-use parts::GroupTable;
-use parts::numbering::block_start;
+use parts::layout::Layout;
 
 // The row of the same kind that begins at the first block.
 fn base_row(row: usize) -> usize
     ensures { result ≡ base_row row }
 {
-    if row == 0 {
-        return 0;
-    }
-    1
+    if row == 0 { 0 } else { 1 }
 }
 
 // The bound of the list that has it.
 fn base_bound(bound: usize, row: usize) -> usize
     ensures { result ≡ base_bound bound row }
 {
-    if row <= bound {
-        return 1;
-    }
-    0
+    if row <= bound { 1 } else { 0 }
 }
 
 // The words of piece `p` of row `row`, as at the first block.
 pub fn put_base_piece(
-    m: Model,
-    z: Totals,
-    b: GroupTable,
-    first: &[u16],
-    size: &[u16],
+    layout: &Layout,
     bound: usize,
     row: usize,
     p: usize,
     words: &mut [i32],
 ) -> usize
-    requires { Known m b × KnownTotals m z × Lent b first.now size.now × (row ≤ bound + 1) × (p < row_pieces m bound row) × (most_piece_words ≤ length words.old) }
-    ensures { Holds (piece_of m (base_bound bound row) (base_row row) p) words.new result × (length words.new ≡ length words.old) }
+    requires { (row ≤ bound + 1) × (p < row_pieces layout.now.model bound row) × (most_piece_words ≤ length words.old) }
+    ensures { Holds (piece_of layout.now.model (base_bound bound row) (base_row row) p) words.new result × (length words.new ≡ length words.old) }
 {
-    let reach = base_bound(bound, row);
-    let near = base_row(row);
-    put_piece(m, z, b, first, size, reach, near, p, words)
+    put_piece(layout, base_bound(bound, row), base_row(row), p, words)
 }
 
 // The words of row `row`, as at the first block.
-fn put_base_row(
-    m: Model,
-    z: Totals,
-    b: GroupTable,
-    bound: usize,
-    row: usize,
-    words: &mut [i32],
-) -> usize
-    requires { Known m b × KnownTotals m z × (row ≤ bound + 1) × FewWords m × (most_piece_words ≤ length words.old) }
-    ensures { Holds (row_of m (base_bound bound row) (base_row row)) words.new result × (length words.new ≡ length words.old) }
+fn put_base_row(layout: &Layout, bound: usize, row: usize, words: &mut [i32]) -> usize
+    requires { (row ≤ bound + 1) × FewWords layout.now.model × (most_piece_words ≤ length words.old) }
+    ensures { Holds (row_of layout.now.model (base_bound bound row) (base_row row)) words.new result × (length words.new ≡ length words.old) }
 {
-    let reach = base_bound(bound, row);
-    let near = base_row(row);
-    put_rows(m, z, b, reach, near, 1, words)
+    put_rows(layout, base_bound(bound, row), base_row(row), 1, words)
 }
 
 // How many variables come before those that row `row` names.
-fn row_start(m: Model, z: Totals, row: usize) -> usize
-    requires { T (well_formed m) × KnownTotals m z × (row ≤ 65) }
-    ensures { result ≡ block_at one_hot_width m (row - 1) }
+fn row_start(layout: &Layout, row: usize) -> usize
+    requires { (row ≤ 65) }
+    ensures { result ≡ block_at one_hot_width layout.now.model (row - 1) }
 {
     if row == 0 {
         return 0;
     }
-    block_start(m, z, row - 1)
+    layout.block_start(row - 1)
 }
 
 // How many variables a row names at most: those of two states and of the choice between them.
-fn row_width(m: Model, z: Totals) -> usize
-    requires { T (well_formed m) × KnownTotals m z }
-    ensures { result ≡ variables m 1 }
+fn row_width(layout: &Layout) -> usize
+    ensures { result ≡ variables layout.now.model 1 }
 {
-    block_start(m, z, 1) + z.state
+    layout.block_start(1) + layout.totals.state
 }
 
 // Row `row` and the one before it are steps.
@@ -111,21 +83,16 @@ fn follows_step(bound: usize, row: usize) -> bool
 }
 
 // The table of the texts of row `row`.
-pub fn fill_row(m: Model, z: Totals, row: usize, texts: &mut [u64])
-    requires { T (well_formed m) × KnownTotals m z × (row ≤ 65) × (length texts.old ≡ entry_count) }
-    ensures { TextsOf (block_at one_hot_width m (row - 1)) (variables m 1) texts.new }
+pub fn fill_row(layout: &Layout, row: usize, texts: &mut [u64])
+    requires { (row ≤ 65) × (length texts.old ≡ entry_count) }
+    ensures { TextsOf (block_at one_hot_width layout.now.model (row - 1)) (variables layout.now.model 1) texts.new }
 {
-    let start = row_start(m, z, row);
-    fill_texts(start, row_width(m, z), texts);
+    fill_texts(row_start(layout, row), row_width(layout), texts);
 }
 
 // Row `row`, piece after piece.
 fn put_cut_row(
-    m: Model,
-    z: Totals,
-    b: GroupTable,
-    first: &[u16],
-    size: &[u16],
+    layout: &Layout,
     bound: usize,
     row: usize,
     words: &mut [i32],
@@ -133,211 +100,177 @@ fn put_cut_row(
     out: &mut [u8],
     at: usize,
 ) -> usize
-    requires { Known m b × KnownTotals m z × Lent b first.now size.now × (bound ≤ 64) × (row ≤ bound + 1) × (most_piece_words ≤ length words.old) × TextsOf (block_at one_hot_width m (row - 1)) (variables m 1) texts.now × Room (lines_of (row_of m bound row)) out.old at }
-    ensures { Wrote (lines_of (row_of m bound row)) out.old out.new at result × (length words.new ≡ length words.old) }
+    requires { (bound ≤ 64) × (row ≤ bound + 1) × (most_piece_words ≤ length words.old) × TextsOf (block_at one_hot_width layout.now.model (row - 1)) (variables layout.now.model 1) texts.now × Room (lines_of (row_of layout.now.model bound row)) out.old at }
+    ensures { Wrote (lines_of (row_of layout.now.model bound row)) out.old out.new at result × (length words.new ≡ length words.old) }
 {
     let mut end = at;
-    for p in 0..row_pieces(m, b, bound, row) {
-        let count = put_base_piece(m, z, b, first, size, bound, row, p, words);
-        end = put_words(words, count, texts, out, end);
+    for p in 0..row_pieces(layout, bound, row) {
+        let count = put_base_piece(layout, bound, row, p, words);
+        end = put_words(&words[..count], texts, out, end);
     }
     end
 }
 
 // All rows, each piece after piece.
 fn put_cut_rows(
-    m: Model,
-    z: Totals,
-    b: GroupTable,
-    first: &[u16],
-    size: &[u16],
+    layout: &Layout,
     bound: usize,
     words: &mut [i32],
     texts: &mut [u64],
     out: &mut [u8],
     at: usize,
 ) -> usize
-    requires { Known m b × KnownTotals m z × Lent b first.now size.now × (bound ≤ 64) × (most_piece_words ≤ length words.old) × (length texts.old ≡ entry_count) × Room (lines_of (clauses m bound)) out.old at }
-    ensures { Wrote (lines_of (clauses m bound)) out.old out.new at result }
+    requires { (bound ≤ 64) × (most_piece_words ≤ length words.old) × (length texts.old ≡ entry_count) × Room (lines_of (clauses layout.now.model bound)) out.old at }
+    ensures { Wrote (lines_of (clauses layout.now.model bound)) out.old out.new at result }
 {
     let mut end = at;
     for row in 0..bound + 2 {
-        fill_row(m, z, row, texts);
-        end = put_cut_row(m, z, b, first, size, bound, row, words, texts, out, end);
+        fill_row(layout, row, texts);
+        end = put_cut_row(layout, bound, row, words, texts, out, end);
     }
     end
 }
 
 // The words of row `row`, as at the first block. Of a step after a step they are there: the first `held` ones.
-fn put_row_words(
-    m: Model,
-    z: Totals,
-    b: GroupTable,
-    bound: usize,
-    row: usize,
-    held: usize,
-    words: &mut [i32],
-) -> usize
-    requires { Known m b × KnownTotals m z × (row ≤ bound + 1) × FewWords m × (most_piece_words ≤ length words.old) × (follows_step bound row ≡ true → Holds (row_of m 1 1) words.old held) }
-    ensures { Holds (row_of m (base_bound bound row) (base_row row)) words.new result × (length words.new ≡ length words.old) }
+fn put_row_words(layout: &Layout, bound: usize, row: usize, held: usize, words: &mut [i32]) -> usize
+    requires { (row ≤ bound + 1) × FewWords layout.now.model × (most_piece_words ≤ length words.old) × (follows_step bound row ≡ true → Holds (row_of layout.now.model 1 1) words.old held) }
+    ensures { Holds (row_of layout.now.model (base_bound bound row) (base_row row)) words.new result × (length words.new ≡ length words.old) }
 {
     if follows_step(bound, row) {
         return held;
     }
-    put_base_row(m, z, b, bound, row, words)
+    put_base_row(layout, bound, row, words)
 }
 
 // All rows, each at once.
 fn put_whole_rows(
-    m: Model,
-    z: Totals,
-    b: GroupTable,
+    layout: &Layout,
     bound: usize,
     words: &mut [i32],
     texts: &mut [u64],
     out: &mut [u8],
     at: usize,
 ) -> usize
-    requires { Known m b × KnownTotals m z × (bound ≤ 64) × FewWords m × (most_piece_words ≤ length words.old) × (length texts.old ≡ entry_count) × Room (lines_of (clauses m bound)) out.old at }
-    ensures { Wrote (lines_of (clauses m bound)) out.old out.new at result }
+    requires { (bound ≤ 64) × FewWords layout.now.model × (most_piece_words ≤ length words.old) × (length texts.old ≡ entry_count) × Room (lines_of (clauses layout.now.model bound)) out.old at }
+    ensures { Wrote (lines_of (clauses layout.now.model bound)) out.old out.new at result }
 {
     let mut end = at;
     let mut held: usize = 0;
     for row in 0..bound + 2 {
-        fill_row(m, z, row, texts);
-        held = put_row_words(m, z, b, bound, row, held, words);
-        end = put_words(words, held, texts, out, end);
+        fill_row(layout, row, texts);
+        held = put_row_words(layout, bound, row, held, words);
+        end = put_words(&words[..held], texts, out, end);
     }
     end
 }
 
 // The whole file. `one` has the counts of the list for one step.
 pub fn put_file(
-    m: Model,
-    z: Totals,
-    b: GroupTable,
+    layout: &Layout,
     n: ListCounts,
     one: ListCounts,
-    first: &[u16],
-    size: &[u16],
     bound: usize,
     words: &mut [i32],
     texts: &mut [u64],
     out: &mut [u8],
 ) -> usize
-    requires { Known m b × KnownTotals m z × KnownCounts m bound n × KnownCounts m 1 one × Lent b first.now size.now × (bound ≤ 64) × (most_piece_words ≤ length words.old) × (length texts.old ≡ entry_count) × Room (file m bound) out.old 0 }
-    ensures { Wrote (file m bound) out.old out.new 0 result }
+    requires { KnownCounts layout.now.model bound n × KnownCounts layout.now.model 1 one × (bound ≤ 64) × (most_piece_words ≤ length words.old) × (length texts.old ≡ entry_count) × Room (file layout.now.model bound) out.old 0 }
+    ensures { Wrote (file layout.now.model bound) out.old out.new 0 result }
 {
     let start = put_first_line(n.variables, n.clauses, out, 0);
-    if one.words <= FileAnswer::WORDS {
-        return put_whole_rows(m, z, b, bound, words, texts, out, start);
+    if one.words <= WORDS {
+        return put_whole_rows(layout, bound, words, texts, out, start);
     }
-    put_cut_rows(m, z, b, first, size, bound, words, texts, out, start)
+    put_cut_rows(layout, bound, words, texts, out, start)
 }
 
 // How many bytes row `row` takes, piece after piece.
 fn cut_row_bytes(
-    m: Model,
-    z: Totals,
-    b: GroupTable,
-    first: &[u16],
-    size: &[u16],
+    layout: &Layout,
     bound: usize,
     row: usize,
     words: &mut [i32],
     texts: &[u64],
 ) -> usize
-    requires { Known m b × KnownTotals m z × Lent b first.now size.now × (bound ≤ 64) × (row ≤ bound + 1) × (most_piece_words ≤ length words.old) × TextsOf (block_at one_hot_width m (row - 1)) (variables m 1) texts.now }
-    ensures { (result ≡ length (lines_of (row_of m bound row))) × (length words.new ≡ length words.old) }
+    requires { (bound ≤ 64) × (row ≤ bound + 1) × (most_piece_words ≤ length words.old) × TextsOf (block_at one_hot_width layout.now.model (row - 1)) (variables layout.now.model 1) texts.now }
+    ensures { (result ≡ length (lines_of (row_of layout.now.model bound row))) × (length words.new ≡ length words.old) }
 {
     let mut bytes: usize = 0;
-    for piece in 0..row_pieces(m, b, bound, row) {
-        let count = put_base_piece(m, z, b, first, size, bound, row, piece, words);
-        bytes += words_bytes(words, count, texts);
+    for piece in 0..row_pieces(layout, bound, row) {
+        let count = put_base_piece(layout, bound, row, piece, words);
+        bytes += words_bytes(&words[..count], texts);
     }
     bytes
 }
 
 // How many bytes row `row` takes.
 fn row_bytes(
-    m: Model,
-    z: Totals,
-    b: GroupTable,
+    layout: &Layout,
     one: ListCounts,
-    first: &[u16],
-    size: &[u16],
     bound: usize,
     row: usize,
     words: &mut [i32],
     texts: &mut [u64],
 ) -> usize
-    requires { Known m b × KnownTotals m z × KnownCounts m 1 one × Lent b first.now size.now × (bound ≤ 64) × (row ≤ bound + 1) × (most_piece_words ≤ length words.old) × (length texts.old ≡ entry_count) }
-    ensures { (result ≡ length (lines_of (row_of m bound row))) × (length words.new ≡ length words.old) × (length texts.new ≡ entry_count) }
+    requires { KnownCounts layout.now.model 1 one × (bound ≤ 64) × (row ≤ bound + 1) × (most_piece_words ≤ length words.old) × (length texts.old ≡ entry_count) }
+    ensures { (result ≡ length (lines_of (row_of layout.now.model bound row))) × (length words.new ≡ length words.old) × (length texts.new ≡ entry_count) }
 {
-    fill_row(m, z, row, texts);
-    if one.words <= FileAnswer::WORDS {
-        let count = put_base_row(m, z, b, bound, row, words);
-        return words_bytes(words, count, texts);
+    fill_row(layout, row, texts);
+    if one.words <= WORDS {
+        let count = put_base_row(layout, bound, row, words);
+        return words_bytes(&words[..count], texts);
     }
-    cut_row_bytes(m, z, b, first, size, bound, row, words, texts)
+    cut_row_bytes(layout, bound, row, words, texts)
 }
 
 // Row `row` and the one before it are steps, and all their numbers have as many digits.
-fn repeats_row(m: Model, z: Totals, bound: usize, row: usize) -> bool
-    requires { T (well_formed m) × KnownTotals m z × (bound ≤ 64) }
-    ensures { result ≡ repeats_row m bound row }
+fn repeats_row(layout: &Layout, bound: usize, row: usize) -> bool
+    requires { (bound ≤ 64) }
+    ensures { result ≡ repeats_row layout.now.model bound row }
 {
     if !follows_step(bound, row) {
         return false;
     }
-    let least = row_start(m, z, row - 1) + 1;
-    let greatest = row_start(m, z, row) + row_width(m, z);
+    let least = row_start(layout, row - 1) + 1;
+    let greatest = row_start(layout, row) + row_width(layout);
     places(least) == places(greatest)
 }
 
 // How many bytes row `row` takes, after one of `last` bytes: as many, where it repeats it.
 fn next_row_bytes(
-    m: Model,
-    z: Totals,
-    b: GroupTable,
+    layout: &Layout,
     one: ListCounts,
-    first: &[u16],
-    size: &[u16],
     bound: usize,
     row: usize,
     last: usize,
     words: &mut [i32],
     texts: &mut [u64],
 ) -> usize
-    requires { Known m b × KnownTotals m z × KnownCounts m 1 one × Lent b first.now size.now × (bound ≤ 64) × (row ≤ bound + 1) × (most_piece_words ≤ length words.old) × (length texts.old ≡ entry_count) × (1 ≤ row → last ≡ length (lines_of (row_of m bound (row - 1)))) }
-    ensures { (result ≡ length (lines_of (row_of m bound row))) × (length words.new ≡ length words.old) × (length texts.new ≡ entry_count) }
+    requires { KnownCounts layout.now.model 1 one × (bound ≤ 64) × (row ≤ bound + 1) × (most_piece_words ≤ length words.old) × (length texts.old ≡ entry_count) × (1 ≤ row → last ≡ length (lines_of (row_of layout.now.model bound (row - 1)))) }
+    ensures { (result ≡ length (lines_of (row_of layout.now.model bound row))) × (length words.new ≡ length words.old) × (length texts.new ≡ entry_count) }
 {
-    if repeats_row(m, z, bound, row) {
+    if repeats_row(layout, bound, row) {
         return last;
     }
-    row_bytes(m, z, b, one, first, size, bound, row, words, texts)
+    row_bytes(layout, one, bound, row, words, texts)
 }
 
 // How many bytes the whole file takes.
 pub fn file_bytes(
-    m: Model,
-    z: Totals,
-    b: GroupTable,
+    layout: &Layout,
     n: ListCounts,
     one: ListCounts,
-    first: &[u16],
-    size: &[u16],
     bound: usize,
     words: &mut [i32],
     texts: &mut [u64],
 ) -> usize
-    requires { Known m b × KnownTotals m z × KnownCounts m bound n × KnownCounts m 1 one × Lent b first.now size.now × (bound ≤ 64) × (most_piece_words ≤ length words.old) × (length texts.old ≡ entry_count) }
-    ensures { (result ≡ length (file m bound)) × (length words.new ≡ length words.old) × (length texts.new ≡ entry_count) }
+    requires { KnownCounts layout.now.model bound n × KnownCounts layout.now.model 1 one × (bound ≤ 64) × (most_piece_words ≤ length words.old) × (length texts.old ≡ entry_count) }
+    ensures { (result ≡ length (file layout.now.model bound)) × (length words.new ≡ length words.old) × (length texts.new ≡ entry_count) }
 {
     let mut bytes = first_line_bytes(n.variables, n.clauses);
     let mut last: usize = 0;
     for row in 0..bound + 2 {
-        last = next_row_bytes(m, z, b, one, first, size, bound, row, last, words, texts);
+        last = next_row_bytes(layout, one, bound, row, last, words, texts);
         bytes += last;
     }
     bytes

@@ -1,11 +1,13 @@
 // Words as text, by a table of the texts of numbers: each clause a line. An entry of the table is a text of at most 7 bytes, the first byte
 // lowest; the highest byte says how many they are.
-ghost use Rattle.std.specs.Prelude.{◌≡◌, ◌+◌, ◌*◌, ◌/◌, ◌%◌, ◌<◌, ◌≤◌, ◌^◌, nat_abs, length, take, get_or};
+ghost use Rattle.std.specs.Prelude.{◌≡◌, ◌+◌, ◌*◌, ◌/◌, ◌%◌, ◌<◌, ◌≤◌, ◌^◌, nat_abs, length, get_or};
 ghost use Rattle.list.specs.Lists.{All};
 ghost use Rattle.buffer.specs.Buffers.{Room, Wrote};
 ghost use Rattle.emission.specs.Cut.{most_piece_words};
 ghost use Rattle.dimacs.specs.Texts.{text_of, bytes_of, number_text, Entry, Leads};
 ghost use Rattle.dimacs.specs.Texts.{most_near, entry_count, slot, entries_text, HasText, TextsOf, Ahead};
+
+use decimal::put_bytes;
 
 // The highest byte of an entry counts: 2 ^ 56.
 const COUNT: u64 = 72057594037927936;
@@ -48,11 +50,7 @@ fn ten_end(o: usize, i: usize, n: usize) -> usize
     requires { (i < n) × (o + n < 100000) }
     ensures { (i < result) × (result ≤ n) × ((o + result) / 10 ≡ (o + (i + 1)) / 10) }
 {
-    let j = i + 10 - (o + (i + 1)) % 10;
-    if j < n {
-        return j;
-    }
-    n
+    (i + 10 - (o + (i + 1)) % 10).min(n)
 }
 
 // The table of the words of up to `i` variables goes on up to `j`. The numbers of these differ in the last digit alone: from one to the next
@@ -67,7 +65,7 @@ fn fill_ten(o: usize, i: usize, j: usize, texts: &mut [u64])
         let v = k + 1;
         texts[608 + v] = x;
         texts[608 - v] = led(45, x);
-        x = x + rise;
+        x += rise;
     }
 }
 
@@ -98,14 +96,7 @@ fn put_eight(x: u64, out: &mut [u8], at: usize)
     requires { at + 8 ≤ length out.old }
     ensures { Wrote (bytes_of 8 x) out.old out.new at (at + 8) }
 {
-    out[at] = (x % 256) as u8;
-    out[at + 1] = (x / 256 % 256) as u8;
-    out[at + 2] = (x / 65536 % 256) as u8;
-    out[at + 3] = (x / 16777216 % 256) as u8;
-    out[at + 4] = (x / 4294967296 % 256) as u8;
-    out[at + 5] = (x / 1099511627776 % 256) as u8;
-    out[at + 6] = (x / 281474976710656 % 256) as u8;
-    out[at + 7] = (x / COUNT % 256) as u8;
+    out[at..at + 8].copy_from_slice(&x.to_le_bytes());
 }
 
 // Words, eight bytes stored for each: up to 6 bytes beyond the text are overwritten.
@@ -114,28 +105,20 @@ fn put_ahead(words: &[i32], texts: &[u64], out: &mut [u8], at: usize) -> usize
     ensures { Ahead (entries_text texts.now words.now) out.old out.new at result }
 {
     let mut end = at;
-    for i in 0..words.len() {
-        let x = entry(words[i], texts);
+    for w in words {
+        let x = entry(*w, texts);
         put_eight(x, out, end);
-        end = end + (x / COUNT) as usize;
+        end += (x / COUNT) as usize;
     }
     end
 }
 
 // The text of an entry.
 fn put_text(x: u64, out: &mut [u8], at: usize) -> usize
-    requires { Room (text_of x) out.old at }
+    requires { (x / 2 ^ 56 ≤ 7) × Room (text_of x) out.old at }
     ensures { Wrote (text_of x) out.old out.new at result }
 {
-    let mut rest = x;
-    let mut end = at;
-    let count = x / COUNT;
-    for _ in 0..count {
-        out[end] = (rest % 256) as u8;
-        rest = rest / 256;
-        end += 1;
-    }
-    end
+    put_bytes(&x.to_le_bytes()[..(x / COUNT) as usize], out, at)
 }
 
 // Words, each byte by byte.
@@ -144,34 +127,34 @@ fn put_exact(words: &[i32], texts: &[u64], out: &mut [u8], at: usize) -> usize
     ensures { Wrote (entries_text texts.now words.now) out.old out.new at result }
 {
     let mut end = at;
-    for i in 0..words.len() {
-        end = put_text(entry(words[i], texts), out, end);
+    for w in words {
+        end = put_text(entry(*w, texts), out, end);
     }
     end
 }
 
-// The first `n` words. All but the last three are stored eight bytes at a time: what is beyond a text is covered by those after it, which
-// have two bytes at least.
-pub fn put_words(words: &[i32], n: usize, texts: &[u64], out: &mut [u8], at: usize) -> usize
-    requires { (n ≤ length words.now) × (length texts.now ≡ entry_count) × All (HasText texts.now) (take n words.now) × Room (entries_text texts.now (take n words.now)) out.old at }
-    ensures { Wrote (entries_text texts.now (take n words.now)) out.old out.new at result }
+// Words. All but the last three are stored eight bytes at a time: what is beyond a text is covered by those after it, which have two bytes at
+// least.
+pub fn put_words(words: &[i32], texts: &[u64], out: &mut [u8], at: usize) -> usize
+    requires { (length texts.now ≡ entry_count) × All (HasText texts.now) words.now × Room (entries_text texts.now words.now) out.old at }
+    ensures { Wrote (entries_text texts.now words.now) out.old out.new at result }
 {
-    if n < 3 {
-        return put_exact(&words[..n], texts, out, at);
+    if words.len() < 3 {
+        return put_exact(words, texts, out, at);
     }
-    let cut = n - 3;
-    let end = put_ahead(&words[..cut], texts, out, at);
-    put_exact(&words[cut..n], texts, out, end)
+    let (ahead, last) = words.split_at(words.len() - 3);
+    let end = put_ahead(ahead, texts, out, at);
+    put_exact(last, texts, out, end)
 }
 
-// How many bytes the first `n` words take.
-pub fn words_bytes(words: &[i32], n: usize, texts: &[u64]) -> usize
-    requires { (n ≤ length words.now) × (n ≤ most_piece_words) × (length texts.now ≡ entry_count) × All (HasText texts.now) (take n words.now) }
-    ensures { result ≡ length (entries_text texts.now (take n words.now)) }
+// How many bytes words take.
+pub fn words_bytes(words: &[i32], texts: &[u64]) -> usize
+    requires { (length words.now ≤ most_piece_words) × (length texts.now ≡ entry_count) × All (HasText texts.now) words.now }
+    ensures { result ≡ length (entries_text texts.now words.now) }
 {
     let mut bytes: usize = 0;
-    for i in 0..n {
-        bytes = bytes + (entry(words[i], texts) / COUNT) as usize;
+    for w in words {
+        bytes += (entry(*w, texts) / COUNT) as usize;
     }
     bytes
 }

@@ -1,18 +1,18 @@
--- Laws of clauses that are written: those of any buffer, at the words of clauses; and clauses that are stored word by word.
-use mathlib.Core.Path.{◌≡◌, refl, sym, ap, ◌∙◌}
-use mathlib.Core.List.{List, [], ◌∷◌, ◌++◌, append_assoc}
+-- Laws of clauses that are written: those of any buffer, at the words of clauses; and a clause by the words of its literals.
+use mathlib.Core.Path.{◌≡◌, refl, sym, ap, ap₂, ◌∙◌}
+use mathlib.Core.List.{List, [], ◌∷◌, ◌++◌, append_assoc, append-nil, map}
 use Prim.Native.Nat.{ℕ, zero, suc, ◌+◌, ◌-◌, ◌≤◌, ◌<◌}
-use native.Mathlib.Numerals.{add-one, add-two, add-three}
-use native.Mathlib.Omega.{arith}
 use lib.IntN.{ℤ, pos}
-use lib.ListN.{length, take, drop, set}
+use native.Mathlib.Omega.{arith}
+use lib.ListN.{length, take, drop, length-append, length-drop}
+use lib.Seq.{drop-drop, length-take-le}
 use mir.Syntax.{w32}
 use mir.Val.{SFits, to_z, of_z}
 use mir.ValLaws.{to_z-of_z}
 use Rattle.model.specs.Indexed.{each}
 use Rattle.model.proofs.IndexedLaws.{each_zero, each_suc}
 use Rattle.list.specs.Clauses.{Literal, Clause, word, clause_words, words_of, one}
-use Rattle.buffer.specs.Buffers.{Wrote}
+use Rattle.buffer.specs.Buffers.{Room, Wrote}
 use Rattle.buffer.proofs.BufferLaws as buffer
 use Rattle.emission.specs.Written.{RoomFor, WroteClauses}
 
@@ -33,17 +33,9 @@ words_each f (suc n) =
     ap words_of (each_suc n f) ∙ words_append (each n f) (f n) ∙ ap (λ (l : List ℤ). l ++ words_of (f n)) (words_each f n) ∙ sym
     (each_suc n (λ i. words_of (f i)))
 
-pub words_1 : (p : Literal) → length (words_of (one (p ∷ []))) ≡ 2
-unfolding words_of clause_words one
-words_1 p = refl
-
-pub words_2 : (p q : Literal) → length (words_of (one (p ∷ q ∷ []))) ≡ 3
-unfolding words_of clause_words one
-words_2 p q = refl
-
-pub words_3 : (p q r : Literal) → length (words_of (one (p ∷ q ∷ r ∷ []))) ≡ 4
-unfolding words_of clause_words one
-words_3 p q r = refl
+pub one_words : (c : Clause) → words_of (one c) ≡ map word c ++ (pos 0 ∷ [])
+unfolding words_of one clause_words
+one_words c = append-nil (map word c ++ (pos 0 ∷ []))
 
 -- ---- the same clauses under another name
 pub wrote_as : {cs ds : List Clause} {old new : List ℤ} {a e : ℕ} → cs ≡ ds → WroteClauses ds old new a e → WroteClauses cs old new a e
@@ -100,26 +92,39 @@ module _ (f : ℕ → List Clause) where
   pub room_each : (i n : ℕ) {old mid : List ℤ} {a b : ℕ} → WroteClauses (each i f) old mid a b → i < n → RoomFor (each n f) old a → RoomFor (f i) mid b
   room_each i n p h r = record { words = buffer.room_each F i n (turns i p) h (buffer.room_as (words_each f n) r.words) }
 
--- ---- clauses of one, two and three literals, stored word by word
-pub clause_1 : (p : Literal) (l : List ℤ) (at : ℕ) (x : ℤ) → x ≡ word p → SFits w32 x → RoomFor (one (p ∷ [])) l at
-    → WroteClauses (one (p ∷ [])) l (set (set l at (to_z w32 (of_z w32 x))) (at + 1) (pos 0)) at (at + 2)
-unfolding words_of clause_words one
-clause_1 p l at x ex fx room =
-    rw (to_z-of_z w32 x fx, ex, add-one at) (record { words = buffer.wrote_sets (word p ∷ pos 0 ∷ []) l at (omega (arith, room.words.room, words_1 p)) })
+-- ---- a clause by the words of its literals
+pub wrote_clause : (c : Clause) {literals old new : List ℤ} {a e : ℕ} → literals ≡ map word c → Wrote (literals ++ (pos 0 ∷ [])) old new a e
+    → WroteClauses (one c) old new a e
+wrote_clause c h w = record { words = buffer.wrote_as (one_words c) (rw h at w) }
 
-pub clause_2 : (p q : Literal) (l : List ℤ) (at : ℕ) (x y : ℤ) → x ≡ word p → y ≡ word q → SFits w32 x → SFits w32 y
-    → RoomFor (one (p ∷ q ∷ [])) l at
-    → WroteClauses (one (p ∷ q ∷ [])) l (set (set (set l at (to_z w32 (of_z w32 x))) (at + 1) (to_z w32 (of_z w32 y))) (at + 2) (pos 0)) at (at + 3)
-unfolding words_of clause_words one
-clause_2 p q l at x y ex ey fx fy room =
-    rw (to_z-of_z w32 x fx, to_z-of_z w32 y fy, ex, ey, add-one at, add-two at)
-    (record { words = buffer.wrote_sets (word p ∷ word q ∷ pos 0 ∷ []) l at (omega (arith, room.words.room, words_2 p q)) })
+pub room_clause : (c : Clause) {literals l : List ℤ} {a : ℕ} → literals ≡ map word c → RoomFor (one c) l a → Room (literals ++ (pos 0 ∷ [])) l a
+room_clause c h r = rw h (buffer.room_as (one_words c) r.words)
 
-pub clause_3 : (p q r : Literal) (l : List ℤ) (at : ℕ) (x y z : ℤ) → x ≡ word p → y ≡ word q → z ≡ word r → SFits w32 x → SFits w32 y
-    → SFits w32 z → RoomFor (one (p ∷ q ∷ r ∷ [])) l at
-    → WroteClauses (one (p ∷ q ∷ r ∷ [])) l
-    (set (set (set (set l at (to_z w32 (of_z w32 x))) (at + 1) (to_z w32 (of_z w32 y))) (at + 2) (to_z w32 (of_z w32 z))) (at + 3) (pos 0)) at (at + 4)
-unfolding words_of clause_words one
-clause_3 p q r l at x y z ex ey ez fx fy fz room =
-    rw (to_z-of_z w32 x fx, to_z-of_z w32 y fy, to_z-of_z w32 z fz, ex, ey, ez, add-one at, add-two at, add-three at)
-    (record { words = buffer.wrote_sets (word p ∷ word q ∷ word r ∷ pos 0 ∷ []) l at (omega (arith, room.words.room, words_3 p q r)) })
+-- a word as it is stored
+pub stored : (x : ℤ) {w : ℤ} → x ≡ w → SFits w32 x → to_z w32 (of_z w32 x) ≡ w
+stored x e f = to_z-of_z w32 x f ∙ e
+
+pub literals_1 : {x : ℤ} (p : Literal) → x ≡ word p → x ∷ [] ≡ map word (p ∷ [])
+literals_1 p e = λ k. e k ∷ []
+
+pub literals_2 : {x y : ℤ} (p q : Literal) → x ≡ word p → y ≡ word q → x ∷ y ∷ [] ≡ map word (p ∷ q ∷ [])
+literals_2 p q e f = λ k. e k ∷ f k ∷ []
+
+pub literals_3 : {x y z : ℤ} (p q r : Literal) → x ≡ word p → y ≡ word q → z ≡ word r → x ∷ y ∷ z ∷ [] ≡ map word (p ∷ q ∷ r ∷ [])
+literals_3 p q r e f g = λ k. e k ∷ f k ∷ g k ∷ []
+
+-- words that take the place of as many, up to e
+pub wrote_part : {p new l : List ℤ} {at n e : ℕ} → n ≡ length p → e ≡ at + length p → new ≡ p → at + length p ≤ length l
+    → Wrote p l (take at l ++ (new ++ drop n (drop at l))) at e
+wrote_part {p} {new} {l} {at} {n} {e} q f g h =
+    let all : take at l ++ (new ++ drop n (drop at l)) ≡ take at l ++ p ++ drop e l =
+    ap₂ (λ (x : List ℤ) (k : ℕ). take at l ++ (x ++ drop k (drop at l))) g q
+    ∙ ap (λ (x : List ℤ). take at l ++ (p ++ x)) (drop-drop (length p) at l)
+    ∙ ap (λ (k : ℕ). take at l ++ (p ++ drop k l)) (sym f)
+    ∙ sym (append_assoc (take at l) p (drop e l)) in
+    record {
+      ends = f;
+      fits = omega arith;
+      long = ap length all ∙ simp (length-append, length-drop) (omega (arith, length-take-le at l (omega arith)));
+      list = all;
+    }

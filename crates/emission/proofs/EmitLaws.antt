@@ -1,20 +1,17 @@
 -- The report and the buffer of an emission, by its tests. `r` is the room that the code computes, `room` that of the definition.
-use mathlib.Core.Path.{◌≡◌, refl, ap, ◌∙◌}
-use mathlib.Core.Bool.{true, false}
-use mathlib.Core.List.{List, ◌++◌}
-use Prim.Native.Nat.{ℕ, ◌≤◌, ◌<◌}
-use native.Mathlib.Omega.{arith}
-use lib.Dec.{ltb}
-use lib.IntN.{ℤ}
-use lib.ListN.{length, drop}
+use Rattle.std.proofs.Common.{ℕ, ◌≤◌, ◌<◌, ◌≡◌, List, ◌++◌, ℤ, true, false, ltb, Err, length, drop, arith, refl, ap, ◌∙◌}
 use borrow.Author.Tests.{lt-ltb, le-ltb}
 use Rattle.model.specs.declared.Model.{Model}
 use Rattle.model.specs.Form.{well_formed}
 use Rattle.list.specs.Clauses.{clauses, words, words_of}
+use Rattle.form.specs.BoundCheck.{bound_checked}
+use Rattle.form.specs.declared.ListRefusal.{ListRefusal}
+use Rattle.form.specs.declared.ListRefusal.TheVariants.{NotWellFormed, BoundTooLarge}
+use Rattle.form.proofs.BoundLaws.{bound_20, bound_21}
 use Rattle.counts.specs.declared.ListCounts.{ListCounts}
 use Rattle.counts.specs.KnownCounts.{KnownCounts}
 use Rattle.emission.specs.Written.{RoomFor, WroteClauses}
-use Rattle.emission.specs.EmitCall.{EmitReport, emit_reported, emit_report, emit_left}
+use Rattle.emission.specs.EmitCall.{EmitReport, emit_reported, emit_report, emit_left, emit_refusal, emit_told}
 
 -- the report and what is left in the buffer
 pub record Emitted (m : Model) (k room : ℕ) (old new : List ℤ) (told : EmitReport) : Type 0 where
@@ -34,20 +31,20 @@ written m k old new end w =
     w.words.list ∙ ap (λ (n : ℕ). words m k ++ drop n old) q
 
 module _ (m : Model) (k room : ℕ) (old : List ℤ) where
-  pub refused_20 : well_formed m ≡ false → Emitted m k room old old (emit_reported 20 0 0 0)
+  -- what the tests refuse, the report refuses with the same number
+  pub refused : (e : ListRefusal) → Err e ≡ bound_checked m k → Emitted m k room old old (emit_told (Err (emit_refusal e)))
   unfolding emit_left emit_report
-  refused_20 e = record { report = rw e; left = rw e }
+  refused NotWellFormed q = let e = bound_20 m k q in record { report = rw e; left = rw e }
+  refused BoundTooLarge q =
+      let p = bound_21 m k q in
+      record { report = rw (p.0, lt-ltb 64 k p.1); left = rw (p.0, lt-ltb 64 k p.1) }
 
-  pub refused_21 : well_formed m ≡ true → 64 < k → Emitted m k room old old (emit_reported 21 0 0 0)
-  unfolding emit_left emit_report
-  refused_21 e f = record { report = rw (e, lt-ltb 64 k f); left = rw (e, lt-ltb 64 k f) }
-
-  module _ (e : well_formed m ≡ true) (f : k ≤ 64) (n : ListCounts) (c : KnownCounts m k n) where
+  module _ (ok : (well_formed m ≡ true) × (k ≤ 64)) (n : ListCounts) (c : KnownCounts m k n) where
     pub refused_22 : room < n.words → Emitted m k room old old (emit_reported 22 0 0 n.words)
     unfolding emit_left emit_report
     refused_22 g =
         let h : ltb room (length (words m k)) ≡ true = lt-ltb room (length (words m k)) (omega (arith, c.words)) in
-        record { report = rw (e, le-ltb 64 k f, h) (ap (emit_reported 22 0 0) c.words); left = rw (e, le-ltb 64 k f, h) }
+        record { report = rw (ok.0, le-ltb 64 k ok.1, h) (ap (emit_reported 22 0 0) c.words); left = rw (ok.0, le-ltb 64 k ok.1, h) }
 
     pub accepted : n.words ≤ room → (new : List ℤ) (end : ℕ) → WroteClauses (clauses m k) old new 0 end
         → Emitted m k room old new (emit_reported 0 n.variables n.clauses n.words)
@@ -55,14 +52,10 @@ module _ (m : Model) (k room : ℕ) (old : List ℤ) where
     accepted g new end w =
         let h : ltb room (length (words m k)) ≡ false = le-ltb room (length (words m k)) (omega (arith, c.words)) in
         record {
-          report = rw (e, le-ltb 64 k f, h) (λ i. emit_reported 0 (c.variables i) (c.clauses i) (c.words i));
-          left = rw (e, le-ltb 64 k f, h) (written m k old new end w);
+          report = rw (ok.0, le-ltb 64 k ok.1, h) (λ i. emit_reported 0 (c.variables i) (c.clauses i) (c.words i));
+          left = rw (ok.0, le-ltb 64 k ok.1, h) (written m k old new end w);
         }
 
     -- room for the list
     pub list_room : n.words ≤ length old → RoomFor (clauses m k) old 0
     list_room g = record { words = record { room = omega (arith, c.words, size_words m k) } }
-
--- a room under another name
-pub room_is : (m : Model) (k : ℕ) {r room : ℕ} {old new : List ℤ} {told : EmitReport} → r ≡ room → Emitted m k r old new told → Emitted m k room old new told
-room_is m k e h = rw e at h

@@ -1,11 +1,7 @@
-pub mod Signed
 pub mod ClauseLaws
 pub mod Members
-pub mod RuleLaws
-pub mod TableLaws
-pub mod LeafLaws
+pub mod PartRows
 pub mod ListPieces
 pub mod CutLaws
 pub mod CutRaised
-pub mod CutByTable
 pub mod EmitLaws

@@ -1,11 +1,14 @@
 -- What emission answers, and what it leaves in the lent buffer.
-use Rattle.std.specs.Prelude.{ℕ, not, cond, List, ◌++◌, ltb, eqb, ℤ, length, drop}
+use Rattle.std.specs.Prelude.{ℕ, not, cond, List, ◌++◌, ltb, eqb, ℤ, length, drop, Result, Ok, Err}
 use Rattle.model.specs.declared.Model.{Model}
 use Rattle.model.specs.Automaton.{variables}
 use Rattle.model.specs.Form.{well_formed}
 use Rattle.list.specs.Clauses.{clauses, words}
-use Rattle.emission.specs.declared.Emission.{Emission}
-use Rattle.emission.specs.declared.Emission.TheVariants.{NotWellFormed, BoundTooLarge, BufferTooShort, Written}
+use Rattle.form.specs.declared.ListRefusal.{ListRefusal}
+use Rattle.form.specs.declared.ListRefusal.TheVariants as list
+use Rattle.counts.specs.declared.ListCounts.{ListCounts}
+use Rattle.emission.specs.declared.EmitRefusal.{EmitRefusal}
+use Rattle.emission.specs.declared.EmitRefusal.TheVariants.{NotWellFormed, BoundTooLarge, BufferTooShort}
 
 -- a number of the table of refusals, or 0, and the counts of the list
 pub record EmitReport : Type 0 where
@@ -30,9 +33,14 @@ emit_report m k room =
 unfoldable pub emit_left : Model → ℕ → ℕ → List ℤ → List ℤ
 emit_left m k room out = cond (eqb (emit_report m k room).number 0) (words m k ++ drop (length (words m k)) out) out
 
+-- what a refused record or bound becomes
+abbrev pub emit_refusal : ListRefusal → EmitRefusal
+emit_refusal list.NotWellFormed = NotWellFormed
+emit_refusal list.BoundTooLarge = BoundTooLarge
+
 -- the numbers of each case of the answer
-abbrev pub emit_told : Emission → EmitReport
-emit_told NotWellFormed = emit_reported 20 0 0 0
-emit_told BoundTooLarge = emit_reported 21 0 0 0
-emit_told (BufferTooShort w) = emit_reported 22 0 0 w
-emit_told (Written v c w) = emit_reported 0 v c w
+abbrev pub emit_told : Result ListCounts EmitRefusal → EmitReport
+emit_told (Err NotWellFormed) = emit_reported 20 0 0 0
+emit_told (Err BoundTooLarge) = emit_reported 21 0 0 0
+emit_told (Err (BufferTooShort w)) = emit_reported 22 0 0 w
+emit_told (Ok n) = emit_reported 0 n.variables n.clauses n.words

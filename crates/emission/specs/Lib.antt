@@ -3,5 +3,4 @@ pub mod Written
 pub mod Pairs
 pub mod Writable
 pub mod Compared
-pub mod Initial
 pub mod Cut

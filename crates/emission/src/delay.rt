@@ -1,32 +1,31 @@
 // Writers of a step's choice group and of its delays, from the state block that begins at `o`, variables counted from 0.
-ghost use Rattle.std.specs.Prelude.{ℕ, ◌+◌, ◌<◌, ◌≤◌};
-ghost use Rattle.model.specs.Indexed.{each};
-ghost use Rattle.list.specs.Clauses.{group_clauses};
+ghost use Rattle.std.specs.Prelude.{◌+◌, ◌<◌, ◌≤◌};
+ghost use Rattle.list.specs.Items.{choice_items, delay_items, delays_items};
+ghost use Rattle.list.specs.Clauses.{one_hot_width, clauses_of};
 ghost use Rattle.parts.specs.Numbering.{most_variables};
 ghost use Rattle.parts.specs.Rules.{part_clauses, Fits};
 ghost use Rattle.parts.specs.PartsOf.{delay_part};
-ghost use Rattle.parts.specs.Pieces.{BlockIn, StepIn, delay_pieces};
 ghost use Rattle.emission.specs.Written.{RoomFor, WroteClauses};
-ghost use Rattle.emission.specs.Writable.{Lent};
+ghost use Rattle.emission.specs.Writable.{StepFits};
 
-use crate::rules::{put_kept, put_raised};
+use crate::rules::put_row;
 use crate::words::put_group;
-use parts::GroupTable;
+use parts::layout::Layout;
+use parts::{GroupTable, Rule};
 
 // The group clauses of the choice.
-pub fn put_choice(b: GroupTable, o: usize, out: &mut [i32], at: usize) -> usize
-    requires { StepIn b o most_variables × RoomFor (group_clauses (o + b.state) b.choices) out.old at }
-    ensures { WroteClauses (group_clauses (o + b.state) b.choices) out.old out.new at result }
+pub fn put_choice(layout: &Layout, o: usize, out: &mut [i32], at: usize) -> usize
+    requires { StepFits layout.now.model o × RoomFor (clauses_of (choice_items one_hot_width layout.now.model o)) out.old at }
+    ensures { WroteClauses (clauses_of (choice_items one_hot_width layout.now.model o)) out.old out.new at result }
 {
+    let b = &layout.table;
     let start = o as u16 + b.state as u16;
     put_group(start as usize, b.choices, out, at)
 }
 
 // Delay `d` on group `g`, under its choice `x`: a clock rises to M at most, all else stays.
 fn put_delay_group(
-    b: GroupTable,
-    first: &[u16],
-    size: &[u16],
+    b: &GroupTable,
     x: usize,
     o: usize,
     d: usize,
@@ -34,56 +33,46 @@ fn put_delay_group(
     out: &mut [i32],
     at: usize,
 ) -> usize
-    requires { Lent b first.now size.now × (x < most_variables) × (d ≤ b.top) × (g < 9) × (b.vars ≤ 4) × Fits (delay_part b o d g) most_variables × RoomFor (part_clauses x (delay_part b o d g)) out.old at }
-    ensures { WroteClauses (part_clauses x (delay_part b o d g)) out.old out.new at result }
+    requires { (x < most_variables) × (d ≤ b.now.top) × (b.now.vars ≤ 4) × Fits (delay_part b.now o d g) most_variables × RoomFor (part_clauses x (delay_part b.now o d g)) out.old at }
+    ensures { WroteClauses (part_clauses x (delay_part b.now o d g)) out.old out.new at result }
 {
-    let place = first[g];
-    let n = size[g] as usize;
+    let group = b.group(g);
+    let n = group.size as usize;
     let block = o as u16;
-    let before = (block + place) as usize;
-    let after = (block + b.state as u16 + b.choices as u16 + place) as usize;
+    let before = (block + group.first) as usize;
+    let after = (block + b.state as u16 + b.choices as u16 + group.first) as usize;
     if g < 1 + b.vars {
-        return put_kept(x, before, after, n, out, at);
+        return put_row(x, before, after, n, Rule::Keep, out, at);
     }
-    put_raised(x, before, after, n, d, b.top as usize, out, at)
+    let rule = Rule::Rise {
+        by: d as u8,
+        top: b.top,
+    };
+    put_row(x, before, after, n, rule, out, at)
 }
 
 // Delay `d`: each group.
-pub fn put_delay(
-    b: GroupTable,
-    first: &[u16],
-    size: &[u16],
-    o: usize,
-    d: usize,
-    out: &mut [i32],
-    at: usize,
-) -> usize
-    requires { Lent b first.now size.now × BlockIn b o most_variables × StepIn b o most_variables × (b.vars ≤ 4) × (d ≤ b.top) × RoomFor (delay_pieces b o d) out.old at }
-    ensures { WroteClauses (delay_pieces b o d) out.old out.new at result }
+pub fn put_delay(layout: &Layout, o: usize, d: usize, out: &mut [i32], at: usize) -> usize
+    requires { StepFits layout.now.model o × (d ≤ layout.now.table.top) × RoomFor (clauses_of (delay_items one_hot_width layout.now.model o d)) out.old at }
+    ensures { WroteClauses (clauses_of (delay_items one_hot_width layout.now.model o d)) out.old out.new at result }
 {
+    let b = &layout.table;
     let x = (o as u16 + b.state as u16 + d as u16) as usize;
     let mut end = at;
     for g in 0..b.groups {
-        end = put_delay_group(b, first, size, x, o, d, g, out, end);
+        end = put_delay_group(b, x, o, d, g, out, end);
     }
     end
 }
 
 // Each delay, 0 to the ceiling.
-pub fn put_delays(
-    b: GroupTable,
-    first: &[u16],
-    size: &[u16],
-    o: usize,
-    out: &mut [i32],
-    at: usize,
-) -> usize
-    requires { Lent b first.now size.now × BlockIn b o most_variables × StepIn b o most_variables × (b.vars ≤ 4) × RoomFor (each (b.top + 1) (delay_pieces b o)) out.old at }
-    ensures { WroteClauses (each (b.top + 1) (delay_pieces b o)) out.old out.new at result }
+pub fn put_delays(layout: &Layout, o: usize, out: &mut [i32], at: usize) -> usize
+    requires { StepFits layout.now.model o × RoomFor (clauses_of (delays_items one_hot_width layout.now.model o)) out.old at }
+    ensures { WroteClauses (clauses_of (delays_items one_hot_width layout.now.model o)) out.old out.new at result }
 {
     let mut end = at;
-    for d in 0..b.top as usize + 1 {
-        end = put_delay(b, first, size, o, d, out, end);
+    for d in 0..layout.table.top as usize + 1 {
+        end = put_delay(layout, o, d, out, end);
     }
     end
 }

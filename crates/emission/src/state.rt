@@ -1,171 +1,150 @@
-// Writers of the state clauses of the state block that begins at `o`, variables counted from 0. The arrays of the table `b` are lent as `first`
-// and `size`: an array in a record that is handed on by value is copied wherever an element of it is read. Of its other fields atoms get the one
-// that they are read by: the record itself is copied at every call that is not compiled in place.
-ghost use Rattle.std.specs.Prelude.{◌≡◌, ◌++◌, ℕ, ◌+◌, ◌<◌};
+// Writers of the state clauses of the state block that begins at `o`, variables counted from 0.
+ghost use Rattle.std.specs.Prelude.{◌≡◌, ℕ, ◌<◌, ◌≤◌};
 ghost use Rattle.model.specs.Indexed.{each};
 ghost use Rattle.model.specs.Record.{atom_at};
+ghost use Rattle.list.specs.Items.{group_items, invariant_of, invariant_items, state_items};
+ghost use Rattle.list.specs.Clauses.{one_hot_width, clauses_of};
 ghost use Rattle.parts.specs.Numbering.{most_variables};
-ghost use Rattle.parts.specs.Rules.{part_clauses};
-ghost use Rattle.parts.specs.StateBlock.{size_at};
+ghost use Rattle.parts.specs.Rules.{part_clauses, Fits};
 ghost use Rattle.parts.specs.PartsOf.{atom_part};
-ghost use Rattle.parts.specs.Pieces.{BlockIn, group_piece, atom_piece};
+ghost use Rattle.parts.specs.Pieces.{group_piece, atom_piece};
 ghost use Rattle.emission.specs.Written.{RoomFor, WroteClauses};
 ghost use Rattle.emission.specs.Compared.{comparison};
-ghost use Rattle.emission.specs.Writable.{Lent, AtomFits, InvariantsFit, invariant_piece, atom_table};
+ghost use Rattle.emission.specs.Writable.{StateFits};
 
-use crate::rules::put_excluded;
+use crate::rules::put_row;
 use crate::words::put_group;
-use model::{Atom, Invariant, Model, Relation};
-use parts::GroupTable;
+use model::{Atom, Model, Relation};
+use parts::layout::Layout;
+use parts::{GroupTable, Rule};
+
+// The group clauses of group `g`.
+pub fn put_group_at(layout: &Layout, o: usize, g: usize, out: &mut [i32], at: usize) -> usize
+    requires { StateFits layout.now.model o × (g < layout.now.table.groups) × RoomFor (group_piece layout.now.table o g) out.old at }
+    ensures { WroteClauses (group_piece layout.now.table o g) out.old out.new at result }
+{
+    let group = layout.table.group(g);
+    let start = o as u16 + group.first;
+    put_group(start as usize, group.size as usize, out, at)
+}
 
 // The group clauses of each group.
-fn put_groups(
-    b: GroupTable,
-    first: &[u16],
-    size: &[u16],
-    o: usize,
-    out: &mut [i32],
-    at: usize,
-) -> usize
-    requires { Lent b first.now size.now × BlockIn b o most_variables × RoomFor (each b.groups (group_piece b o)) out.old at }
-    ensures { WroteClauses (each b.groups (group_piece b o)) out.old out.new at result }
+fn put_groups(layout: &Layout, o: usize, out: &mut [i32], at: usize) -> usize
+    requires { StateFits layout.now.model o × RoomFor (clauses_of (group_items one_hot_width layout.now.model o)) out.old at }
+    ensures { WroteClauses (clauses_of (group_items one_hot_width layout.now.model o)) out.old out.new at result }
 {
     let mut end = at;
-    for g in 0..b.groups {
-        let start = o as u16 + first[g];
-        end = put_group(start as usize, size[g] as usize, out, end);
+    for g in 0..layout.table.groups {
+        end = put_group_at(layout, o, g, out, end);
     }
     end
 }
 
-// What an atom compares: a group, by a relation with a constant. A blank slot has group 0, the locations, which no atom names. So clocks and
-// counters are written by one call, and the code of an atom is short enough to stand in its loop.
-#[derive(Clone, Copy)]
+// What an atom compares: a group, by a relation with a constant. So clocks and counters are written by one call, and the code of an atom is short
+// enough to stand in its loop.
+#[derive(Clone, Copy, Debug, PartialEq, Eq)]
 pub struct Comparison {
     pub group: usize,
     pub relation: Relation,
     pub constant: u8,
 }
 
-fn compared(vars: usize, atom: Atom) -> Comparison
-    requires { (comparison vars atom).group < 9 }
+// A blank slot compares nothing. There are `vars` counters.
+fn compared(vars: usize, atom: Atom) -> Option<Comparison>
+    requires { vars ≤ 4 }
     ensures { result ≡ comparison vars atom }
 {
     match atom {
-        Atom::Blank => Comparison {
-            group: 0,
-            relation: Relation::Less,
-            constant: 0,
-        },
+        Atom::Blank => None,
         Atom::OnClock {
             clock,
             relation,
             constant,
-        } => {
-            let g = 1 + vars + clock as usize;
-            Comparison {
-                group: g,
-                relation,
-                constant,
-            }
-        }
+        } => Some(Comparison {
+            group: 1 + vars + clock as usize,
+            relation,
+            constant,
+        }),
         Atom::OnCounter {
             counter,
             relation,
             constant,
-        } => {
-            let h = 1 + counter as usize;
-            Comparison {
-                group: h,
-                relation,
-                constant,
-            }
-        }
+        } => Some(Comparison {
+            group: 1 + counter as usize,
+            relation,
+            constant,
+        }),
     }
 }
 
 // An atom under `x`: each value of its group that fails it.
-fn put_atom(
-    vars: usize,
-    first: &[u16],
-    size: &[u16],
-    o: usize,
-    x: usize,
-    atom: Atom,
-    out: &mut [i32],
-    at: usize,
-) -> usize
-    requires { Lent (atom_table vars first.now size.now) first.now size.now × (x < most_variables) × AtomFits (atom_table vars first.now size.now) o atom × RoomFor (part_clauses x (atom_part (atom_table vars first.now size.now) o atom)) out.old at }
-    ensures { WroteClauses (part_clauses x (atom_part (atom_table vars first.now size.now) o atom)) out.old out.new at result }
+fn put_atom(b: &GroupTable, x: usize, o: usize, atom: Atom, out: &mut [i32], at: usize) -> usize
+    requires { (b.now.vars ≤ 4) × (x < most_variables) × Fits (atom_part b.now o atom) most_variables × RoomFor (part_clauses x (atom_part b.now o atom)) out.old at }
+    ensures { WroteClauses (part_clauses x (atom_part b.now o atom)) out.old out.new at result }
 {
-    let c = compared(vars, atom);
-    let g = c.group;
-    if g == 0 {
-        return at;
+    match compared(b.vars, atom) {
+        None => at,
+        Some(
+            Comparison {
+                group,
+                relation,
+                constant,
+            },
+        ) => {
+            let read = b.group(group);
+            let before = o as u16 + read.first;
+            let rule = Rule::Exclude { relation, constant };
+            put_row(x, before as usize, 0, read.size as usize, rule, out, at)
+        }
     }
-    let before = (o as u16 + first[g]) as usize;
-    let relation = c.relation;
-    put_excluded(x, before, size[g] as usize, relation, c.constant, out, at)
 }
 
 // The atoms of an invariant or a guard under `x`, in order of the slots.
 pub fn put_atoms(
-    vars: usize,
-    first: &[u16],
-    size: &[u16],
-    o: usize,
+    b: &GroupTable,
     x: usize,
-    atoms: [Atom; Model::ATOMS],
+    o: usize,
+    atoms: &[Atom; Model::ATOMS],
     out: &mut [i32],
     at: usize,
 ) -> usize
-    requires { Lent (atom_table vars first.now size.now) first.now size.now × (x < most_variables) × ((k : ℕ) → k < 4 → AtomFits (atom_table vars first.now size.now) o (atom_at atoms k)) × RoomFor (each 4 (atom_piece (atom_table vars first.now size.now) o x atoms)) out.old at }
-    ensures { WroteClauses (each 4 (atom_piece (atom_table vars first.now size.now) o x atoms)) out.old out.new at result }
+    requires { (b.now.vars ≤ 4) × (x < most_variables) × ((k : ℕ) → k < 4 → Fits (atom_part b.now o (atom_at atoms.now k)) most_variables) × RoomFor (each 4 (atom_piece b.now o x atoms.now)) out.old at }
+    ensures { WroteClauses (each 4 (atom_piece b.now o x atoms.now)) out.old out.new at result }
 {
     let mut end = at;
-    for k in 0..Model::ATOMS {
-        let atom = atoms[k];
-        end = put_atom(vars, first, size, o, x, atom, out, end);
+    for atom in atoms {
+        end = put_atom(b, x, o, *atom, out, end);
     }
     end
 }
 
+// The invariant of location `l`.
+pub fn put_invariant(layout: &Layout, o: usize, l: usize, out: &mut [i32], at: usize) -> usize
+    requires { StateFits layout.now.model o × (l < layout.now.model.locations) × RoomFor (clauses_of (invariant_of one_hot_width layout.now.model o l)) out.old at }
+    ensures { WroteClauses (clauses_of (invariant_of one_hot_width layout.now.model o l)) out.old out.new at result }
+{
+    let x = o as u16 + l as u16;
+    let atoms = &layout.model.invariants[l].atoms;
+    put_atoms(&layout.table, x as usize, o, atoms, out, at)
+}
+
 // The invariant of each location.
-fn put_invariants(
-    b: GroupTable,
-    first: &[u16],
-    size: &[u16],
-    invariants: [Invariant; Model::LOCATIONS],
-    o: usize,
-    out: &mut [i32],
-    at: usize,
-) -> usize
-    requires { Lent b first.now size.now × InvariantsFit b invariants o × RoomFor (each (size_at b 0) (invariant_piece b invariants o)) out.old at }
-    ensures { WroteClauses (each (size_at b 0) (invariant_piece b invariants o)) out.old out.new at result }
+fn put_invariants(layout: &Layout, o: usize, out: &mut [i32], at: usize) -> usize
+    requires { StateFits layout.now.model o × RoomFor (clauses_of (invariant_items one_hot_width layout.now.model o)) out.old at }
+    ensures { WroteClauses (clauses_of (invariant_items one_hot_width layout.now.model o)) out.old out.new at result }
 {
     let mut end = at;
-    for l in 0..size[0] as usize {
-        let v = invariants[l];
-        let atoms = v.atoms;
-        let x = o as u16 + l as u16;
-        end = put_atoms(b.vars, first, size, o, x as usize, atoms, out, end);
+    for l in 0..layout.model.locations as usize {
+        end = put_invariant(layout, o, l, out, end);
     }
     end
 }
 
 // The state clauses: each group, then each invariant.
-pub fn put_state(
-    b: GroupTable,
-    first: &[u16],
-    size: &[u16],
-    invariants: [Invariant; Model::LOCATIONS],
-    o: usize,
-    out: &mut [i32],
-    at: usize,
-) -> usize
-    requires { Lent b first.now size.now × BlockIn b o most_variables × InvariantsFit b invariants o × RoomFor (each b.groups (group_piece b o) ++ each (size_at b 0) (invariant_piece b invariants o)) out.old at }
-    ensures { WroteClauses (each b.groups (group_piece b o) ++ each (size_at b 0) (invariant_piece b invariants o)) out.old out.new at result }
+pub fn put_state(layout: &Layout, o: usize, out: &mut [i32], at: usize) -> usize
+    requires { StateFits layout.now.model o × RoomFor (clauses_of (state_items one_hot_width layout.now.model o)) out.old at }
+    ensures { WroteClauses (clauses_of (state_items one_hot_width layout.now.model o)) out.old out.new at result }
 {
-    let mid = put_groups(b, first, size, o, out, at);
-    put_invariants(b, first, size, invariants, o, out, mid)
+    let groups = put_groups(layout, o, out, at);
+    put_invariants(layout, o, out, groups)
 }

@@ -1,7 +1,8 @@
 // Words of literals, and a writer for each kind of clause. A variable is counted from 0, as in the list's definitions; variable `a` has the
 // number a + 1. Here and in the other writers a variable is summed in 16 bits and widened for the next call; indexes of the buffer are not. Each
 // writer stores its clauses from index `at` on and returns the index after them.
-ghost use Rattle.std.specs.Prelude.{◌≡◌, List, [], ◌∷◌, ℕ, ◌+◌, ◌<◌, ◌≤◌};
+ghost use Rattle.std.specs.Prelude.{◌≡◌, List, [], ◌∷◌, ◌++◌, ℕ, ◌+◌, ◌<◌, ◌≤◌, pos};
+ghost use Rattle.buffer.specs.Buffers.{Room, Wrote};
 ghost use Rattle.list.specs.Clauses.{bare, negated, word, one, members, group_clauses};
 ghost use Rattle.parts.specs.Numbering.{most_variables};
 ghost use Rattle.emission.specs.Written.{RoomFor, WroteClauses};
@@ -23,15 +24,24 @@ fn negative(a: usize) -> i32
     -((a as u16 + 1) as i32)
 }
 
+// The words of a clause's literals, and the 0 that ends it.
+#[inline(always)]
+fn put_clause(literals: &[i32], out: &mut [i32], at: usize) -> usize
+    requires { Room (literals.now ++ (pos 0 ∷ [])) out.old at }
+    ensures { Wrote (literals.now ++ (pos 0 ∷ [])) out.old out.new at result }
+{
+    let end = at + literals.len();
+    out[at..end].copy_from_slice(literals);
+    out[end] = 0;
+    end + 1
+}
+
 // The clause `a`.
 pub fn put_unit(a: usize, out: &mut [i32], at: usize) -> usize
     requires { (a < most_variables) × RoomFor (one (bare a ∷ [])) out.old at }
     ensures { WroteClauses (one (bare a ∷ [])) out.old out.new at result }
 {
-    let x = positive(a);
-    out[at] = x;
-    out[at + 1] = 0;
-    at + 2
+    put_clause(&[positive(a)], out, at)
 }
 
 // The clause not `a`.
@@ -39,10 +49,7 @@ pub fn put_negated_unit(a: usize, out: &mut [i32], at: usize) -> usize
     requires { (a < most_variables) × RoomFor (one (negated a ∷ [])) out.old at }
     ensures { WroteClauses (one (negated a ∷ [])) out.old out.new at result }
 {
-    let only = negative(a);
-    out[at] = only;
-    out[at + 1] = 0;
-    at + 2
+    put_clause(&[negative(a)], out, at)
 }
 
 // The clause not `a`, `b`.
@@ -50,12 +57,7 @@ pub fn put_implication(a: usize, b: usize, out: &mut [i32], at: usize) -> usize
     requires { (a < most_variables) × (b < most_variables) × RoomFor (one (negated a ∷ bare b ∷ [])) out.old at }
     ensures { WroteClauses (one (negated a ∷ bare b ∷ [])) out.old out.new at result }
 {
-    let x = negative(a);
-    let y = positive(b);
-    out[at] = x;
-    out[at + 1] = y;
-    out[at + 2] = 0;
-    at + 3
+    put_clause(&[negative(a), positive(b)], out, at)
 }
 
 // The clause not `a`, not `b`.
@@ -63,12 +65,7 @@ pub fn put_exclusion(a: usize, b: usize, out: &mut [i32], at: usize) -> usize
     requires { (a < most_variables) × (b < most_variables) × RoomFor (one (negated a ∷ negated b ∷ [])) out.old at }
     ensures { WroteClauses (one (negated a ∷ negated b ∷ [])) out.old out.new at result }
 {
-    let first = negative(a);
-    let second = negative(b);
-    out[at] = first;
-    out[at + 1] = second;
-    out[at + 2] = 0;
-    at + 3
+    put_clause(&[negative(a), negative(b)], out, at)
 }
 
 // The clause not `a`, not `b`, `c`.
@@ -76,14 +73,7 @@ pub fn put_joint_implication(a: usize, b: usize, c: usize, out: &mut [i32], at: 
     requires { (a < most_variables) × (b < most_variables) × (c < most_variables) × RoomFor (one (negated a ∷ negated b ∷ bare c ∷ [])) out.old at }
     ensures { WroteClauses (one (negated a ∷ negated b ∷ bare c ∷ [])) out.old out.new at result }
 {
-    let x = negative(a);
-    let y = negative(b);
-    let z = positive(c);
-    out[at] = x;
-    out[at + 1] = y;
-    out[at + 2] = z;
-    out[at + 3] = 0;
-    at + 4
+    put_clause(&[negative(a), negative(b), positive(c)], out, at)
 }
 
 // The clause of all members of the group of `n` members whose variables begin at `b`.
@@ -91,14 +81,12 @@ fn put_members(b: usize, n: usize, out: &mut [i32], at: usize) -> usize
     requires { (b + n ≤ most_variables) × RoomFor (one (members b n)) out.old at }
     ensures { WroteClauses (one (members b n)) out.old out.new at result }
 {
-    let mut end = at;
-    for v in 0..n {
-        let w = positive((b as u16 + v as u16) as usize);
-        out[end] = w;
-        end += 1;
+    let last = at + n;
+    for (v, member) in out[at..last].iter_mut().enumerate() {
+        *member = positive((b as u16 + v as u16) as usize);
     }
-    out[end] = 0;
-    end + 1
+    out[last] = 0;
+    last + 1
 }
 
 // The pairs of member `i` and each member after it.

@@ -103,13 +103,14 @@ words_order (w ∷ v ∷ ws) ts h o =
     let rest = words_order (v ∷ ws) ts both.1 o in
     (tt, rw (ne_eqb (literal_of w).variable 0 (variable_number_lem w both.0)) (tt, rest.1))
 
-values_words : (l : List ℕ) → form_of l ≡ (Some Values) → are_literals (words_of l) ≡ true
+values_words : (l : List ℕ) → form_of l ≡ Some Values → are_literals (words_of l) ≡ true
 unfolding form_of is_values
 values_words l h =
     go (starts_with (ascii "c ") l) (is_text (ascii "s SATISFIABLE") l) (is_text (ascii "s UNSATISFIABLE") l) (starts_with (ascii "v ") l)
     (are_literals (words_of l)) h
   where
-    go : (a b c d e : Bool) → cond a (Some Comment) (cond b (Some Satisfiable) (cond c (Some Unsatisfiable) (cond (d && e) (Some Values) None))) ≡ (Some Values) → e ≡ true
+    go : (a b c d e : Bool)
+        → cond a (Some Comment) (cond b (Some Satisfiable) (cond c (Some Unsatisfiable) (cond (d && e) (Some Values) None))) ≡ Some Values → e ≡ true
     go true b c d e h = cc
     go false true c d e h = cc
     go false false true d e h = cc
@@ -117,7 +118,7 @@ values_words l h =
     go false false false true true h = refl
     go false false false true false h = cc
 
-form_order : (f : Option LineForm) (l : List ℕ) (ts : List Token) → (f ≡ (Some Values) → are_literals (words_of l) ≡ true) → InOrder none ts
+form_order : (f : Option LineForm) (l : List ℕ) (ts : List Token) → (f ≡ Some Values → are_literals (words_of l) ≡ true) → InOrder none ts
     → InOrder (after_form f) (literals_by literal_of f l ++ ts)
 form_order None l ts h o = o
 form_order (Some Comment) l ts h o = o

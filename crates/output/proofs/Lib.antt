@@ -1,7 +1,6 @@
 pub mod Parts
-pub mod ByteLaws
-pub mod WordLaws
 pub mod LineLaws
+pub mod WordLaws
 pub mod TokenLaws
 pub mod NamedLaws
 pub mod CapLaws

@@ -1,33 +1,30 @@
 -- Laws of the forms of a line.
 use Rattle.std.specs.Prelude.{Option, Some, None}
-use Prim.Native.Nat.{ℕ, ◌-◌, ◌≤◌, ◌<◌}
+use Prim.Native.Nat.{ℕ, ◌≤◌, ◌<◌}
 use mathlib.Core.Path.{◌≡◌, refl, sym, ◌∙◌, ap}
 use mathlib.Core.List.{List, [], ◌∷◌}
 use mathlib.Core.Logic.{⊎_elim}
 use mathlib.Core.Bool.{Bool, true, false, ◌&&◌}
 use native.Mathlib.Omega.{arith}
-use lib.ListN.{length, take, drop}
+use lib.ListN.{length, take}
 use lib.Dec.{eqb, eqb-suc-suc, eqb-suc-zero, eqb-zero-suc}
 use lib.Pointwise.{pointwise}
 use borrow.Author.Tests.{eq-eqb, ne_eqb, eqb-true, eqb-false}
 use Rattle.model.proofs.IndexedLaws.{lt_or_le}
-use Rattle.text.specs.bytes.Ascii.{ascii}
-use Rattle.text.specs.bytes.Bytes.{starts_with, split_on}
-use Rattle.text.proofs.Laws.Bytewise.{part_to_end}
-use Rattle.output.specs.Literals.{are_literals}
-use Rattle.output.specs.Lines.{is_text, words_of, is_values, form_of}
+use Rattle.text.specs.bytes.Bytes.{starts_with}
+use Rattle.output.specs.Lines.{is_text, is_values, form_of}
 use Rattle.output.specs.declared.lines.LineForm.{LineForm}
 use Rattle.output.specs.declared.lines.LineForm.TheVariants.{Comment, Satisfiable, Unsatisfiable, Values}
 
 -- ---- what the library says of a key
-flip : (x y : ℕ) → eqb x y ≡ eqb y x
+pub flip : (x y : ℕ) → eqb x y ≡ eqb y x
 flip x y = by (eqb x y) refl
   where
     by : (t : Bool) → eqb x y ≡ t → eqb x y ≡ eqb y x
     by true e = e ∙ sym (eq-eqb y x (sym (eqb-true x y e)))
     by false e = e ∙ sym (ne_eqb y x (λ h. eqb-false x y e (sym h)))
 
-begins_is : (k l : List ℕ) → pointwise eqb k (take (length k) l) ≡ starts_with k l
+pub begins_is : (k l : List ℕ) → pointwise eqb k (take (length k) l) ≡ starts_with k l
 unfolding starts_with
 begins_is [] l = refl
 begins_is (x ∷ k) [] = refl
@@ -81,14 +78,6 @@ pub values_short : (l : List ℕ) → length l < 2 → is_values l ≡ false
 unfolding is_values
 values_short l h = rw (key_short 118 32 l h)
 
-pub values_key : (l : List ℕ) → starts_with (ascii "v ") l ≡ true → are_literals (split_on 32 (take (length l - 2) (drop 2 l))) ≡ is_values l
-unfolding is_values words_of
-values_key l h = rw (h, part_to_end l 2)
-
-pub values_other : (l : List ℕ) → starts_with (ascii "v ") l ≡ false → is_values l ≡ false
-unfolding is_values
-values_other l h = rw h
-
 form_short : (l : List ℕ) → length l < 2 → form_of l ≡ None
 unfolding form_of is_text starts_with
 form_short [] h = rw (values_short [] h)
@@ -102,7 +91,7 @@ one_of_values (Some Satisfiable) = 0
 one_of_values (Some Unsatisfiable) = 0
 one_of_values (Some Values) = 1
 
-pub values_long : (l : List ℕ) → form_of l ≡ (Some Values) → 2 ≤ length l
+pub values_long : (l : List ℕ) → form_of l ≡ Some Values → 2 ≤ length l
 values_long l e = ⊎_elim
     (λ h. let no : 0 ≡ 1 = ap one_of_values (sym (form_short l h) ∙ e) in absurd (omega (arith, no)))
     (λ h. h)

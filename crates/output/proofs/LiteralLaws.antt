@@ -1,45 +1,36 @@
 -- The literals of a text whatever the forms of its lines: what they are line by line, and that those counted by the first pass are the same as those
 -- of the lines that have the form.
 use Rattle.std.specs.Prelude.{Option, Some, None}
-use Prim.Native.Nat.{ℕ, zero, suc, ◌+◌, ◌-◌, ◌≤◌, ◌<◌}
+use Prim.Native.Nat.{ℕ, zero, suc, ◌+◌, ◌-◌, ◌≤◌}
 use mathlib.Core.Path.{◌≡◌, refl, sym, ap, ◌∙◌}
 use mathlib.Core.Logic.{◌⊎◌, inl, inr, ⊎_elim}
 use mathlib.Core.List.{List, [], ◌∷◌, ◌++◌, map, foldl, foldl-append}
 use mathlib.Core.Bool.{Bool, true, false, cond, ◌&&◌, ◌||◌, and-eq-true_iff}
 use native.Mathlib.Omega.{arith}
-use lib.ListN.{length, take, drop}
+use lib.ListN.{length, take}
 use lib.Dec.{ltb, leb, eqb}
 use borrow.Author.Tests.{ne_eqb, eqb-true}
 use Rattle.text.specs.bytes.Ascii.{ascii}
 use Rattle.text.specs.bytes.Bytes.{starts_with, split_on}
-use Rattle.text.proofs.Laws.Bytewise.{part_to_end}
 use Rattle.output.specs.Literals.{are_literals, literal_of}
 use Rattle.output.specs.Lines.{is_text, words_of, is_values, in_place, form_of}
 use Rattle.output.specs.Tokens.{Token, formed, literal, literals_by, line_tokens, last_tokens, part_tokens, tokens_of, literals_in}
 use Rattle.output.specs.OutputCall.{is_no_fault}
-use Rattle.output.specs.Counting.{literal_up_to, count_line, count_literal, count}
+use Rattle.output.specs.Counting.{words_left, literals_left, literal_up_to, count_line, count_literal, count}
 use Rattle.output.specs.Placing.{line_literals, part_literals, literals_of}
 use Rattle.output.specs.declared.lines.LineForm.{LineForm}
 use Rattle.output.specs.declared.lines.LineForm.TheVariants.{Comment, Satisfiable, Unsatisfiable, Values}
 use Rattle.output.specs.declared.literals.Literal.{Literal}
+use Rattle.output.specs.declared.literals.Literals.{Literals}
+use Rattle.output.specs.declared.variables.Variables.{Variables}
 use Rattle.output.specs.declared.reading.Reading.{Reading}
-use Rattle.output.proofs.LineLaws.{key_short}
 use Rattle.output.proofs.TokenLaws.{ByLine}
 use Rattle.output.proofs.CapLaws.{cut}
 use Rattle.output.proofs.CountLaws.{count_stays, line_case, literal_case, count_rises}
 
 -- ---- the literals of a line
-module _ (read : List ℕ → Literal) (l : List ℕ) where
-  pub literals_other : starts_with (ascii "v ") l ≡ false → line_literals read l ≡ []
-  unfolding line_literals
-  literals_other h = rw h
-
-  pub literals_short : length l < 2 → line_literals read l ≡ []
-  literals_short h = literals_other (key_short 118 32 l h)
-
-  pub literals_key : starts_with (ascii "v ") l ≡ true → map read (split_on 32 (take (length l - 2) (drop 2 l))) ≡ line_literals read l
-  unfolding line_literals words_of
-  literals_key h = rw (h, part_to_end l 2)
+pub left_is : (l : Literals) {n : Variables} {ws : List (List ℕ)} → l.variables ≡ n → words_left l.words ≡ ws → literals_left l ≡ map (literal_up_to n.most) ws
+left_is l e h = rw (e, h)
 
 pub literals_by_line : (read : List ℕ → Literal) → ByLine (part_literals read) (line_literals read) (λ l. [])
 unfolding part_literals

@@ -1,69 +1,64 @@
--- The parts of a list between the bytes b, one after the other from a place of the list.
-use Prim.Native.Nat.{ℕ, suc, ◌+◌, ◌-◌, ◌≤◌, ◌<◌}
-use mathlib.Core.Path.{◌≡◌, refl, ◌∙◌}
-use mathlib.Core.List.{List, [], ◌∷◌, map, foldl}
-use mathlib.Core.Bool.{Bool, true, false, cond}
+-- The parts of a list between the bytes b, one after the other.
+use Prim.Native.Nat.{ℕ, suc, ◌+◌, ◌-◌, ◌<◌}
+use mathlib.Core.Path.{◌≡◌, refl, sym, ap, ◌∙◌}
+use mathlib.Core.List.{List, [], ◌∷◌}
+use mathlib.Core.Bool.{Bool, true, false, cond, false≢true}
 use native.Mathlib.Numerals.{add-one}
 use native.Mathlib.Omega.{arith}
 use lib.ListN.{length, take, drop, length-drop}
-use lib.Seq.{drop-drop}
+use lib.Seq.{take_all}
 use lib.Dec.{eqb, ltb, leb-suc-suc}
-use borrow.Author.Tests.{lt-ltb, le-ltb}
-use Rattle.text.specs.bytes.Bytes.{first_at, FirstFrom, split_on, grow}
+use borrow.Author.Tests.{lt-ltb, ltb-true, ltb-false}
+use Rattle.std.specs.Prelude.{Option, Some, None, is_some}
+use Rattle.std.specs.List.{position_or_len}
+use Rattle.text.specs.bytes.Bytes.{split_on}
+
+-- ---- a list is cut at its first b
+-- the place of the first b, or the length
+abbrev place : ℕ → List ℕ → ℕ
+place b l = position_or_len (λ x. eqb x b) l
 
 -- what a list is split into after the place k of its first b
 abbrev others_from : ℕ → ℕ → List ℕ → List (List ℕ)
 others_from b k l = cond (ltb k (length l)) (split_on b (drop (suc k) l)) []
 
--- a list is split at its first b
-split_first : (b : ℕ) (l : List ℕ) → split_on b l ≡ take (first_at b l) l ∷ others_from b (first_at b l) l
-unfolding first_at split_on
+split_first : (b : ℕ) (l : List ℕ) → split_on b l ≡ take (place b l) l ∷ others_from b (place b l) l
+unfolding split_on
 split_first b [] = refl
-split_first b (x ∷ l) = go (eqb x b) (split_first b l)
+split_first b (x ∷ l) = go (eqb x b) refl (split_first b l)
   where
-    go : (t : Bool) → split_on b l ≡ take (first_at b l) l ∷ others_from b (first_at b l) l
-        → cond t ([] ∷ split_on b l) (grow x (split_on b l))
-        ≡ take (cond t 0 (first_at b l + 1)) (x ∷ l) ∷ others_from b (cond t 0 (first_at b l + 1)) (x ∷ l)
-    go true h = rw (lt-ltb 0 (suc (length l)) (omega arith))
-    go false h = rw (add-one (first_at b l), leb-suc-suc (suc (first_at b l)) (length l), h)
+    go : (t : Bool) → eqb x b ≡ t → split_on b l ≡ take (place b l) l ∷ others_from b (place b l) l
+        → split_on b (x ∷ l) ≡ take (place b (x ∷ l)) (x ∷ l) ∷ others_from b (place b (x ∷ l)) (x ∷ l)
+    go true e h = rw (e, lt-ltb 0 (suc (length l)) (omega arith))
+    go false e h = let one : 1 + place b l ≡ suc (place b l) = omega arith in rw (e, h, one, leb-suc-suc (suc (place b l)) (length l))
 
--- the part of v from i to e, where the first b at or after i stands, is the last one if e is the end, and else the others start after e
-module _ (b : ℕ) (v : List ℕ) (i e : ℕ) (p : FirstFrom b i v e) where
-  first_is : first_at b (drop i v) ≡ e - i
-  first_is = omega (arith, p.place)
+-- what `position` answers of it
+abbrev place_in : Option ℕ → ℕ
+place_in None = 0
+place_in (Some i) = i
 
-  pub part_last : e ≡ length v → split_on b (drop i v) ≡ take (e - i) (drop i v) ∷ []
-  part_last q =
-      let n : length (drop i v) ≤ first_at b (drop i v) = omega (arith, p.place, length-drop i v) in
-      split_first b (drop i v) ∙ rw (le-ltb _ _ n, first_is)
+module _ (b : ℕ) (l : List ℕ) {r : Option ℕ} (found : r ≡ cond (ltb (place b l) (length l)) (Some (place b l)) None) where
+  pub cut_none : r ≡ None → split_on b l ≡ l ∷ []
+  cut_none h = go (ltb (place b l) (length l)) refl
+    where
+      go : (t : Bool) → ltb (place b l) (length l) ≡ t → split_on b l ≡ l ∷ []
+      go true e = absurd (false≢true (ap is_some (sym h ∙ rw e at found)))
+      go false e = split_first b l ∙ rw (e, take_all (place b l) l (ltb-false (place b l) (length l) e))
 
-  pub part_more : (e ≡ length v → ⊥) → split_on b (drop i v) ≡ take (e - i) (drop i v) ∷ split_on b (drop (e + 1) v)
-  part_more q =
-      let n : first_at b (drop i v) < length (drop i v) = omega (arith, q, p.place, p.high, length-drop i v) in
-      let m : i + suc (e - i) ≡ e + 1 = omega (arith, p.low) in
-      split_first b (drop i v) ∙ rw (lt-ltb _ _ n, first_is, drop-drop (suc (e - i)) i v, m)
+  pub cut_some : (i : ℕ) → r ≡ Some i → (split_on b l ≡ take i l ∷ split_on b (drop (i + 1) l)) × (i < length l)
+  cut_some i h = go (ltb (place b l) (length l)) refl
+    where
+      go : (t : Bool) → ltb (place b l) (length l) ≡ t → (split_on b l ≡ take i l ∷ split_on b (drop (i + 1) l)) × (i < length l)
+      go true e =
+          let here : place b l ≡ i = ap place_in (sym (rw e at found) ∙ h) in
+          let within = ltb-true (place b l) (length l) e in
+          (split_first b l ∙ rw (e, here, add-one i), omega (arith, here, within))
+      go false e = absurd (false≢true (ap is_some (sym (rw e at found) ∙ h)))
+
+-- what follows a place of it, as a part of it
+pub rest_is : (i : ℕ) (l : List ℕ) → take (length l - i) (drop i l) ≡ drop i l
+rest_is i l = take_all (length l - i) (drop i l) (omega (arith, length-drop i l))
 
 -- a list has a first part
 pub part_any : (b : ℕ) (l : List ℕ) → (p : List ℕ) × (ps : List (List ℕ)) × (split_on b l ≡ p ∷ ps)
-part_any b l = (take (first_at b l) l, others_from b (first_at b l) l, split_first b l)
-
--- ---- the loop over the words of a line: a state s that has absorbed those before the place i of v
-pub record Absorbing {S A : Type 0} (f : S → A → S) (item : List ℕ → A) (start : S) (v : List ℕ) (s : S) (i : ℕ) : Type 0 where
-  pub within : i ≤ length v
-  pub left : foldl f s (map item (split_on 32 (drop i v))) ≡ foldl f start (map item (split_on 32 v))
-
-pub absorb_none : {S A : Type 0} {f : S → A → S} {item : List ℕ → A} {start : S} {v : List ℕ} {s : S} → s ≡ start → Absorbing f item start v s 0
-absorb_none e = record { within = omega arith; left = rw e }
-
--- it absorbs the item from i to e, which makes it t
-module _ {S A : Type 0} {f : S → A → S} {item : List ℕ → A} {start : S} {v : List ℕ} {s t : S} {i e : ℕ}
-    (a : Absorbing f item start v s i) (p : FirstFrom 32 i v e) (r : t ≡ f s (item (take (e - i) (drop i v)))) where
-  pub absorb_last : e ≡ length v → t ≡ foldl f start (map item (split_on 32 v))
-  absorb_last q =
-      let h : foldl f s (map item (split_on 32 (drop i v))) ≡ f s (item (take (e - i) (drop i v))) = rw (part_last 32 v i e p q) in
-      cc
-
-  pub absorb_more : (e ≡ length v → ⊥) → Absorbing f item start v t (e + 1)
-  absorb_more q =
-      let h : foldl f t (map item (split_on 32 (drop (e + 1) v))) ≡ foldl f s (map item (split_on 32 (drop i v))) = rw (part_more 32 v i e p q, r) in
-      record { within = omega (arith, q, p.high); left = h ∙ a.left }
+part_any b l = (take (place b l) l, others_from b (place b l) l, split_first b l)

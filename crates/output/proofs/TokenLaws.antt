@@ -1,16 +1,16 @@
 -- The tokens of a text, line by line: what they are from a place of the text on, a state that takes them one after the other, and the line
 -- that a reading has come to.
 use Rattle.std.specs.Prelude.{Option, Some, None}
-use Prim.Native.Nat.{ℕ, ◌+◌, ◌-◌, ◌≤◌, ◌<◌}
+use Prim.Native.Nat.{ℕ, ◌+◌, ◌≤◌}
 use mathlib.Core.Path.{◌≡◌, refl, sym, ap, ◌∙◌}
 use mathlib.Core.List.{List, [], ◌∷◌, ◌++◌, map, foldl, foldl-append}
 use mathlib.Core.Bool.{Bool, true, false, ◌||◌}
 use native.Mathlib.Omega.{arith}
-use lib.ListN.{length, take, drop, length-take, length-drop}
-use lib.Seq.{take_all}
+use lib.ListN.{length, drop}
 use lib.Dec.{ltb, leb, eqb}
 use borrow.Author.Tests.{le-leb}
-use Rattle.text.specs.bytes.Bytes.{FirstFrom, split_on}
+use Rattle.std.specs.List.{fold}
+use Rattle.text.specs.bytes.Bytes.{split_on}
 use Rattle.output.specs.Lines.{in_place, form_of, words_of}
 use Rattle.output.specs.Tokens.{Token, formed, literal, literals_by, line_tokens, last_tokens, part_tokens}
 use Rattle.output.specs.OutputCall.{is_no_fault}
@@ -20,15 +20,14 @@ use Rattle.output.specs.declared.lines.LineForm.{LineForm}
 use Rattle.output.specs.declared.lines.LineForm.TheVariants.{Comment, Satisfiable, Unsatisfiable, Values}
 use Rattle.output.specs.declared.literals.Literal.{Literal}
 use Rattle.output.specs.declared.reading.Reading.{Reading}
-use Rattle.output.proofs.Parts.{part_last, part_more, part_any}
-use Rattle.output.proofs.LineLaws.{values_long}
+use Rattle.output.proofs.Parts.{part_any}
 
 -- ---- a line of the form f, which makes the state s into u before its literals come
 line_tokens_lem : (read : List ℕ → Literal) (l : List ℕ) {f : Option LineForm} → f ≡ form_of l → line_tokens read l ≡ formed f ∷ literals_by read f l
 unfolding line_tokens
 line_tokens_lem read l e = rw e
 
-other_words : (read : List ℕ → Literal) (l : List ℕ) (f : Option LineForm) → (f ≡ (Some Values) → ⊥) → literals_by read f l ≡ []
+other_words : (read : List ℕ → Literal) (l : List ℕ) (f : Option LineForm) → (f ≡ Some Values → ⊥) → literals_by read f l ≡ []
 other_words read l None other = refl
 other_words read l (Some Comment) other = refl
 other_words read l (Some Satisfiable) other = refl
@@ -44,17 +43,19 @@ module _ {S : Type 0} (take-token : S → Token → S) (read : List ℕ → Lite
   pub line_alone : literals_by read f l ≡ [] → u ≡ foldl take-token s (line_tokens read l)
   line_alone h = by_form (ap (foldl take-token u) (sym h))
 
-  pub line_short : length l < 2 → u ≡ foldl take-token s (line_tokens read l)
-  line_short n = line_alone (other_words read l f (λ w. absurd (omega (arith, n, values_long l (sym e ∙ w)))))
-
   -- it has the literals of its words
-  pub line_words : f ≡ (Some Values) → {v : S} → v ≡ foldl take-token u (map (λ w. literal (read w)) (split_on 32 (take (length l - 2) (drop 2 l))))
+  pub line_words : f ≡ Some Values → {v : S} → v ≡ foldl take-token u (map (λ w. literal (read w)) (split_on 32 (drop 2 l)))
       → v ≡ foldl take-token s (line_tokens read l)
   unfolding words_of
   line_words w {v} h =
-      let all : take (length l - 2) (drop 2 l) ≡ drop 2 l = take_all (length l - 2) (drop 2 l) (omega (arith, length-drop 2 l)) in
-      let tokens : literals_by read f l ≡ map (λ w. literal (read w)) (split_on 32 (take (length l - 2) (drop 2 l))) = rw (w, all) in
+      let tokens : literals_by read f l ≡ map (λ w. literal (read w)) (split_on 32 (drop 2 l)) = rw w in
       by_form (h ∙ ap (foldl take-token u) (sym tokens))
+
+-- a fold over literals is a fold over their tokens
+pub fold_words : (most limit : ℕ) (read : List ℕ → Literal) (ws : List (List ℕ)) (r : Reading)
+    → fold (λ a l. count_literal most limit l a) r (map read ws) ≡ foldl (count most limit) r (map (λ w. literal (read w)) ws)
+fold_words most limit read [] r = refl
+fold_words most limit read (w ∷ ws) r = fold_words most limit read ws (count_literal most limit (read w) r)
 
 -- ---- the items of a text's parts: those of each line, and those of what follows the last LF
 pub record ByLine {A : Type 0} (items : List (List ℕ) → List A) (line last : List ℕ → List A) : Type 0 where
@@ -65,58 +66,49 @@ pub tokens_by_line : (read : List ℕ → Literal) → ByLine (part_tokens read)
 unfolding part_tokens
 tokens_by_line read = record { one = λ l. refl; more = λ l m ps. refl }
 
--- the text from i on, where the line ends at e
-module _ {A : Type 0} {items : List (List ℕ) → List A} {line last : List ℕ → List A} (by : ByLine items line last) (t : List ℕ) (i e : ℕ)
-    (p : FirstFrom 10 i t e) where
-  items_last : e ≡ length t → items (split_on 10 (drop i t)) ≡ last (take (e - i) (drop i t))
-  items_last q = ap items (part_last 10 t i e p q) ∙ by.one (take (e - i) (drop i t))
+-- the text t, whose first line is l
+items_more : {A : Type 0} {items : List (List ℕ) → List A} {line last : List ℕ → List A} (by : ByLine items line last) (t l after : List ℕ)
+    → split_on 10 t ≡ l ∷ split_on 10 after → items (split_on 10 t) ≡ line l ++ items (split_on 10 after)
+items_more by t l after q = let parts = part_any 10 after in rw (q, parts.2) (by.more _ _ _)
 
-  items_more : (e ≡ length t → ⊥) → items (split_on 10 (drop i t)) ≡ line (take (e - i) (drop i t)) ++ items (split_on 10 (drop (e + 1) t))
-  items_more q = let parts = part_any 10 (drop (e + 1) t) in rw (part_more 10 t i e p q, parts.2) (by.more _ _ _)
+-- ---- the loop over the lines of a text: a state s that has taken the items before what is left of t
+pub record Passing {S A : Type 0} (f : S → A → S) (items : List (List ℕ) → List A) (start : S) (t : List ℕ) (s : S) (rest : List ℕ) : Type 0 where
+  pub left : foldl f s (items (split_on 10 rest)) ≡ foldl f start (items (split_on 10 t))
 
--- ---- the loop over the lines of a text: a state s that has taken the items before the place i of t
-pub record Passing {S A : Type 0} (f : S → A → S) (items : List (List ℕ) → List A) (start : S) (t : List ℕ) (s : S) (i : ℕ) : Type 0 where
-  pub within : i ≤ length t
-  pub left : foldl f s (items (split_on 10 (drop i t))) ≡ foldl f start (items (split_on 10 t))
-
-pub pass_none : {S A : Type 0} {f : S → A → S} {items : List (List ℕ) → List A} {start : S} {t : List ℕ} {s : S} → s ≡ start
-    → Passing f items start t s 0
-pass_none e = record { within = omega arith; left = rw e }
+pub pass_none : {S A : Type 0} {f : S → A → S} {items : List (List ℕ) → List A} {start : S} {t : List ℕ} → Passing f items start t start t
+pass_none = record { left = refl }
 
 -- a state that every item leaves as it is
 fold_stays : {S A : Type 0} (f : S → A → S) (s : S) → ((k : A) → f s k ≡ s) → (ks : List A) → foldl f s ks ≡ s
 fold_stays f s h [] = refl
 fold_stays f s h (k ∷ ks) = ap (λ x. foldl f x ks) (h k) ∙ fold_stays f s h ks
 
-module _ {S A : Type 0} {f : S → A → S} {items : List (List ℕ) → List A} {start : S} {t : List ℕ} {s : S} {i : ℕ} (a : Passing f items start t s i) where
+module _ {S A : Type 0} {f : S → A → S} {items : List (List ℕ) → List A} {start : S} {t : List ℕ} {s : S} {rest : List ℕ}
+    (a : Passing f items start t s rest) where
   pub pass_stays : ((k : A) → f s k ≡ s) → s ≡ foldl f start (items (split_on 10 t))
-  pass_stays h = sym (fold_stays f s h (items (split_on 10 (drop i t)))) ∙ a.left
+  pass_stays h = sym (fold_stays f s h (items (split_on 10 rest))) ∙ a.left
 
-  module _ {line last : List ℕ → List A} (by : ByLine items line last) {e : ℕ} (p : FirstFrom 10 i t e) where
+  module _ {line last : List ℕ → List A} (by : ByLine items line last) where
     -- after the last LF
-    pub pass_last : e ≡ length t → foldl f s (last (take (e - i) (drop i t))) ≡ foldl f start (items (split_on 10 t))
-    pass_last q = ap (foldl f s) (sym (items_last by t i e p q)) ∙ a.left
+    pub pass_last : split_on 10 rest ≡ rest ∷ [] → foldl f s (last rest) ≡ foldl f start (items (split_on 10 t))
+    pass_last q = ap (foldl f s) (sym (ap items q ∙ by.one rest)) ∙ a.left
 
-    -- it takes the items of the line from i to e, which make it u
-    pub pass_more : {u : S} → u ≡ foldl f s (line (take (e - i) (drop i t))) → (e ≡ length t → ⊥) → Passing f items start t u (e + 1)
-    pass_more {u} r q =
-        let rest = items (split_on 10 (drop (e + 1) t)) in
-        let here = line (take (e - i) (drop i t)) in
-        let h : foldl f u rest ≡ foldl f s (here ++ rest) = ap (λ x. foldl f x rest) r ∙ sym (foldl-append f s here rest) in
-        record { within = omega (arith, q, p.high); left = h ∙ ap (foldl f s) (sym (items_more by t i e p q)) ∙ a.left }
+    -- it takes the items of the line l, which make it u
+    pub pass_more : {l after : List ℕ} → split_on 10 rest ≡ l ∷ split_on 10 after → {u : S} → u ≡ foldl f s (line l)
+        → Passing f items start t u after
+    pass_more {l} {after} q {u} r =
+        let others = items (split_on 10 after) in
+        let h : foldl f u others ≡ foldl f s (line l ++ others) = ap (λ x. foldl f x others) r ∙ sym (foldl-append f s (line l) others) in
+        record { left = h ∙ ap (foldl f s) (sym (items_more by rest l after q)) ∙ a.left }
 
 -- ---- after the last LF: nothing, or a line that is not ended
-pub last_none : (t : List ℕ) {i e : ℕ} → i ≡ e → last_tokens (take (e - i) (drop i t)) ≡ []
-last_none t {i} {e} q = let z : e - i ≡ 0 = omega arith in rw z
+pub last_none : (l : List ℕ) → length l ≡ 0 → last_tokens l ≡ []
+last_none [] h = refl
+last_none (b ∷ l) h = absurd (omega arith)
 
-some_tokens : (l : List ℕ) → 0 < length l → last_tokens l ≡ formed None ∷ []
-some_tokens [] h = absurd (omega arith)
-some_tokens (b ∷ l) h = refl
-
-pub last_some : (t : List ℕ) {i e : ℕ} → i < e → e ≤ length t → last_tokens (take (e - i) (drop i t)) ≡ formed None ∷ []
-last_some t {i} {e} p q =
-    let n : 0 < length (take (e - i) (drop i t)) = omega (arith, length-take (e - i) (drop i t), length-drop i t) in
-    some_tokens (take (e - i) (drop i t)) n
+pub last_some : (l : List ℕ) → (length l ≡ 0 → ⊥) → last_tokens l ≡ formed None ∷ []
+last_some [] h = absurd (h refl)
+last_some (b ∷ l) h = refl
 
 -- ---- nothing is placed after the bound
 pub bound_stays : (low : ℕ) (m : Marking) → m.bound ≤ m.seen → (l : Literal) → placed low m l ≡ m

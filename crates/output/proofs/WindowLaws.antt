@@ -303,9 +303,10 @@ below_all n low h (suc c) named (l ∷ ls) =
 -- ---- the loop over the windows: the first c of the literals ls are looked at, `bound` of them are left after the windows below `low`
 pub record Looking (ls : List Literal) (c low bound : ℕ) : Type 0 where
   pub left : take bound ls ≡ take (fresh_below low [] (take c ls)) (take c ls)
+  pub seen : 0 < low → bound ≡ fresh_below low [] (take c ls)
 
 pub look_none : (ls : List Literal) (c : ℕ) → Looking ls c 0 c
-look_none ls c = record { left = rw (below_none [] (take c ls)) (sym (take-length (take c ls))) }
+look_none ls c = record { left = rw (below_none [] (take c ls)) (sym (take-length (take c ls))); seen = λ h. absurd (omega (arith, h)) }
 
 module _ (width : ℕ) {ls : List Literal} {c low bound : ℕ} (h : Looking ls c low bound) {end : Marking}
     (w : end ≡ foldl (placed low) (record { seen = 0; bound = bound; marks = replicate width 2 }) ls) where
@@ -322,8 +323,9 @@ module _ (width : ℕ) {ls : List Literal} {c low bound : ℕ} (h : Looking ls c
   pub look_next : Looking ls c (low + width) end.seen
   look_next =
       let few : fresh_below (low + width) [] (take c ls) ≤ c = omega (arith, below_most (low + width) [] (take c ls), length-take c ls) in
-      record { left = rw look_seen (sym (take-take (fresh_below (low + width) [] (take c ls)) c ls few)) }
+      record { left = rw look_seen (sym (take-take (fresh_below (low + width) [] (take c ls)) c ls few)); seen = λ p. look_seen }
 
-  -- the last window
-  pub look_all : (n : ℕ) (all : List Literal) → ls ≡ map (cut n) all → n + 1 < low + width → end.seen ≡ fresh_after [] (take c ls)
-  look_all n all e q = look_seen ∙ rw e (below_all n (low + width) q c [] all)
+-- after the last window
+pub look_end : {ls : List Literal} {c low bound : ℕ} → Looking ls c low bound → (n : ℕ) (all : List Literal) → ls ≡ map (cut n) all → n + 1 < low
+    → bound ≡ fresh_after [] (take c ls)
+look_end {ls} {c} {low} h n all e q = h.seen (omega (arith, q)) ∙ rw e (below_all n low q c [] all)

@@ -1,5 +1,7 @@
 -- One pass over a text: variables are counted, not remembered, and a literal is refused after `limit` of them.
-use Rattle.std.specs.Prelude.{ℕ, ◌+◌, List, not, cond, ◌||◌, length, ltb, leb, eqb, Option, Some, None}
+use Rattle.std.specs.Prelude.{ℕ, ◌+◌, List, [], map, not, cond, ◌||◌, length, ltb, leb, eqb, Option, Some, None}
+use denote.Ref.{Bor}
+use Rattle.text.specs.bytes.Bytes.{split_on}
 use Rattle.output.specs.Literals.{number_after, unsigned, has_minus}
 use Rattle.output.specs.Lines.{in_place, stage_after}
 use Rattle.output.specs.Tokens.{Token, formed, literal}
@@ -7,6 +9,7 @@ use Rattle.output.specs.OutputCall.{Progress, is_no_fault}
 use Rattle.output.specs.declared.lines.LineForm.{LineForm}
 use Rattle.output.specs.declared.lines.Stage.TheVariants.{BeforeStatus, Closed}
 use Rattle.output.specs.declared.literals.Literal.{Literal}
+use Rattle.output.specs.declared.literals.Literals.{Literals}
 use Rattle.output.specs.declared.reading.Fault.TheVariants.{OutOfFormOrPlace, AboveOrNamedBefore, Incomplete}
 use Rattle.output.specs.declared.reading.Reading.{Reading}
 
@@ -17,6 +20,15 @@ capped most v = cond (ltb most v) (most + 1) v
 -- a literal with such a number
 unfoldable pub literal_up_to : ℕ → List ℕ → Literal
 literal_up_to most w = record { variable = capped most (number_after 0 (unsigned w)); bare = not (has_minus w) }
+
+-- the words that are left, one space (32) apart
+abbrev pub words_left : Option (Bor (List ℕ)) → List (List ℕ)
+words_left None = []
+words_left (Some l) = split_on 32 l.now
+
+-- the literals that they are
+abbrev pub literals_left : Literals → List Literal
+literals_left l = map (literal_up_to l.variables.most) (words_left l.words)
 
 -- what was read so far, by numbers
 abbrev pub counted_from : Progress → Reading

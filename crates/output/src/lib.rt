@@ -7,12 +7,14 @@ ghost use Rattle.output.specs.Counting.{counted_from};
 
 use crate::lines::Stage;
 use crate::reading::{Fault, Reading};
+use crate::variables::Variables;
 
 mod bytes;
 mod lines;
 mod literals;
 mod placing;
 mod reading;
+mod variables;
 
 // What an accepted output says, by the exit codes of solvers.
 #[derive(Clone, Copy, Debug, PartialEq, Eq)]
@@ -88,28 +90,27 @@ fn answer(r: Reading) -> Result<Outcome, OutputRefusal>
 
 // The reading of a text for the variables 1 to `most`: one pass that counts variables, one that looks for a variable named again,
 // and where there is one, a pass that ends there.
-fn read_output(text: &[u8], most: usize) -> Reading
-    requires { most < 9223372036854775808 }
-    ensures { (result ≡ counted_from (judged most text.now)) × (result.line ≤ length text.now) }
+fn read_output(text: &[u8], variables: Variables) -> Reading
+    ensures { (result ≡ counted_from (judged variables.most text.now)) × (result.line ≤ length text.now) }
 {
-    let first = reading::read_through(text, most, most);
-    let fresh = placing::fresh(text, first.named, most);
+    let first = reading::read_through(text, variables, variables.most);
+    let fresh = placing::fresh(text, first.named, variables);
     if fresh == first.named {
         first
     } else {
-        reading::read_through(text, most, fresh)
+        reading::read_through(text, variables, fresh)
     }
 }
 
 // Reads a solver's output and writes the assignment that it names: 33, 34, 35.
-pub fn output_to_assignment(
-    text: &[u8],
-    assignment: &mut [u8],
-) -> Result<Outcome, OutputRefusal>
+pub fn output_to_assignment(text: &[u8], assignment: &mut [u8]) -> Result<Outcome, OutputRefusal>
     ensures result_value { output_told result ≡ output_report text.now (length assignment.old) }
     ensures assignment_after { assignment.new ≡ output_left text.now assignment.old }
 {
-    let outcome = answer(read_output(text, assignment.len()))?;
+    let variables = Variables {
+        most: assignment.len(),
+    };
+    let outcome = answer(read_output(text, variables))?;
     if outcome == Outcome::Satisfiable {
         placing::write(text, assignment);
     }

@@ -26,10 +26,7 @@ pub enum Stage {
 fn is_values(l: &[u8]) -> bool
     ensures { result ≡ is_values l.now }
 {
-    match l.strip_prefix(b"v ") {
-        Some(words) => literals::are_literals(words),
-        None => false,
-    }
+    l.strip_prefix(b"v ").is_some_and(literals::are_literals)
 }
 
 // The form of a line without its LF.

@@ -1,10 +1,12 @@
 // The literals of a line.
-ghost use Rattle.std.specs.Prelude.{◌≡◌, [], ◌∷◌, ◌+◌, ◌-◌, ◌*◌, ◌≤◌, ◌<◌, length, take, drop};
-ghost use Rattle.text.specs.bytes.Bytes.{FirstFrom, split_on};
-ghost use Rattle.output.specs.Literals.{has_minus, unsigned, is_positive, is_zero, names_variable, are_literals, number_after};
-ghost use Rattle.output.specs.Counting.{capped, literal_up_to};
+ghost use Rattle.std.specs.Prelude.{◌≡◌, [], ◌∷◌, ◌+◌, ◌-◌, ◌*◌, ◌<◌, length, take, drop, List, ℕ, Some};
+ghost use Rattle.std.specs.Iterator.{YieldsFirst, item_count};
+ghost use Rattle.text.specs.bytes.Bytes.{split_on};
+ghost use Rattle.output.specs.Literals.{unsigned, is_positive, names_variable, are_literals, number_after};
+ghost use Rattle.output.specs.Counting.{capped, words_left, literals_left};
 
 use crate::bytes;
+use crate::variables::Variables;
 
 // A variable, counted from 1, or 0, and whether the literal is bare.
 #[derive(Clone, Copy, Debug, PartialEq, Eq)]
@@ -13,45 +15,28 @@ pub struct Literal {
     pub bare: bool,
 }
 
-// A word of a line: the literal that it is, and the place after it.
-#[derive(Clone, Copy, Debug, PartialEq, Eq)]
-pub struct Word {
-    pub literal: Literal,
-    pub end: usize,
-}
-
-impl Literal {
-    // A tenth of 2 to the 63, which no buffer's length reaches.
-    pub const TENTH: usize = 922337203685477580;
-}
-
-fn has_minus(w: &[u8]) -> bool
-    ensures { result ≡ has_minus w.now }
-{
-    if w.len() == 0 { false } else { w[0] == b'-' }
+// The literals of words one space apart, their variables up to `most` and one.
+#[derive(Drop)]
+pub struct Literals<'a> {
+    words: Option<&'a [u8]>,
+    variables: Variables,
 }
 
 // What follows the minus, if there is one.
 fn unsigned(w: &[u8]) -> &[u8]
     ensures { result.now ≡ unsigned w.now }
 {
-    if w.len() == 0 {
-        return w;
-    }
-    if w[0] == b'-' { &w[1..] } else { w }
+    w.strip_prefix(b"-").unwrap_or(w)
 }
 
 // Digits without a leading zero.
 fn is_positive(d: &[u8]) -> bool
     ensures { result ≡ is_positive d.now }
 {
-    if d.len() == 0 {
-        return false;
+    match d {
+        [] => false,
+        [first, ..] => *first != b'0' && d.iter().all(|b| b.is_ascii_digit()),
     }
-    if d[0] == b'0' {
-        return false;
-    }
-    bytes::are_digits(d)
 }
 
 fn names_variable(w: &[u8]) -> bool
@@ -60,85 +45,78 @@ fn names_variable(w: &[u8]) -> bool
     is_positive(unsigned(w))
 }
 
-fn is_zero(w: &[u8]) -> bool
-    ensures { result ≡ is_zero w.now }
-{
-    if w.len() == 1 { w[0] == b'0' } else { false }
-}
-
 // The last word of a line: 0, or a literal other than 0.
 fn is_last(w: &[u8]) -> bool
     ensures { result ≡ are_literals (w.now ∷ []) }
 {
-    if is_zero(w) {
-        return true;
-    }
-    names_variable(w)
+    w == b"0".as_slice() || names_variable(w)
 }
 
 // Whether the words, one space apart, are literals and 0 is only the last.
 pub fn are_literals(s: &[u8]) -> bool
     ensures { result ≡ are_literals (split_on 32 s.now) }
 {
-    let mut i = 0;
-    loop {
-        let e = bytes::find(s, i, b' ');
-        if e == s.len() {
-            return is_last(&s[i..e]);
-        }
-        if !names_variable(&s[i..e]) {
+    let mut rest = s;
+    while let Some((word, after)) = bytes::split_once(rest, b' ') {
+        if !names_variable(word) {
             return false;
         }
-        i = e + 1;
+        rest = after;
     }
+    is_last(rest)
 }
 
 // One digit more, up to `most` and one.
-fn next_number(v: usize, b: u8, most: usize) -> usize
-    requires { most < 9223372036854775808 }
-    ensures { result ≡ capped most (v * 10 + (b - 48)) }
+fn next_number(v: usize, b: u8, variables: Variables) -> usize
+    ensures { result ≡ capped variables.most (v * 10 + (b - 48)) }
 {
-    if Literal::TENTH < v {
-        return most + 1;
+    if Variables::TENTH < v {
+        return variables.most + 1;
     }
-    let n = v * 10 + bytes::digit(b);
-    if most < n { most + 1 } else { n }
+    let n = v * 10 + b.saturating_sub(b'0') as usize;
+    n.min(variables.most + 1)
 }
 
-// The word whose digits begin at `at`: its number, of any length, up to `most` and one.
-fn digits_at(s: &[u8], at: usize, bare: bool, most: usize) -> Word
-    requires { (at ≤ length s.now) × (most < 9223372036854775808) }
-    ensures first_from { FirstFrom 32 at s.now result.end }
-    ensures literal_value { result.literal ≡ record { variable = capped most (number_after 0 (take (result.end - at) (drop at s.now))); bare = bare } }
+// The number that the bytes before the first space say, of any length, up to `most` and one, and the words that follow.
+fn number(s: &[u8], variables: Variables) -> (usize, Option<&[u8]>)
+    ensures { (w : List ℕ) × (split_on 32 s.now ≡ w ∷ words_left result.1) × (result.0 ≡ capped variables.most (number_after 0 w)) }
 {
-    let mut variable = 0;
-    let mut i = at;
-    while i < s.len() {
-        let b = s[i];
-        if b == b' ' {
-            return Word {
-                literal: Literal { variable, bare },
-                end: i,
-            };
+    let mut n = 0;
+    for (i, b) in s.iter().enumerate() {
+        if *b == b' ' {
+            return (n, Some(&s[i + 1..]));
         }
-        variable = next_number(variable, b, most);
-        i += 1;
+        n = next_number(n, *b, variables);
     }
-    Word {
-        literal: Literal { variable, bare },
-        end: i,
+    (n, None)
+}
+
+impl<'a> Literals<'a> {
+    // Those of a line, from its first word on.
+    pub fn new(words: &'a [u8], variables: Variables) -> Literals<'a>
+        ensures { (result.variables ≡ variables) × (words_left result.words ≡ split_on 32 words.now) }
+    {
+        Literals {
+            words: Some(words),
+            variables,
+        }
     }
 }
 
-// The word from `at` to the next space or the end, and the literal that it is, its variable up to `most` and one.
-pub fn word_at(s: &[u8], at: usize, most: usize) -> Word
-    requires { (at ≤ length s.now) × (most < 9223372036854775808) }
-    ensures first_from { FirstFrom 32 at s.now result.end }
-    ensures literal_value { result.literal ≡ literal_up_to most (take (result.end - at) (drop at s.now)) }
-{
-    if has_minus(&s[at..]) {
-        digits_at(s, at + 1, false, most)
-    } else {
-        digits_at(s, at, true, most)
+impl<'a> Iterator for Literals<'a> {
+    type Item = Literal;
+
+    ghost next_gives = { YieldsFirst literals_left };
+
+    ghost remaining = { item_count literals_left };
+
+    fn next(&mut self) -> Option<Literal> {
+        let words = self.words?;
+        let (variable, rest) = number(unsigned(words), self.variables);
+        self.words = rest;
+        Some(Literal {
+            variable,
+            bare: !words.starts_with(b"-"),
+        })
     }
 }

@@ -1,13 +1,13 @@
 // One pass over a text: the forms and places of its lines, the ranges of its literals, and where the reading ends.
 ghost use Rattle.std.specs.Prelude.{◌≡◌, ◌≤◌, ◌<◌, length, is_some};
-ghost use mathlib.Core.List.{foldl, map};
-ghost use Rattle.text.specs.bytes.Bytes.{split_on};
-ghost use Rattle.output.specs.Tokens.{literal, line_tokens, tokens_of};
+ghost use mathlib.Core.List.{foldl};
+ghost use Rattle.output.specs.Tokens.{line_tokens, tokens_of};
 ghost use Rattle.output.specs.Counting.{literal_up_to, no_reading, count_line, count_literal, count};
 
 use crate::lines::{LineForm, Stage};
-use crate::literals::Literal;
-use crate::{bytes, lines, literals};
+use crate::literals::{Literal, Literals};
+use crate::variables::Variables;
+use crate::{bytes, lines};
 
 // Why a text is refused.
 #[derive(Clone, Copy, Debug, PartialEq, Eq)]
@@ -43,17 +43,15 @@ impl Reading {
         if self.has_ended() {
             return self;
         }
-        let line = self.line + 1;
+        let next = Reading {
+            line: self.line + 1,
+            ..self
+        };
         match self.stage.after(form) {
-            Some(stage) => Reading {
-                line,
-                stage,
-                ..self
-            },
+            Some(stage) => Reading { stage, ..next },
             None => Reading {
                 fault: Some(Fault::OutOfFormOrPlace),
-                line,
-                ..self
+                ..next
             },
         }
     }
@@ -89,42 +87,26 @@ impl Reading {
             ..self
         }
     }
-}
 
-// The literals of a line, from its first word on.
-fn judge_words(first: Reading, s: &[u8], most: usize, limit: usize) -> Reading
-    requires { most < 9223372036854775808 }
-    ensures { result ≡ foldl (count most limit) first (map (λ w. literal (literal_up_to most w)) (split_on 32 s.now)) }
-{
-    let mut r = first;
-    let mut i = 0;
-    loop {
-        let w = literals::word_at(s, i, most);
-        r = r.judge_literal(w.literal, most, limit);
-        if w.end == s.len() {
-            return r;
+    // A line without its LF, and then its literals.
+    fn judge_whole_line(self, l: &[u8], variables: Variables, limit: usize) -> Reading
+        requires { self.line < 9223372036854775808 }
+        ensures { result ≡ foldl (count variables.most limit) self (line_tokens (literal_up_to variables.most) l.now) }
+    {
+        let form = lines::form(l);
+        let r = self.judge_line(form);
+        match form {
+            Some(LineForm::Values) => Literals::new(&l[2..], variables).fold(r, |r, literal| {
+                r.judge_literal(literal, variables.most, limit)
+            }),
+            _ => r,
         }
-        i = w.end + 1;
-    }
-}
-
-// A line without its LF, and then its literals.
-fn judge_whole_line(before: Reading, l: &[u8], most: usize, limit: usize) -> Reading
-    requires { (most < 9223372036854775808) × (before.line < 9223372036854775808) }
-    ensures { result ≡ foldl (count most limit) before (line_tokens (literal_up_to most) l.now) }
-{
-    let form = lines::form(l);
-    let r = before.judge_line(form);
-    match form {
-        Some(LineForm::Values) => judge_words(r, &l[2..], most, limit),
-        _ => r,
     }
 }
 
 // The whole text, up to the first fault.
-pub fn read_through(text: &[u8], most: usize, limit: usize) -> Reading
-    requires { most < 9223372036854775808 }
-    ensures { (result ≡ foldl (count most limit) no_reading (tokens_of (literal_up_to most) text.now)) × (result.line ≤ length text.now) }
+pub fn read_through(text: &[u8], variables: Variables, limit: usize) -> Reading
+    ensures { (result ≡ foldl (count variables.most limit) no_reading (tokens_of (literal_up_to variables.most) text.now)) × (result.line ≤ length text.now) }
 {
     let mut r = Reading {
         fault: None,
@@ -132,19 +114,17 @@ pub fn read_through(text: &[u8], most: usize, limit: usize) -> Reading
         stage: Stage::BeforeStatus,
         named: 0,
     };
-    let mut i = 0;
-    loop {
-        let e = bytes::find(text, i, b'\n');
-        if e == text.len() {
-            if i == e {
-                return r;
-            }
-            return r.judge_line(None);
-        }
-        r = judge_whole_line(r, &text[i..e], most, limit);
+    let mut rest = text;
+    while let Some((line, after)) = bytes::split_once(rest, b'\n') {
+        r = r.judge_whole_line(line, variables, limit);
         if r.has_ended() {
             return r;
         }
-        i = e + 1;
+        rest = after;
+    }
+    if rest.is_empty() {
+        r
+    } else {
+        r.judge_line(None)
     }
 }

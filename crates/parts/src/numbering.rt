@@ -8,6 +8,7 @@ use model::{Model, Totals};
 
 // The number, from 1, of place `p` in the block of state `t` and the choice block after it. `z` are the totals of `m`. No value on the way leaves
 // 16 bits (specs/Numbering.antt: `InSixteenBits`); the number is widened at the end.
+#[tactic(auto, using(crate::proofs::NumberingLaws::way_in, crate::proofs::NumberingLaws::number_is))]
 pub fn variable_number(m: Model, z: Totals, t: usize, p: usize) -> usize
     requires { T (well_formed m) × KnownTotals m z × (t ≤ 64) × (p < z.state + z.choices) }
     ensures { result ≡ variable_number m t p }

@@ -25,7 +25,8 @@ use Rattle.compose.specs.Moves.{label_at, bears, shared, paired, moves, move_at,
 use Rattle.compose.specs.Composed.{fits, composed}
 use Rattle.compose.proofs.MoveLaws.{move_of, first_move, second_move, pair_move}
 use Rattle.product.proofs.JoinedForm.{joined_guard, atom_first, atom_second, joined_each, filled_atoms, count_le, blank_above}
-use Rattle.product.proofs.JoinedForm.{blank_atom_at, standing_guard, standing_count, pair_lt}
+use Rattle.compose.proofs.Rows.{pair_lt}
+use Rattle.product.proofs.JoinedForm.{blank_atom_at, standing_guard, standing_count}
 use Rattle.product.proofs.ComposedForm.{Fits, fits_of, pair_of, invariant_at_lem, invariant_rest, edge_of_move, edge_rest}
 use Rattle.compose.proofs.JoinedLaws.{invariant_formed_at, edge_formed_at}
 

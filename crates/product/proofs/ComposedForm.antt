@@ -2,23 +2,22 @@
 use mathlib.Core.Path.{◌≡◌, refl, sym, ap, subst, ◌∙◌}
 use mathlib.Core.Logic.{⊎_elim}
 use mathlib.Core.Bool.{true, ◌&&◌, cond}
-use mathlib.Core.List.{List, ◌++◌}
+use mathlib.Core.List.{List}
 use Prim.Native.Nat.{ℕ, zero, suc, ◌+◌, ◌-◌, ◌*◌, ◌≤◌, ◌<◌}
 use native.Mathlib.Nat.{not-suc-le-zero}
 use native.Mathlib.Omega.{arith}
 use lib.Dec.{T, leb, ltb, eqb, leb→le, le→leb, lt→ltb}
-use lib.ListN.{length, get_or, replicate, length-append, get_or-append, get_or-eq_default}
-use lib.Seq.{get_or-append-add}
+use lib.ListN.{length, replicate, get_or-eq_default}
 use Rattle.model.specs.declared.Atom.{Atom}
 use Rattle.model.specs.declared.Counter.{Counter}
 use Rattle.model.specs.declared.Invariant.{Invariant}
 use Rattle.model.specs.declared.Edge.{Edge}
 use Rattle.model.specs.declared.Model.{Model}
-use Rattle.model.specs.Indexed.{each, list_below, all_below}
+use Rattle.model.specs.Indexed.{all_below}
 use Rattle.model.specs.Record.{blank_atom, blank_counter, blank_invariant, blank_edge, past_invariant, past_edge, counter_at, invariant_at, edge_at}
 use Rattle.model.specs.Form.{atoms_formed, counter_formed, is_blank_counter, counter_slot_formed, counters_formed, invariant_slot_formed, invariants_formed}
 use Rattle.model.specs.Form.{edge_formed, is_blank_edge, edge_slot_formed, edges_formed, head_formed, well_formed}
-use Rattle.model.proofs.IndexedLaws.{and_T, lt_or_le, cond_T, cond_F, not_lt, below_cases, all_below_lem, length_list, get_d_list}
+use Rattle.model.proofs.IndexedLaws.{and_T, lt_or_le, cond_T, cond_F, not_lt, all_below_lem, get_d_list}
 use Rattle.model.proofs.FormLaws.{formed, edge_parts, and₄, yes}
 use Rattle.model.proofs.BlankSlots.{and₇_of, unused_counter}
 use Rattle.compose.specs.declared.moves.Move.{Move}
@@ -31,7 +30,8 @@ use Rattle.compose.proofs.ComposedLaws.{held}
 use Rattle.compose.proofs.MoveLaws.{move_of}
 use Rattle.compose.proofs.PlacedLaws.{placed_blank}
 use Rattle.product.proofs.JoinedForm.{slot_of, blank_formed, standing_formed, joined_atoms_formed, joined_edge_formed}
-pub use Rattle.product.proofs.JoinedForm.{pair_lt}
+pub use Rattle.compose.proofs.Rows.{pair_lt}
+use Rattle.compose.proofs.Rows.{length_rows, each_at}
 
 -- ---- the fields of the composed model
 module _ (a b : Model) where
@@ -67,25 +67,6 @@ pair_of (suc n) m l p = ⊎_elim
     (λ q. let h = pair_of n m l q in (h.0, h.1, omega (arith, h.2), h.3, h.4))
     (λ q. (n, l - n * m, omega arith, omega arith, omega arith))
     (lt_or_le l (n * m))
-
--- ---- rows of the same length, one after the other
-module _ {A : Type 0} (g : ℕ → ℕ → A) (m : ℕ) where
-  pub length_rows : (n : ℕ) → length (each n (λ i. list_below (g i) m)) ≡ n * m
-  unfolding each
-  length_rows zero = omega arith
-  length_rows (suc n) = length-append (each n (λ i. list_below (g i) m)) (list_below (g n) m) ∙ omega (arith, length_rows n, length_list (g n) m)
-
-  -- element j of row i
-  pub each_at : (d : A) (n i j : ℕ) → i < n → j < m → get_or (each n (λ i. list_below (g i) m)) (i * m + j) d ≡ g i j
-  unfolding each
-  each_at d zero i j p q = absurd (not-suc-le-zero p)
-  each_at d (suc n) i j p q =
-      let rows = each n (λ i. list_below (g i) m) in
-      below_cases i n p
-      (λ e. let here : i * m + j ≡ length rows + j = ap (λ (k : ℕ). k * m + j) e ∙ omega (arith, length_rows n) in
-      ap (λ (k : ℕ). get_or (rows ++ list_below (g n) m) k d) here ∙ get_or-append-add rows (list_below (g n) m) j d ∙ get_d_list d (g n) m j q
-      ∙ ap (λ (k : ℕ). g k j) (sym e))
-      (λ l. get_or-append rows (list_below (g n) m) d (i * m + j) (omega (arith, length_rows n, pair_lt n m i j l q)) ∙ each_at d n i j l q)
 
 -- ---- slot by slot
 module _ (a b : Model) where

@@ -4,7 +4,7 @@ use mathlib.Core.Logic.{⊎_elim}
 use mathlib.Core.Bool.{Bool, true, false, not, ◌&&◌, cond}
 use mathlib.Core.List.{List}
 use Prim.Native.Nat.{ℕ, zero, suc, ◌+◌, ◌-◌, ◌*◌, ◌≤◌, ◌<◌}
-use native.Mathlib.Nat.{not-suc-le-zero, mul-le-mul}
+use native.Mathlib.Nat.{not-suc-le-zero}
 use native.Mathlib.Omega.{arith}
 use borrow.Author.Tests.{lt-ltb, le-ltb, ne_eqb, eqb-false}
 use lib.Dec.{T, leb, ltb, eqb, ltb→lt, lt→ltb, le→leb, T_not}
@@ -30,6 +30,7 @@ use Rattle.model.proofs.OrderLaws.{Ordered, place_law, place_at, listed_is, list
 use Rattle.model.proofs.FormLaws.{WellFormedEdge, and₃, atoms_at, edge_parts, order_slot, keep_is, yes, no}
 use Rattle.model.proofs.BlankSlots.{and₇_of}
 use Rattle.compose.proofs.JoinedLaws.{atom_wider, update_wider, reset_wider}
+use Rattle.compose.proofs.Rows.{pair_lt}
 use Rattle.compose.specs.Joined.{shifted_update, shifted_reset, shifted_atom, atom_count, joined_atom, joined_atoms, joined_update}
 use Rattle.compose.specs.Joined.{joined_updates, joined_place}
 use Rattle.compose.specs.Joined.{joined_location, joined_order, joined_reset, joined_resets, standing, joined_edge}
@@ -107,11 +108,6 @@ atom_second c v p q k l =
     joined_atom_lem c v p q (n + k) l
     ∙ cond_F (ltb (n + k) n) (atom_at p (n + k)) (shifted_atom c v (atom_at q (n + k - n))) (not_lt (n + k) n (omega arith))
     ∙ ap (λ (j : ℕ). shifted_atom c v (atom_at q j)) s
-
--- ---- pairs of numbers as one number
--- the number of a pair is below the product
-pub pair_lt : (n m i j : ℕ) → i < n → j < m → i * m + j < n * m
-pair_lt n m i j p q = let same : m ≤ m = omega arith in omega (arith, q, mul-le-mul p same)
 
 -- ---- sums over a range in two parts
 sum_parts : (h : ℕ → ℕ) (m n : ℕ) → sum_below h (m + n) ≡ sum_below h m + sum_below (λ i. h (m + i)) n

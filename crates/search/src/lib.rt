@@ -1,118 +1,136 @@
 // The search for the first clause of the list that an assignment makes false. It stores no list.
 #![tactic(auto)]
 
-ghost use Rattle.std.specs.Prelude.{◌≡◌, ◌+◌, ◌*◌, ◌≤◌, T, length};
+ghost use Rattle.std.specs.Prelude.{◌≡◌, ◌+◌, ◌*◌, ◌<◌, ◌≤◌, T, length};
 ghost use Rattle.model.specs.Indexed.{each};
-ghost use Rattle.model.specs.Automaton.{variables};
-ghost use Rattle.model.specs.Bounds.{KnownTotals};
+ghost use Rattle.model.specs.Automaton.{state_size, choices, variables};
 ghost use Rattle.model.specs.Form.{well_formed};
-ghost use Rattle.list.specs.Items.{invariant_of, edge_of};
+ghost use Rattle.list.specs.Items.{block_at, invariant_of, edge_of};
 ghost use Rattle.list.specs.Clauses.{one_hot_width, clauses};
 ghost use Rattle.list.specs.Assignments.{first_false};
 ghost use Rattle.counts.specs.Tables.{Table, most_invariant_clauses, most_edge_clauses};
 ghost use Rattle.search.specs.Checking.{Checked};
 ghost use Rattle.search.specs.Limits.{most_step_clauses, most_counted};
-ghost use Rattle.parts.specs.Pieces.{Known, step_clauses};
-ghost use Rattle.search.specs.Answer.{found};
+ghost use Rattle.parts.specs.Numbering.{most_variables};
+ghost use Rattle.parts.specs.Pieces.{edge_clauses, step_clauses};
 
 use crate::pieces::{check_front, check_start, check_state};
-use crate::truth::{PieceCheck, check_value, is_true};
+use crate::truth::{check_part, counted, is_true};
 use counts::tables::{edge_table, invariant_table};
-use model::{Model, Totals};
-use parts::numbering::{block_start, variable_number};
-use parts::{GroupTable, group_table};
+use model::Model;
+use parts::layout::Layout;
 
 mod pieces;
 mod truth;
 
-// The index of the first false clause, or none.
-#[derive(Clone, Copy)]
-pub enum Found {
-    At(usize),
-    Nothing,
+// The clauses of edge `e` from the state block that begins at `o`. All are true if the edge is false: they are counted and not looked at.
+fn check_edge(
+    layout: &Layout,
+    table: &[usize; Model::EDGES],
+    a: &[u8],
+    o: usize,
+    e: usize,
+    at: usize,
+) -> Result<usize, usize>
+    requires { Table (edge_of one_hot_width layout.now.model) layout.now.model.used 32 most_edge_clauses table.now × (e < layout.now.model.used)
+        × (o ≤ most_variables) × (o + state_size layout.now.model + choices layout.now.model + state_size layout.now.model ≤ length a.now)
+        × (at + most_edge_clauses ≤ most_counted) }
+    ensures { Checked a.now (edge_clauses layout.now.model o e) at most_edge_clauses result }
+{
+    let b = &layout.table;
+    let edges_at = b.state + b.top as usize + 1;
+    let x = o + edges_at + e;
+    if !is_true(a, x) {
+        return Ok(at + table[e]);
+    }
+    let edge = &layout.model.edges[e];
+    let mut count = at;
+    for j in 0..b.groups + 5 {
+        count = check_part(a, x, b.edge_part(edge, o, j), count)?;
+    }
+    Ok(count)
 }
 
-// The clauses of the steps. The loops over step, edge, part and value are left at the first false clause. All clauses of an edge
-// whose choice is false are true: they are counted and not looked at.
+// The clauses of all edges from the state block that begins at `o`.
+fn check_edges(
+    layout: &Layout,
+    table: &[usize; Model::EDGES],
+    a: &[u8],
+    o: usize,
+    at: usize,
+) -> Result<usize, usize>
+    requires { Table (edge_of one_hot_width layout.now.model) layout.now.model.used 32 most_edge_clauses table.now
+        × (o ≤ most_variables) × (o + state_size layout.now.model + choices layout.now.model + state_size layout.now.model ≤ length a.now)
+        × (at + 32 * most_edge_clauses ≤ most_counted) }
+    ensures { Checked a.now (each layout.now.model.used (edge_clauses layout.now.model o)) at (32 * most_edge_clauses) result }
+{
+    let mut count = at;
+    for e in 0..layout.model.used as usize {
+        count = check_edge(layout, table, a, o, e, count)?;
+    }
+    Ok(count)
+}
+
+// The clauses of the step from state `t`: its choice and delays, its edges, the state after it.
+fn check_step(
+    layout: &Layout,
+    invariants: &[usize; Model::LOCATIONS],
+    edges: &[usize; Model::EDGES],
+    a: &[u8],
+    t: usize,
+    at: usize,
+) -> Result<usize, usize>
+    requires { Table (invariant_of one_hot_width layout.now.model) layout.now.model.locations 16 most_invariant_clauses invariants.now
+        × Table (edge_of one_hot_width layout.now.model) layout.now.model.used 32 most_edge_clauses edges.now
+        × (t < 64)
+        × (block_at one_hot_width layout.now.model t + state_size layout.now.model + choices layout.now.model + state_size layout.now.model ≤ length a.now)
+        × (at + most_step_clauses ≤ most_counted) }
+    ensures { Checked a.now (step_clauses layout.now.model t) at most_step_clauses result }
+{
+    let o = layout.block_start(t);
+    let front = check_front(&layout.table, a, o, at)?;
+    let count = check_edges(layout, edges, a, o, front)?;
+    check_state(layout, invariants, a, layout.block_start(t + 1), count)
+}
+
+// The clauses of the steps.
 fn check_steps(
-    m: Model,
-    z: Totals,
-    b: GroupTable,
-    invariants: [usize; Model::LOCATIONS],
-    table: [usize; Model::EDGES],
+    layout: &Layout,
+    invariants: &[usize; Model::LOCATIONS],
+    edges: &[usize; Model::EDGES],
     bound: usize,
     a: &[u8],
     at: usize,
-) -> PieceCheck
-    requires { Known m b × KnownTotals m z × Table (invariant_of one_hot_width m) m.locations 16 most_invariant_clauses invariants
-        × Table (edge_of one_hot_width m) m.used 32 most_edge_clauses table × (bound ≤ 64) × (length a.now ≡ variables m bound)
-        × (at + 64 * most_step_clauses ≤ most_counted) }
-    ensures { Checked a.now (each bound (step_clauses m)) at (64 * most_step_clauses) result }
+) -> Result<usize, usize>
+    requires { Table (invariant_of one_hot_width layout.now.model) layout.now.model.locations 16 most_invariant_clauses invariants.now
+        × Table (edge_of one_hot_width layout.now.model) layout.now.model.used 32 most_edge_clauses edges.now
+        × (bound ≤ 64) × (length a.now ≡ variables layout.now.model bound) × (at + 64 * most_step_clauses ≤ most_counted) }
+    ensures { Checked a.now (each bound (step_clauses layout.now.model)) at (64 * most_step_clauses) result }
 {
-    let edges_at = b.state + b.top as usize + 1;
-    let parts = b.groups + 5;
     let mut count = at;
-    let mut t = 0;
-    'steps: loop {
-        if t >= bound {
-            break 'steps PieceCheck {
-                ok: true,
-                at: count,
-            };
-        }
-        let o = block_start(m, z, t);
-        let front = check_front(b, a, o, count);
-        if !front.ok {
-            break 'steps front;
-        }
-        count = front.at;
-        'edges: for e in 0..m.used as usize {
-            let x = o + edges_at + e;
-            if !is_true(a, x) {
-                count += table[e];
-                continue 'edges;
-            }
-            let edge = m.edges[e];
-            'parts: for j in 0..parts {
-                let part = b.edge_part(edge, o, j);
-                'values: for v in 0..part.size {
-                    let s = check_value(a, x, part, v, count);
-                    if !s.ok {
-                        break 'steps s;
-                    }
-                    count = s.at;
-                }
-            }
-        }
-        t += 1;
-        let state = check_state(m, b, invariants, a, block_start(m, z, t), count);
-        if !state.ok {
-            break 'steps state;
-        }
-        count = state.at;
+    for t in 0..bound {
+        count = check_step(layout, invariants, edges, a, t, count)?;
     }
+    Ok(count)
+}
+
+// The clauses of the list for `bound`: start, steps, end.
+fn check_list(layout: &Layout, bound: usize, a: &[u8]) -> Result<usize, usize>
+    requires { (bound ≤ 64) × (length a.now ≡ variables layout.now.model bound) }
+    ensures { Checked a.now (clauses layout.now.model bound) 0 most_counted result }
+{
+    let invariants = invariant_table(layout);
+    let start = check_start(layout, &invariants, a)?;
+    let edges = edge_table(layout);
+    let count = check_steps(layout, &invariants, &edges, bound, a, start)?;
+    let end = layout.variable_number(bound, layout.model.target as usize) - 1;
+    counted(is_true(a, end), count)
 }
 
 // The first clause of the list for `bound` that the assignment makes false.
-pub fn first_false(m: Model, bound: usize, a: &[u8]) -> Found
+pub fn first_false(m: Model, bound: usize, a: &[u8]) -> Option<usize>
     requires { T (well_formed m) × (bound ≤ 64) × (length a.now ≡ variables m bound) }
-    ensures { found result ≡ first_false a.now (clauses m bound) }
+    ensures { result ≡ first_false a.now (clauses m bound) }
 {
-    let z = m.totals();
-    let b = group_table(m, z);
-    let invariants = invariant_table(m, b);
-    let start = check_start(m, b, invariants, a);
-    if !start.ok {
-        return Found::At(start.at);
-    }
-    let edges = edge_table(m, b);
-    let steps = check_steps(m, z, b, invariants, edges, bound, a, start.at);
-    if !steps.ok {
-        return Found::At(steps.at);
-    }
-    let end = variable_number(m, z, bound, m.target as usize) - 1;
-    if !is_true(a, end) {
-        return Found::At(steps.at);
-    }
-    Found::Nothing
+    check_list(&Layout::new(m), bound, a).err()
 }

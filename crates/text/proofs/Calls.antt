@@ -2,46 +2,47 @@
 use Prim.Native.Nat.{ℕ}
 use mathlib.Core.Path.{◌≡◌, sym, ap, ◌∙◌}
 use mathlib.Core.List.{List}
-use mathlib.Core.Bool.{true, false}
-use lib.Dec.{eqb}
 use lib.ListN.{drop}
-use borrow.Author.Tests.{eq-eqb, ne_eqb}
+use Rattle.std.specs.Prelude.{Some, None, Result, Ok, Err}
 use Rattle.model.specs.declared.Model.{Model}
 use Rattle.text.specs.Text.{ReadReport, read_report, read_told, if_read, outcome_number, outcome_line}
 use Rattle.text.specs.Bound.{BoundReport, bound_refused, bound_accepted, bound_report, bound_told, if_bound}
 use Rattle.text.specs.Item.{ItemReport, item_report, item_told, if_item}
-use Rattle.text.specs.declared.ReadAnswer.{ReadAnswer}
+use Rattle.text.specs.declared.ReadRefusal.{ReadRefusal}
 use Rattle.text.specs.declared.ItemRead.{ItemRead}
-use Rattle.text.specs.declared.BoundRead.{BoundRead}
-use Rattle.text.specs.declared.BoundRead.TheVariants.{NotABound, Bound}
+use Rattle.text.specs.declared.BoundLine.{BoundLine}
+use Rattle.text.proofs.lines.Turns.{refusal_told}
 
-module _ {A : Type 0} (call : Model → A) (refused : ℕ → ℕ → A) (a : ReadAnswer) (n : ℕ) (number : n ≡ outcome_number a.outcome) where
-  if_refused : eqb (outcome_number a.outcome) 0 ≡ false → refused (outcome_number a.outcome) (outcome_line a.outcome) ≡ if_read (read_told a) call refused
+module _ {A : Type 0} (call : Model → A) (refused : ℕ → ℕ → A) where
+  if_refused : (e : ReadRefusal) → refused (outcome_number e) (outcome_line e) ≡ if_read (read_told (Err e)) call refused
   unfolding if_read
-  if_refused f = rw f
+  if_refused e = rw (refusal_told e)
 
-  if_read_lem : eqb (outcome_number a.outcome) 0 ≡ true → call a.model ≡ if_read (read_told a) call refused
+  if_ok : (m : Model) → call m ≡ if_read (read_told (Ok m)) call refused
   unfolding if_read
-  if_read_lem f = rw f
+  if_ok m = λ i. call m
 
-  -- of the answer
-  pub refused_told : (n ≡ 0 → ⊥) → (l : ℕ) → l ≡ outcome_line a.outcome → refused n l ≡ if_read (read_told a) call refused
-  refused_told ne l line = (λ i. refused (number i) (line i)) ∙ if_refused (ap (λ (x : ℕ). eqb x 0) (sym number) ∙ ne_eqb n 0 ne)
+  module _ (a : Result Model ReadRefusal) where
+    -- of the answer
+    pub refused_told : {e : ReadRefusal} → a ≡ Err e → {n l : ℕ} → n ≡ outcome_number e → l ≡ outcome_line e
+        → refused n l ≡ if_read (read_told a) call refused
+    refused_told {e} q {n} {l} number line =
+        (λ i. refused (number i) (line i)) ∙ if_refused e ∙ ap (λ (x : Result Model ReadRefusal). if_read (read_told x) call refused) (sym q)
 
-  pub read_told_lem : n ≡ 0 → call a.model ≡ if_read (read_told a) call refused
-  read_told_lem z = if_read_lem (ap (λ (x : ℕ). eqb x 0) (sym number) ∙ eq-eqb n 0 z)
+    pub read_told_lem : {m : Model} → a ≡ Ok m → call m ≡ if_read (read_told a) call refused
+    read_told_lem {m} q = if_ok m ∙ ap (λ (x : Result Model ReadRefusal). if_read (read_told x) call refused) (sym q)
 
--- of the text that it is the answer to
-module _ {A : Type 0} (call : Model → A) (refused : ℕ → ℕ → A) (t : List ℕ) (a : ReadAnswer) (is : read_told a ≡ read_report t) (n : ℕ)
-    (number : n ≡ outcome_number a.outcome) where
-  as_read : if_read (read_told a) call refused ≡ if_read (read_report t) call refused
-  as_read = ap (λ (x : ReadReport). if_read x call refused) is
+    -- of the text that it is the answer to
+    module _ (t : List ℕ) (is : read_told a ≡ read_report t) where
+      as_read : if_read (read_told a) call refused ≡ if_read (read_report t) call refused
+      as_read = ap (λ (x : ReadReport). if_read x call refused) is
 
-  pub refused_text : (n ≡ 0 → ⊥) → (l : ℕ) → l ≡ outcome_line a.outcome → refused n l ≡ if_read (read_report t) call refused
-  refused_text ne l line = refused_told call refused a n number ne l line ∙ as_read
+      pub refused_text : {e : ReadRefusal} → a ≡ Err e → {n l : ℕ} → n ≡ outcome_number e → l ≡ outcome_line e
+          → refused n l ≡ if_read (read_report t) call refused
+      refused_text q number line = refused_told q number line ∙ as_read
 
-  pub read_text : n ≡ 0 → call a.model ≡ if_read (read_report t) call refused
-  read_text z = read_told_lem call refused a n number z ∙ as_read
+      pub read_text : {m : Model} → a ≡ Ok m → call m ≡ if_read (read_report t) call refused
+      read_text q = read_told_lem q ∙ as_read
 
 -- ---- a bound line and the text after it
 module _ {A : Type 0} (call : ℕ → ReadReport → A) (refused : ℕ → A) (t : List ℕ) (i : ItemRead) (is : item_told i ≡ item_report t) where
@@ -56,12 +57,11 @@ module _ {A : Type 0} (call : ℕ → ReadReport → A) (refused : ℕ → A) (t
   call_at : (b : BoundReport) → bound_report t ≡ b → if_bound b (λ bound next. call bound (read_report (drop next t))) refused ≡ if_item call refused t
   call_at b h = ap (λ (x : BoundReport). if_bound x (λ bound next. call bound (read_report (drop next t))) refused) (sym h)
 
-  pub no_bound : i.bound ≡ NotABound → {n : ℕ} → n ≡ (bound_told i.bound).number → refused n ≡ if_item call refused t
-  no_bound q number =
-      ap refused (number ∙ ap (λ (x : BoundRead). (bound_told x).number) q) ∙ call_at bound_refused (sym bound_is ∙ ap bound_told q)
+  pub no_bound : i.bound ≡ None → refused 9 ≡ if_item call refused t
+  no_bound q = call_at bound_refused (sym bound_is ∙ ap bound_told q)
 
-  pub after_bound : (k next : ℕ) → i.bound ≡ Bound k next → call k (read_told i.text) ≡ if_item call refused t
-  after_bound k next q =
-      let h : bound_report t ≡ bound_accepted k next = sym bound_is ∙ ap bound_told q in
-      let text : read_told i.text ≡ read_report (drop next t) = text_is ∙ ap (λ (b : BoundReport). read_report (drop b.next t)) h in
-      ap (call k) text ∙ call_at (bound_accepted k next) h
+  pub after_bound : {b : BoundLine} → i.bound ≡ Some b → call b.bound (read_told i.text) ≡ if_item call refused t
+  after_bound {b} q =
+      let h : bound_report t ≡ bound_accepted b.bound b.next = sym bound_is ∙ ap bound_told q in
+      let text : read_told i.text ≡ read_report (drop b.next t) = text_is ∙ ap (λ (b : BoundReport). read_report (drop b.next t)) h in
+      ap (call b.bound) text ∙ call_at (bound_accepted b.bound b.next) h

@@ -1,4 +1,3 @@
-pub mod Ends
 pub mod ItemLaws
 pub mod Calls
 pub mod Laws

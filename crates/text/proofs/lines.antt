@@ -1,4 +1,2 @@
 pub mod Settling
-pub mod LineKinds
-pub mod Stores
 pub mod Turns

@@ -1,5 +1,4 @@
 pub mod Parts
-pub mod Signed
 pub mod TimesSet
 pub mod Listing
 pub mod Stages

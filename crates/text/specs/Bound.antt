@@ -1,11 +1,8 @@
 -- The first line of a program's input: bound= and a number.
-use Rattle.std.specs.Prelude.{ℕ, ◌+◌, List, cond, eqb}
+use Rattle.std.specs.Prelude.{ℕ, ◌+◌, List, cond, eqb, Option, Some, None}
 use Rattle.text.specs.bytes.Ascii.{ascii}
 use Rattle.text.specs.bytes.Bytes.{first_at, is_due, value_of, number_of}
-use Rattle.text.specs.declared.bytes.NumberRead.{NumberRead}
-use Rattle.text.specs.declared.bytes.NumberRead.TheVariants.{Malformed, Number}
-use Rattle.text.specs.declared.BoundRead.{BoundRead}
-use Rattle.text.specs.declared.BoundRead.TheVariants.{NotABound, Bound}
+use Rattle.text.specs.declared.BoundLine.{BoundLine}
 
 -- the number of the refusal, or 0; the bound; the place after the line, where the model text begins
 pub record BoundReport : Type 0 where
@@ -19,9 +16,9 @@ bound_refused = record { number = 9; bound = 0; next = 0 }
 abbrev pub bound_accepted : ℕ → ℕ → BoundReport
 bound_accepted n next = record { number = 0; bound = n; next = next }
 
-abbrev pub bound_in : NumberRead → ℕ → BoundReport
-bound_in Malformed next = bound_refused
-bound_in (Number n) next = bound_accepted n next
+abbrev pub bound_in : Option ℕ → ℕ → BoundReport
+bound_in None next = bound_refused
+bound_in (Some n) next = bound_accepted n next
 
 -- 9 not bound= and a number (also for no LF)
 unfoldable pub bound_report : List ℕ → BoundReport
@@ -31,7 +28,7 @@ bound_report t = cond (is_due (ascii "bound=") t) (bound_in (number_of (value_of
 abbrev pub if_bound : {A : Type 0} → BoundReport → (ℕ → ℕ → A) → (ℕ → A) → A
 if_bound b call refused = cond (eqb b.number 0) (call b.bound b.next) (refused b.number)
 
--- the number and the values of each case of the answer
-abbrev pub bound_told : BoundRead → BoundReport
-bound_told NotABound = bound_refused
-bound_told (Bound n next) = bound_accepted n next
+-- what the answer to a text says
+abbrev pub bound_told : Option BoundLine → BoundReport
+bound_told None = bound_refused
+bound_told (Some b) = bound_accepted b.bound b.next

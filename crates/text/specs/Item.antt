@@ -2,9 +2,7 @@
 use Rattle.std.specs.Prelude.{ℕ, ◌+◌, ◌≡◌, List, drop}
 use Rattle.text.specs.Bound.{BoundReport, bound_report, bound_told, if_bound}
 use Rattle.text.specs.Text.{ReadReport, read_report, read_told}
-use Rattle.text.specs.lines.Readings.{ReadsFrom}
 use Rattle.text.specs.declared.ItemRead.{ItemRead}
-use Rattle.text.specs.declared.reader.Item.{Item}
 
 -- what the bound line says, and what the text after it says; where there is no bound line, the text is all there is
 pub record ItemReport : Type 0 where
@@ -22,7 +20,7 @@ if_item call refused t = if_bound (bound_report t) (λ bound next. call bound (r
 abbrev pub item_told : ItemRead → ItemReport
 item_told r = record { bound = bound_told r.bound; text = read_told r.text }
 
--- i is what one reader finds from the place `at` on: the bound line there, and the reading of the lines after it
-pub record ItemFrom (t : List ℕ) (at : ℕ) (i : Item) : Type 0 where
+-- i is what one reader finds from the place `at` on: the bound line there, and the model text after it
+pub record ItemFrom (t : List ℕ) (at : ℕ) (i : ItemRead) : Type 0 where
   pub bound_is : bound_told i.bound ≡ bound_report (drop at t)
-  pub reads : ReadsFrom t (at + (bound_report (drop at t)).next) i.reading
+  pub reads : read_told i.text ≡ read_report (drop (at + (bound_report (drop at t)).next) t)

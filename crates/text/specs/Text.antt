@@ -1,15 +1,11 @@
 -- What a model text says.
-use Rattle.std.specs.Prelude.{ℕ, ◌≡◌, List, cond, ltb, eqb, length}
+use Rattle.std.specs.Prelude.{ℕ, List, cond, ltb, eqb, length, Result, Ok, Err}
 use Rattle.model.specs.declared.Model.{Model}
 use Rattle.model.specs.Record.{blank_model}
 use Rattle.text.specs.lines.Progress.{Progress}
 use Rattle.text.specs.lines.Sequence.{read_lines}
-use Rattle.text.specs.bytes.Faulty.{line_told, is_no_fault}
-use Rattle.text.specs.declared.bytes.LineFault.{LineFault}
-use Rattle.text.specs.declared.ReadOutcome.{ReadOutcome}
-use Rattle.text.specs.declared.ReadOutcome.TheVariants.{Read, TooLong, NotDue, NotOfItsForm, TooManyItems, OutOfRange, NotDeclared, SetTwiceOrNotRising}
-use Rattle.text.specs.declared.ReadOutcome.TheVariants.{BytesLeft}
-use Rattle.text.specs.declared.ReadAnswer.{ReadAnswer}
+use Rattle.text.specs.declared.ReadRefusal.{ReadRefusal}
+use Rattle.text.specs.declared.ReadRefusal.TheVariants.{TooLong, NotDue, NotOfItsForm, TooManyItems, OutOfRange, NotDeclared, SetTwiceOrNotRising, BytesLeft}
 
 -- ---- the whole text
 -- the number of the refusal, or 0; the line, from 1, or 0; the model read, or the blank model
@@ -36,9 +32,8 @@ read_report t = cond (ltb 8192 (length t)) (read_refused 1 0) (read_ended (read_
 unfoldable pub if_read : {A : Type 0} → ReadReport → (Model → A) → (ℕ → ℕ → A) → A
 if_read t call refused = cond (eqb t.number 0) (call t.model) (refused t.number t.line)
 
--- the number and the line of each case of the answer
-abbrev pub outcome_number : ReadOutcome → ℕ
-outcome_number Read = 0
+-- the number and the line of each refusal
+abbrev pub outcome_number : ReadRefusal → ℕ
 outcome_number TooLong = 1
 outcome_number (NotDue line) = 2
 outcome_number (NotOfItsForm line) = 3
@@ -48,8 +43,7 @@ outcome_number (SetTwiceOrNotRising line) = 6
 outcome_number (TooManyItems line) = 7
 outcome_number (BytesLeft line) = 8
 
-abbrev pub outcome_line : ReadOutcome → ℕ
-outcome_line Read = 0
+abbrev pub outcome_line : ReadRefusal → ℕ
 outcome_line TooLong = 0
 outcome_line (NotDue line) = line
 outcome_line (NotOfItsForm line) = line
@@ -59,10 +53,7 @@ outcome_line (SetTwiceOrNotRising line) = line
 outcome_line (TooManyItems line) = line
 outcome_line (BytesLeft line) = line
 
-abbrev pub read_told : ReadAnswer → ReadReport
-read_told a = record { number = outcome_number a.outcome; line = outcome_line a.outcome; model = a.model }
-
--- the case of a line's fault
-pub record Outcome (fault : LineFault) (line : ℕ) (o : ReadOutcome) : Type 0 where
-  pub number_is : outcome_number o ≡ line_told fault
-  pub line_is : outcome_line o ≡ cond (is_no_fault fault) 0 line
+-- what the answer to a text says
+abbrev pub read_told : Result Model ReadRefusal → ReadReport
+read_told (Ok m) = read_accepted m
+read_told (Err e) = read_refused (outcome_number e) (outcome_line e)

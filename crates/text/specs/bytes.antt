@@ -1,3 +1,4 @@
 pub mod Ascii
 pub mod Bytes
 pub mod Faulty
+pub mod Absorbing

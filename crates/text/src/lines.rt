@@ -1,55 +1,60 @@
 // A reading in progress, and what a due line makes of it.
-ghost use Rattle.std.specs.Prelude.{◌≡◌};
-ghost use Rattle.text.specs.lines.Readings.{told, settled, Follows};
+ghost use Rattle.std.specs.Prelude.{◌≡◌, List, ℕ};
+ghost use Rattle.model.specs.declared.Model.{Model};
+ghost use Rattle.text.specs.Text.{outcome_number, outcome_line};
+ghost use Rattle.text.specs.bytes.Faulty.{line_told};
+ghost use Rattle.text.specs.declared.bytes.Faults.{Faults};
+ghost use Rattle.text.specs.lines.Progress.{read_line};
+ghost use Rattle.text.specs.lines.Readings.{Placed, Reads, Stores};
 
-use crate::bytes::{Faults, LineFault};
-use crate::line::Due;
+use crate::bytes::LineFault;
+use crate::{ReadRefusal, line};
 use model::Model;
 
-// A reading in progress: no fault, the line that is due next and its place; or the fault of a line, its number and place.
-// The model is what the lines before it say.
-#[derive(Clone, Copy)]
+// A reading in progress: the line that is due next and its place. The model is what the lines before it say.
+#[derive(Clone, Copy, Debug, PartialEq, Eq)]
 pub struct Reading {
-    pub fault: LineFault,
     pub line: usize,
     pub at: usize,
     pub model: Model,
 }
 
-impl Reading {
-    fn refused(self, fault: LineFault) -> Reading
-        ensures { result ≡ record { fault = fault; line = self.line; at = self.at; model = self.model } }
+impl LineFault {
+    // The refusal of a text for its line `line`.
+    fn at(self, line: usize) -> ReadRefusal
+        ensures { (outcome_number result ≡ line_told self) × (outcome_line result ≡ line) }
     {
-        let model = self.model;
-        Reading {
-            fault,
-            line: self.line,
-            at: self.at,
-            model,
+        match self {
+            LineFault::NotDue => ReadRefusal::NotDue { line },
+            LineFault::NotOfItsForm => ReadRefusal::NotOfItsForm { line },
+            LineFault::TooManyItems => ReadRefusal::TooManyItems { line },
+            LineFault::OutOfRange => ReadRefusal::OutOfRange { line },
+            LineFault::NotDeclared => ReadRefusal::NotDeclared { line },
+            LineFault::SetTwiceOrNotRising => ReadRefusal::SetTwiceOrNotRising { line },
         }
     }
+}
 
-    // After the line `d` with the faults `f`, which gives the model `m`.
-    pub fn settled(self, d: Due, f: Faults, m: Model) -> Reading
-        requires { Follows self d }
-        ensures { told result ≡ settled (told self) d f m }
+impl Reading {
+    // After the due line with this key, if it is the due one. Its value puts something into the model, or has a fault.
+    pub fn line<F: FnOnce(&[u8], Model) -> Result<Model, LineFault>>(
+        self,
+        text: &[u8],
+        key: &[u8],
+        store: F,
+    ) -> Result<Reading, ReadRefusal>
+        requires placed { Placed text.now self }
+        requires callable { F.IsAlwaysCallable store }
+        ensures { (faults : Model → List ℕ → Faults) (put : Model → List ℕ → Model) → Stores F.FnOnce store faults put → Reads (read_line key.now faults put) text.now self result }
     {
-        let before = self.fault;
-        if !before.is_none() {
-            return self;
-        }
-        if !d.found {
-            return self.refused(LineFault::NotDue);
-        }
-        let first = f.first();
-        if !first.is_none() {
-            return self.refused(first);
-        }
-        Reading {
-            fault: LineFault::NoFault,
-            line: self.line + 1,
-            at: d.end + 1,
-            model: m,
+        let due = line::due_at(text, self.at, key).ok_or(LineFault::NotDue.at(self.line))?;
+        match store(due.value, self.model) {
+            Ok(model) => Ok(Reading {
+                line: self.line + 1,
+                at: due.end + 1,
+                model,
+            }),
+            Err(fault) => Err(fault.at(self.line)),
         }
     }
 }

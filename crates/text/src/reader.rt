@@ -1,74 +1,74 @@
 // A reader that holds the text and its place in it.
-ghost use Rattle.std.specs.Prelude.{◌≡◌, ◌+◌, ◌<◌, ◌^◌, drop};
-ghost use Rattle.text.specs.lines.Readings.{ReadsFrom};
+ghost use Rattle.std.specs.Prelude.{◌≡◌, ◌+◌, ◌≤◌, length, drop};
+ghost use Rattle.text.specs.Text.{read_report, read_told};
 ghost use Rattle.text.specs.Bound.{bound_report, bound_told};
 ghost use Rattle.text.specs.Item.{ItemFrom};
 
-use crate::lines::Reading;
-use crate::{BoundRead, bound_at, sequence};
+use crate::{BYTES, BoundLine, ItemRead, ReadRefusal, bytes, line, sequence};
+use model::Model;
 
-// A text and a place in it. The functions over it are thin; the work is done by functions on a slice and a place.
-#[derive(Clone, Copy)]
+// A text and a place in it.
+#[derive(Clone, Copy, Debug, PartialEq, Eq)]
 pub(crate) struct Reader<'a> {
     text: &'a [u8],
     at: usize,
 }
 
-// A bound line, and the reading of the model's lines that follow it. The reading says where it stopped.
-#[derive(Clone, Copy)]
-pub struct Item {
-    pub bound: BoundRead,
-    pub reading: Reading,
-}
-
 // At a place of the text.
-fn placed<'a>(text: &'a [u8], at: usize) -> Reader<'a>
+pub fn placed<'a>(text: &'a [u8], at: usize) -> Reader<'a>
     ensures { (result.text ≡ text.entry) × (result.at ≡ at) }
 {
     Reader { text, at }
 }
 
-// The same text, further on.
-fn moved<'a>(r: Reader<'a>, by: usize) -> Reader<'a>
-    requires { r.at + by < 2 ^ 64 }
-    ensures { (result.text ≡ r.entry.text) × (result.at ≡ r.entry.at + by) }
+// How many bytes the bound line takes: 0 where there is none.
+fn taken(bound: Option<BoundLine>) -> usize
+    ensures { result ≡ (bound_told bound).next }
 {
-    Reader {
-        text: r.text,
-        at: r.at + by,
+    match bound {
+        Some(line) => line.next,
+        None => 0,
     }
 }
 
-// The bound line at the reader's place.
-fn bound<'a>(r: Reader<'a>) -> BoundRead
-    ensures { bound_told result ≡ bound_report (drop r.entry.at r.entry.text.now) }
-{
-    bound_at(r.text, r.at)
-}
-
-// The lines of a model from the reader's place on. The result says where it stopped.
-fn lines<'a>(r: Reader<'a>) -> Reading
-    ensures { ReadsFrom r.entry.text.now r.entry.at result }
-{
-    sequence::read_at(r.text, r.at)
-}
-
-// One reader: the bound line at a place of the text, then the lines of a model after it.
-pub fn item_at(text: &[u8], at: usize) -> Item
-    ensures { ItemFrom text.now at result }
-{
-    let r = placed(text, at);
-    let first = bound(r);
-    let reading = lines(moved(r, first.next()));
-    Item {
-        bound: first,
-        reading,
+impl<'a> Reader<'a> {
+    // The bound line at the reader's place: 9.
+    pub fn bound(self) -> Option<BoundLine>
+        ensures { bound_told result ≡ bound_report (drop self.entry.at self.entry.text.now) }
+    {
+        let from = sequence::within(self.text, self.at);
+        let due = line::due_at(self.text, from, b"bound=")?;
+        let bound = bytes::number(due.value)?;
+        Some(BoundLine {
+            bound,
+            next: due.end + 1 - from,
+        })
     }
-}
 
-// The lines of a model from the start of the text.
-pub fn read_first(text: &[u8]) -> Reading
-    ensures { ReadsFrom text.now 0 result }
-{
-    lines(placed(text, 0))
+    // The model text from the reader's place on: 1, then its lines, then 8.
+    pub fn model(self) -> Result<Model, ReadRefusal>
+        requires { self.at ≤ length self.text.now }
+        ensures { read_told result ≡ read_report (drop self.entry.at self.entry.text.now) }
+    {
+        if BYTES < self.text.len() - self.at {
+            return Err(ReadRefusal::TooLong);
+        }
+        let r = sequence::read_at(self.text, self.at)?;
+        if r.at < self.text.len() {
+            return Err(ReadRefusal::BytesLeft { line: r.line });
+        }
+        Ok(r.model)
+    }
+
+    // A bound line, and the model text after it.
+    pub fn item(self) -> ItemRead
+        requires { self.at ≤ length self.text.now }
+        ensures { ItemFrom self.entry.text.now self.entry.at result }
+    {
+        let bound = self.bound();
+        ItemRead {
+            bound,
+            text: placed(self.text, self.at + taken(bound)).model(),
+        }
+    }
 }

@@ -1,23 +1,20 @@
 // The lines of a model text, in their order.
-ghost use Rattle.std.specs.Prelude.{◌≡◌, ◌≤◌, min, length};
+ghost use Rattle.std.specs.Prelude.{◌≡◌, min, length};
 ghost use Rattle.model.specs.Record.{blank_model};
 ghost use Rattle.text.specs.lines.Readings.{ReadsFrom};
 
-use crate::bytes::LineFault;
 use crate::lines::Reading;
-use crate::{edges, head};
+use crate::{ReadRefusal, edges, head};
 use model::Model;
 
 // Nothing is read yet.
 fn unread(at: usize) -> Reading
-    ensures { result ≡ record { fault = LineFault.NoFault; line = 1; at = at; model = blank_model } }
+    ensures { result ≡ record { line = 1; at = at; model = blank_model } }
 {
-    let model = Model::blank();
     Reading {
-        fault: LineFault::NoFault,
         line: 1,
         at,
-        model,
+        model: Model::blank(),
     }
 }
 
@@ -25,14 +22,13 @@ fn unread(at: usize) -> Reading
 pub fn within(text: &[u8], at: usize) -> usize
     ensures { result ≡ min at (length text.now) }
 {
-    let n = text.len();
-    if at <= n { at } else { n }
+    at.min(text.len())
 }
 
 // The lines of a model from a place of the text on. The result says where it stopped.
-pub fn read_at(text: &[u8], at: usize) -> Reading
+pub fn read_at(text: &[u8], at: usize) -> Result<Reading, ReadRefusal>
     ensures { ReadsFrom text.now at result }
 {
-    let a = head::read_declarations(text, unread(within(text, at)));
+    let a = head::read_declarations(text, unread(within(text, at)))?;
     edges::read_edges(text, a)
 }

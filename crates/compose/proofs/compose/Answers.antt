@@ -1,36 +1,21 @@
--- `compose`: refusals 20, for either record, and 38, in the report's order, then the composed model.
-use Rattle.std.proofs.Common.{arith, rules, tests, T}
+-- `compose`: what `Pair::new` refuses, else what the pair tells.
+use Rattle.std.proofs.Common.{arith, ap, ◌∙◌}
 use Rattle.std.proofs.lemmas.Grind.{common_steps}
-use Rattle.model.specs.Form.{well_formed}
-use Rattle.model.proofs.FormLaws.{formed}
-use Rattle.compose.specs.ComposeCall.{compose_report}
-use Rattle.compose.proofs.ComposedLaws.{count_in}
+use Rattle.model.specs.Record.{blank_model}
+use Rattle.compose.specs.Composed.{composed}
+use Rattle.compose.specs.ComposeCall.{compose_reported, compose_report}
+use Rattle.compose.proofs.Answers.{refused, taken}
 use Rattle.compose.proofs.compose.Goals as goal
 
-pub returns-then-not-well_formed : goal.returns-then-not-well_formed
+pub returns-in_err-new : goal.returns-in_err-new
 unfolding compose_report
-returns-then-not-well_formed c = grind (arith, common_steps)
-
-pub moves_of-list-requires : goal.moves_of-list-requires
-moves_of-list-requires c =
-    let p : T (well_formed c.args.a) = search (rules, tests) in
-    let q : T (well_formed c.args.b) = search (rules, tests) in
-    let v = formed c.args.a p in
-    let w = formed c.args.b q in
-    (v.used_le, w.used_le, v.locations_le, w.locations_le)
-
-pub fits-requires : goal.fits-requires
-fits-requires c =
-    let p : T (well_formed c.args.a) = search (rules, tests) in
-    let q : T (well_formed c.args.b) = search (rules, tests) in
-    let v = formed c.args.a p in
-    let w = formed c.args.b q in
-    (v.used_le, w.used_le, v.locations_le, w.locations_le, count_in c.args.a c.args.b c.moves_of-list.ensures)
-
-pub returns-then-not-fits : goal.returns-then-not-fits
-unfolding compose_report
-returns-then-not-fits c = grind (arith, common_steps)
+returns-in_err-new c =
+    let told = refused c.args.a c.args.b (λ n. compose_reported n blank_model) (compose_reported 0 (composed c.args.a c.args.b)) c.in_err-new.field-0.0 c.in_err-new.ensures.err in
+    grind (arith, common_steps, told)
 
 pub returns : goal.returns
 unfolding compose_report
-returns c = grind (arith, common_steps)
+returns c =
+    let p = c.in_ok-new.field-0 in
+    let same = c.in_ok-new.ensures.ok in
+    ap (compose_reported 0) c.composed.ensures ∙ taken p.a.model p.b.model (λ n. compose_reported n blank_model) _ p.a.formed p.b.formed p.held ∙ (λ i. compose_report (same.0 i) (same.1 i))

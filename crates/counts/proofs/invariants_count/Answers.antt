@@ -5,7 +5,7 @@ use Rattle.list.specs.Clauses.{one_hot_width, clauses_of}
 use Rattle.model.proofs.FormLaws.{formed}
 use Rattle.parts.proofs.LayoutLaws.{known_of_layout}
 use Rattle.counts.specs.Counted.{Counted}
-use Rattle.counts.proofs.CountLaws.{clauses_le, words_le}
+use Rattle.counts.proofs.CountLaws.{small_piece}
 use Rattle.counts.proofs.CountedList.{invariants_counted}
 use Rattle.counts.proofs.PieceBounds.{invariant_most}
 use Rattle.counts.proofs.invariants_count.Goals as goal
@@ -18,7 +18,7 @@ sum-requires-clause-small c i r p q =
     let l = c.args.l.now in
     let n : (o : ℕ) → Counted (clauses_of (invariant_of one_hot_width l.model o i)) r.clauses r.words = search (rules, tests) in
     let m = invariant_most l.model l.formed 0 i p in
-    (omega (arith, clauses_le (n 0) m), omega (arith, words_le (n 0) m))
+    small_piece (n 0) m (omega arith) (omega arith)
 
 pub returns : goal.returns
 returns c o = invariants_counted (known_of_layout c.args.l.now) o (c.sum.ensures _ (λ i r l e. search (rules, tests)))

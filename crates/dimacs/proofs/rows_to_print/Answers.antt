@@ -1,19 +1,11 @@
 -- rows_to_print: none without a file, else the first line and the rows of the list.
-use native.Mathlib.Omega.{arith}
-use mathlib.Core.Path.{sym, ◌∙◌}
+use Rattle.std.proofs.Common.{arith, sym, ◌∙◌}
 use Rattle.dimacs.proofs.PrintLaws.{file_small, rows_none, rows_are}
 use Rattle.dimacs.proofs.rows_to_print.Goals as goal
 
 pub returns-then-not-has_file : goal.returns-then-not-has_file
 returns-then-not-has_file c =
-    let a = c.args in
-    (sym (rows_none a.m a.bound (sym c.has_file.ensures ∙ c.if-not-has_file.true)), omega arith)
-
-pub overflow_add-result : goal.overflow_add-result
-overflow_add-result c =
-    let a = c.args in
-    let has = sym c.has_file.ensures ∙ c.if-not-has_file.false in
-    omega (arith, file_small a.m a.bound has)
+    (sym (rows_none c.args.m c.args.bound (sym c.has_file.ensures ∙ c.if-not-has_file.true)), omega arith)
 
 pub returns : goal.returns
 returns c =

@@ -1,9 +1,6 @@
--- emit: emit_within with the whole buffer as the limit.
+-- emit_within with the whole buffer as the limit.
+use Rattle.std.proofs.Common.{ℕ, arith, ap, ◌∙◌, ◌≡◌, min, length}
 use Rattle.emission.specs.EmitCall.{emit_report, emit_left}
-use lib.ListN.{length}
-use native.Mathlib.Omega.{arith}
-use Prim.Native.Nat.{ℕ, min}
-use mathlib.Core.Path.{◌≡◌, ap, ◌∙◌}
 use Rattle.emission.proofs.emit.Goals as goal
 
 pub returns : goal.returns

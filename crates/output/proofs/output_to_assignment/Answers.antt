@@ -1,12 +1,10 @@
 -- `output_to_assignment`: the answer is that of the reading; the assignment is written if and only if it says satisfiable.
 use mathlib.Core.Path.{◌≡◌, sym, ap, ◌∙◌}
-use Prim.Native.Nat.{ℕ}
-use mathlib.Core.List.{List}
 use lib.ListN.{length}
 use borrow.Author.Rules.{rules}
 use borrow.Author.Tests.{tests}
 use Rattle.std.specs.Prelude.{Err, Ok}
-use Rattle.output.specs.OutputCall.{OutputReport, output_told, output_report}
+use Rattle.output.specs.OutputCall.{OutputReport, output_told}
 use Rattle.output.specs.declared.Outcome.{Outcome}
 use Rattle.output.specs.declared.Outcome.TheVariants as outcome
 use Rattle.output.proofs.CallLaws.{report_is, left_written, left_kept, refused_other, unsatisfiable_other}

@@ -26,16 +26,18 @@ looked most n text first e h =
 pub returns-then-fresh-first : goal.returns-then-fresh-first
 returns-then-fresh-first c =
     let args = c.args in
+    let most = args.variables.most in
     let first = c.read_through-first.ensures in
-    let ts = tokens_of (literal_up_to args.most) args.text.now in
-    let same = ap counted_from (sym (judged_cut args.most args.text.now)) in
-    (stands args.most ts first.0 (looked args.most _ args.text.now _ first.0 c.fresh-fresh.ensures) c.if-fresh-first.true ∙ same, first.1)
+    let ts = tokens_of (literal_up_to most) args.text.now in
+    let same = ap counted_from (sym (judged_cut most args.text.now)) in
+    (stands most ts first.0 (looked most _ args.text.now _ first.0 c.fresh-fresh.ensures) c.if-fresh-first.true ∙ same, first.1)
 
 pub returns-else-fresh-first : goal.returns-else-fresh-first
 returns-else-fresh-first c =
     let args = c.args in
+    let most = args.variables.most in
     let first = c.read_through-first.ensures in
     let second = c.read_through.ensures in
-    let ts = tokens_of (literal_up_to args.most) args.text.now in
-    let same = ap counted_from (sym (judged_cut args.most args.text.now)) in
-    (again args.most ts first.0 (looked args.most _ args.text.now _ first.0 c.fresh-fresh.ensures) c.if-fresh-first.false second.0 ∙ same, second.1)
+    let ts = tokens_of (literal_up_to most) args.text.now in
+    let same = ap counted_from (sym (judged_cut most args.text.now)) in
+    (again most ts first.0 (looked most _ args.text.now _ first.0 c.fresh-fresh.ensures) c.if-fresh-first.false second.0 ∙ same, second.1)

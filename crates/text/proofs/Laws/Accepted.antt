@@ -7,9 +7,9 @@ use native.Mathlib.Omega.{arith}
 use lib.Dec.{T, ltb, leb, eqb, le→leb}
 use lib.ListN.{length}
 use borrow.Author.Tests.{eqb-true, eqb-false}
+use Rattle.std.specs.Prelude.{Option}
 use Rattle.text.specs.bytes.Bytes.{number_of, number_in}
 use Rattle.text.specs.bytes.Faulty.{fault_number}
-use Rattle.text.specs.declared.bytes.NumberRead.{NumberRead}
 use Rattle.model.specs.declared.Model.{Model}
 use Rattle.model.specs.Indexed.{all_below, sum_below}
 use Rattle.model.specs.Record.{blank_model}
@@ -56,7 +56,7 @@ head_keeps t =
 abbrev CountersRead : ℕ → ℕ → Model → Type 0
 CountersRead vars i m = Partial i 0 0 m × (m.vars ≡ vars)
 
-counter_formed_lem : (g i : NumberRead) → fault_number (counter_faults g i) ≡ 0 → T (counter_formed (counter_in g i))
+counter_formed_lem : (g i : Option ℕ) → fault_number (counter_faults g i) ≡ 0 → T (counter_formed (counter_in g i))
 counter_formed_lem g i h =
     let c = counter_inside g i h in
     (and_T (leb (number_in g) 31) (leb (number_in i) (number_in g))).1 (le→leb (number_in g) 31 c.0, le→leb (number_in i) (number_in g) c.1)

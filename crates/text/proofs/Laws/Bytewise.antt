@@ -9,8 +9,8 @@ use lib.ListN.{length, get_or, take, drop, drop_of_length-le, length-drop}
 use lib.Seq.{drop-cons, take_all}
 use lib.Dec.{eqb}
 use borrow.Author.Tests.{eq-eqb, ne_eqb}
-use Rattle.text.specs.declared.bytes.NumberRead.TheVariants.{Malformed}
-use Rattle.text.specs.bytes.Bytes.{first_at, digits_of, is_digit, number_of, starts_with, is_hyphen}
+use Rattle.std.specs.Prelude.{None}
+use Rattle.text.specs.bytes.Bytes.{first_at, number_of, starts_with, is_hyphen}
 
 -- ---- the first b
 pub first_at_here : (b : ℕ) (s : List ℕ) (i : ℕ) → i < length s → get_or s i 0 ≡ b → first_at b (drop i s) ≡ 0
@@ -34,40 +34,14 @@ first_at_le b (x ∷ l) = go (eqb x b) (first_at_le b l)
     go true h = omega arith
     go false h = omega arith
 
--- ---- numbers: a list of one, two or three elements is made of what stands at its places
-pub list1 : (s : List ℕ) → length s ≡ 1 → (get_or s 0 0 ∷ []) ≡ s
-list1 [] h = absurd (omega arith)
-list1 (a ∷ []) h = refl
-list1 (a ∷ b ∷ s) h = absurd (omega arith)
-
-pub list2 : (s : List ℕ) → length s ≡ 2 → (get_or s 0 0 ∷ get_or s 1 0 ∷ []) ≡ s
-list2 [] h = absurd (omega arith)
-list2 (a ∷ s) h = rw (list1 s (omega arith))
-
-pub list3 : (s : List ℕ) → length s ≡ 3 → (get_or s 0 0 ∷ get_or s 1 0 ∷ get_or s 2 0 ∷ []) ≡ s
-list3 [] h = absurd (omega arith)
-list3 (a ∷ s) h = rw (list2 s (omega arith))
-
-pub number_of_none : (s : List ℕ) → (length s ≡ 1 → ⊥) → (length s ≡ 2 → ⊥) → (length s ≡ 3 → ⊥) → Malformed ≡ number_of s
+-- ---- numbers have one, two or three bytes
+pub number_of_none : (s : List ℕ) → (length s ≡ 1 → ⊥) → (length s ≡ 2 → ⊥) → (length s ≡ 3 → ⊥) → None ≡ number_of s
 unfolding number_of
 number_of_none [] p q r = refl
 number_of_none (a ∷ []) p q r = absurd (p refl)
 number_of_none (a ∷ b ∷ []) p q r = absurd (q refl)
 number_of_none (a ∷ b ∷ c ∷ []) p q r = absurd (r refl)
 number_of_none (a ∷ b ∷ c ∷ d ∷ s) p q r = refl
-
--- ---- leading digits
-pub digits_of_next : (s : List ℕ) (i : ℕ) → i < length s → is_digit (get_or s i 0) ≡ true → digits_of (drop i s) ≡ digits_of (drop (i + 1) s) + 1
-unfolding digits_of
-digits_of_next s i h e = rw (add-one i, drop-cons s i 0 h, e)
-
-pub digits_of_here : (s : List ℕ) (i : ℕ) → i < length s → is_digit (get_or s i 0) ≡ false → digits_of (drop i s) ≡ 0
-unfolding digits_of
-digits_of_here s i h e = rw (drop-cons s i 0 h, e)
-
-pub digits_of_end : (s : List ℕ) (i : ℕ) → length s ≤ i → digits_of (drop i s) ≡ 0
-unfolding digits_of
-digits_of_end s i h = rw (drop_of_length-le s h)
 
 -- ---- keys
 pub starts_with_next : (k s : List ℕ) (i : ℕ) → i < length k → i < length s → get_or s i 0 ≡ get_or k i 0

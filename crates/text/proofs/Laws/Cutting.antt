@@ -8,10 +8,9 @@ use lib.Dec.{eqb, ltb}
 use lib.ListN.{length, take, drop, length-take, length-drop}
 use lib.Seq.{take_all}
 use borrow.Author.Tests.{lt-ltb, ltb-true, ltb-false}
+use Rattle.std.specs.Prelude.{Option, Some, None}
 use Rattle.text.specs.bytes.Ascii.{ascii}
 use Rattle.text.specs.bytes.Bytes.{first_at, starts_with, is_due, value_of, number_of}
-use Rattle.text.specs.declared.bytes.NumberRead.{NumberRead}
-use Rattle.text.specs.declared.bytes.NumberRead.TheVariants.{Malformed, Number}
 use Rattle.text.specs.Bound.{BoundReport, bound_refused, bound_in, bound_report, if_bound}
 use Rattle.text.specs.Text.{ReadReport, read_report, read_refused}
 use Rattle.text.specs.Item.{if_item}
@@ -54,7 +53,7 @@ unfolding bound_report is_due value_of
 report_is t = refl
 
 -- a line of more than 9 bytes is no bound line
-malformed : (line : List ℕ) → 9 < length line → number_of (drop (length (ascii "bound=")) line) ≡ Malformed
+malformed : (line : List ℕ) → 9 < length line → number_of (drop (length (ascii "bound=")) line) ≡ None
 malformed line h =
     let k : length (drop 6 line) ≡ length line - 6 = length-drop 6 line in
     sym (number_of_none (drop 6 line) (λ e. omega (arith, h, k, e)) (λ e. omega (arith, h, k, e)) (λ e. omega (arith, h, k, e)))
@@ -64,15 +63,15 @@ long_refused d line next h = go (d && starts_with (ascii "bound=") line)
   where
     go : (x : Bool) → cond x (bound_in (number_of (drop (length (ascii "bound=")) line)) next) bound_refused ≡ bound_refused
     go false = refl
-    go true = ap (λ (n : NumberRead). bound_in n next) (malformed line h)
+    go true = ap (λ (n : Option ℕ). bound_in n next) (malformed line h)
 
 next_most : (d : Bool) (line : List ℕ) (next : ℕ) → (bound_of d line next).next ≤ next
 next_most d line next = go (d && starts_with (ascii "bound=") line) (number_of (drop (length (ascii "bound=")) line))
   where
-    go : (x : Bool) (n : NumberRead) → (cond x (bound_in n next) bound_refused).next ≤ next
+    go : (x : Bool) (n : Option ℕ) → (cond x (bound_in n next) bound_refused).next ≤ next
     go false n = omega arith
-    go true Malformed = omega arith
-    go true (Number n) = omega arith
+    go true None = omega arith
+    go true (Some n) = omega arith
 
 -- ---- a text of more than 8,192 bytes is refused with 1
 long_text : (t : List ℕ) → 8192 < length t → read_report t ≡ read_refused 1 0

@@ -3,6 +3,7 @@ use Prim.Native.Nat.{ℕ, zero, suc, ◌+◌, ◌≤◌, ◌<◌}
 use mathlib.Core.Path.{◌≡◌, refl, sym, ap, ◌∙◌}
 use mathlib.Core.List.{List, [], ◌∷◌, map, foldl}
 use mathlib.Core.Bool.{true}
+use Rattle.std.specs.Prelude.{None}
 use Rattle.std.specs.Prelude.{option_map, Option, Some}
 use native.Mathlib.Omega.{arith}
 use lib.Dec.{eqb}
@@ -19,14 +20,13 @@ use Rattle.model.proofs.IndexedLaws.{length_list, get_d_list}
 use Rattle.model.proofs.OrderLaws.{listed_le, written, then_update, updated_fold}
 use Rattle.text.specs.bytes.Faulty.{fault_number}
 use Rattle.text.specs.declared.updates.SetRead.{SetRead}
-use Rattle.text.specs.declared.updates.SetRead.TheVariants.{Malformed}
 use Rattle.text.specs.updates.Sets.{counter_of, times_set, set_faults, update_in, placed, update_slots, order_slots}
 use Rattle.text.specs.updates.Written.{after_item, next_item, after_items}
 use Rattle.text.proofs.updates.OrderFormed.{counter_at, SetLine, set_line, slot_is, listed_items}
 
 -- ---- the update that an item gives its counter
 -- items that do not set a counter leave its slot
-slot_left : (l : List SetRead) (slots : List Update) (i : ℕ) → times_set i l ≡ 0
+slot_left : (l : List (Option SetRead)) (slots : List Update) (i : ℕ) → times_set i l ≡ 0
     → get_or (foldl placed slots l) i blank_update ≡ get_or slots i blank_update
 unfolding times_set
 slot_left [] slots i h = refl
@@ -37,8 +37,8 @@ slot_left (a ∷ l) slots i h =
     clash e = let one : times_set i (a ∷ l) ≡ 1 + times_set i l = rw e in omega (arith, h, one)
 
 -- a counter that is set once has the update of its item
-slot_of : (l : List SetRead) (slots : List Update) (k : ℕ) → length slots ≡ 4 → k < length l → counter_at l k < 4 → times_set (counter_at l k) l ≤ 1
-    → (get_or (foldl placed slots l) (counter_at l k) blank_update) ≡ update_in (get_or l k Malformed)
+slot_of : (l : List (Option SetRead)) (slots : List Update) (k : ℕ) → length slots ≡ 4 → k < length l → counter_at l k < 4 → times_set (counter_at l k) l ≤ 1
+    → (get_or (foldl placed slots l) (counter_at l k) blank_update) ≡ update_in (get_or l k None)
 unfolding times_set
 slot_of [] slots k four p below once = absurd (omega (arith, p))
 slot_of (a ∷ l) slots zero four p below once =
@@ -50,19 +50,19 @@ slot_of (a ∷ l) slots zero four p below once =
 slot_of (a ∷ l) slots (suc k) four p below once =
     slot_of l (placed slots a) k (length-set slots (counter_of a) _ ∙ four) (omega (arith, p)) below (omega (arith, once))
 
-counter_of_lem : (l : List SetRead) (k : ℕ) → k < length l → counter_at l k ≡ counter_of (get_or l k Malformed)
+counter_of_lem : (l : List (Option SetRead)) (k : ℕ) → k < length l → counter_at l k ≡ counter_of (get_or l k None)
 counter_of_lem [] k p = absurd (omega (arith, p))
 counter_of_lem (a ∷ l) zero p = refl
 counter_of_lem (a ∷ l) (suc k) p = counter_of_lem l k (omega (arith, p))
 
 -- ---- the fold
-fold_same : {B : Type 0} (F : B → ℕ → B) (G : B → SetRead → B) (l : List SetRead) (y : B)
-    → ((k : ℕ) → k < length l → (z : B) → F z (counter_at l k) ≡ G z (get_or l k Malformed)) → foldl F y (map counter_of l) ≡ foldl G y l
+fold_same : {B : Type 0} (F : B → ℕ → B) (G : B → Option SetRead → B) (l : List (Option SetRead)) (y : B)
+    → ((k : ℕ) → k < length l → (z : B) → F z (counter_at l k) ≡ G z (get_or l k None)) → foldl F y (map counter_of l) ≡ foldl G y l
 fold_same F G [] y h = refl
 fold_same F G (a ∷ l) y h =
     ap (λ (z : _). foldl F z (map counter_of l)) (h 0 (omega arith) y) ∙ fold_same F G l (G y a) (λ k p z. h (suc k) (omega (arith, p)) z)
 
-module _ (vars : ℕ) (items : List SetRead) (few : vars ≤ 4) (clean : fault_number (set_faults vars items) ≡ 0) (x : Edge)
+module _ (vars : ℕ) (items : List (Option SetRead)) (few : vars ≤ 4) (clean : fault_number (set_faults vars items) ≡ 0) (x : Edge)
     (updates : x.updates ≡ update_slots items) (order : x.order ≡ order_slots items) where
   line : SetLine items
   line = set_line vars items few clean
@@ -76,7 +76,7 @@ module _ (vars : ℕ) (items : List SetRead) (few : vars ≤ 4) (clean : fault_n
       get_d_list 0 (counter_in x.order) (listed x) k l ∙ slot_is items line x updates order k (omega (arith, l, listed_le x)))
 
   -- each counter has the update of its item
-  pub update_is : (k : ℕ) → k < length items → update_at x (counter_at items k) ≡ update_in (get_or items k Malformed)
+  pub update_is : (k : ℕ) → k < length items → update_at x (counter_at items k) ≡ update_in (get_or items k None)
   unfolding update_slots
   update_is k p =
       ap (λ (slots : List Update). (get_or slots (counter_at items k) blank_update)) updates
@@ -89,11 +89,11 @@ module _ (vars : ℕ) (items : List SetRead) (few : vars ≤ 4) (clean : fault_n
       ∙ fold_same (then_update counters x) (next_item counters) items (Some vs) one
     where
       one : (k : ℕ) → k < length items → (now : Option (List ℕ))
-          → then_update counters x now (counter_at items k) ≡ next_item counters now (get_or items k Malformed)
+          → then_update counters x now (counter_at items k) ≡ next_item counters now (get_or items k None)
       one k p now = λ i. and_then now (λ vs. same vs i)
         where
-          a : SetRead
-          a = get_or items k Malformed
+          a : Option SetRead
+          a = get_or items k None
 
           after : List ℕ → ℕ → Update → Option (List ℕ)
           after vs i u = option_map (set vs i) (new_counter (λ w. get_or vs w 0) (get_or counters i blank_counter).greatest (get_or vs i 0) u)

@@ -4,12 +4,10 @@ use mathlib.Core.Path.{◌≡◌, refl, sym, ap, ◌∙◌}
 use mathlib.Core.List.{List, [], ◌∷◌, map, foldl}
 use mathlib.Core.Bool.{Bool, true, false, not, cond, ◌&&◌, ◌||◌, or_assoc, or-false, false≢true}
 use native.Mathlib.Omega.{arith}
-use lib.Dec.{ltb, leb, eqb}
-use borrow.Author.Tests.{lt-ltb, le-ltb, leb-true, leb-false, eqb-true}
+use lib.Dec.{ltb, leb}
+use borrow.Author.Tests.{lt-ltb, le-ltb, leb-true, leb-false}
 use Rattle.text.specs.declared.bytes.Faults.{Faults}
-use Rattle.text.specs.declared.bytes.LineFault.{LineFault}
-use Rattle.text.specs.declared.bytes.LineFault.TheVariants.{NoFault, NotDue, NotOfItsForm, TooManyItems, OutOfRange, NotDeclared, SetTwiceOrNotRising}
-use Rattle.text.specs.bytes.Faulty.{fault_number, line_told, is_no_fault, any_of, rises_from}
+use Rattle.text.specs.bytes.Faulty.{fault_number, any_of, rises_from}
 
 module _ {S A : Type 0} (step : S → A → S) where
   -- a flag that each item can only raise
@@ -91,25 +89,3 @@ passed f h =
     go false false false true e h = absurd (omega arith)
     go false false false false true h = absurd (omega arith)
     go false false false false false h = (refl, refl, refl, refl, refl)
-
--- what a value without faults shows, and else z
-pub if_faultless : {X : Type 0} (f : Faults) {x y : X} (z : X) → (fault_number f ≡ 0 → x ≡ y)
-    → cond (eqb (fault_number f) 0) x z ≡ cond (eqb (fault_number f) 0) y z
-if_faultless {X} f {x} {y} z h = go (eqb (fault_number f) 0) refl
-  where
-    go : (b : Bool) → eqb (fault_number f) 0 ≡ b → cond b x z ≡ cond b y z
-    go true e = h (eqb-true (fault_number f) 0 e)
-    go false e = refl
-
-pub no_fault_number : (k : LineFault) → eqb (line_told k) 0 ≡ is_no_fault k
-no_fault_number NoFault = refl
-no_fault_number NotDue = refl
-no_fault_number NotOfItsForm = refl
-no_fault_number TooManyItems = refl
-no_fault_number OutOfRange = refl
-no_fault_number NotDeclared = refl
-no_fault_number SetTwiceOrNotRising = refl
-
--- what the test for a fault tells of a value
-pub fault_test : (f : Faults) (k : LineFault) {b : Bool} → line_told k ≡ fault_number f → b ≡ is_no_fault k → eqb (fault_number f) 0 ≡ b
-fault_test f k p q = ap (λ (n : ℕ). eqb n 0) (sym p) ∙ no_fault_number k ∙ sym q

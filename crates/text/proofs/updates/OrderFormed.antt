@@ -8,6 +8,7 @@ use native.Mathlib.Omega.{arith}
 use lib.Dec.{T, ltb, leb, eqb, leb→le}
 use lib.ListN.{length, get_or, replicate, length-set, length-map, get_or-eq_default}
 use borrow.Author.Tests.{lt-ltb, le-ltb, ltb-true, ltb-false, eq-eqb, ne_eqb, not-false}
+use Rattle.std.specs.Prelude.{Option, Some, None}
 use Rattle.model.specs.declared.Edge.{Edge}
 use Rattle.model.specs.declared.Update.{Update}
 use Rattle.model.specs.Indexed.{all_below, sum_below}
@@ -17,7 +18,7 @@ use Rattle.model.specs.Form.{order_slot_formed, order_formed}
 use Rattle.model.proofs.IndexedLaws.{eq_T, T_true, lt_or_le, all_below_lem, sum_same, sum_add, sum_one, sum_const, get_d_list, first_is}
 use Rattle.text.specs.bytes.Faulty.{fault_number, any_of}
 use Rattle.text.specs.declared.updates.SetRead.{SetRead}
-use Rattle.text.specs.declared.updates.SetRead.TheVariants.{Malformed, ToConstant, ToSum}
+use Rattle.text.specs.declared.updates.SetRead.TheVariants.{ToConstant, ToSum}
 use Rattle.text.specs.updates.Sets.{is_malformed, counter_of, times_set, set_twice, set_faults, update_in, placed}
 use Rattle.text.specs.updates.Sets.{update_slots, order_slots}
 use Rattle.text.specs.updates.OnePass.{is_set}
@@ -26,19 +27,19 @@ use Rattle.text.proofs.updates.TimesSet.{set_more, blank_set}
 use Rattle.text.proofs.updates.UpdatesFormed.{unfit, none_unfit, item_formed}
 
 -- the counter that item k sets
-abbrev pub counter_at : List SetRead → ℕ → ℕ
+abbrev pub counter_at : List (Option SetRead) → ℕ → ℕ
 counter_at l k = get_or (map counter_of l) k 0
 
 -- ---- how often each counter is set
 -- an item sets its counter once
-set_at : (l : List SetRead) (k : ℕ) → k < length l → 1 ≤ times_set (counter_at l k) l
+set_at : (l : List (Option SetRead)) (k : ℕ) → k < length l → 1 ≤ times_set (counter_at l k) l
 unfolding times_set
 set_at [] k p = absurd (omega (arith, p))
 set_at (a ∷ l) zero p = rw (eq-eqb (counter_of a) (counter_of a) refl) (omega arith)
 set_at (a ∷ l) (suc k) p = omega (arith, set_at l k (omega (arith, p)))
 
 -- two items that set the same counter set it twice
-set_twice_at : (l : List SetRead) (j k : ℕ) → j < k → k < length l → counter_at l j ≡ counter_at l k → 2 ≤ times_set (counter_at l k) l
+set_twice_at : (l : List (Option SetRead)) (j k : ℕ) → j < k → k < length l → counter_at l j ≡ counter_at l k → 2 ≤ times_set (counter_at l k) l
 unfolding times_set
 set_twice_at [] j k q p e = absurd (omega (arith, p))
 set_twice_at (a ∷ l) j zero q p e = absurd (omega (arith, q))
@@ -46,7 +47,7 @@ set_twice_at (a ∷ l) zero (suc k) q p e = rw (eq-eqb (counter_at l k) (counter
 set_twice_at (a ∷ l) (suc j) (suc k) q p e = omega (arith, set_twice_at l j k (omega (arith, q)) (omega (arith, p)) e)
 
 -- all counters together are set as often as there are items
-set_in_all : (l : List SetRead) → ((k : ℕ) → k < length l → counter_at l k < 4) → sum_below (λ i. times_set i l) 4 ≡ length l
+set_in_all : (l : List (Option SetRead)) → ((k : ℕ) → k < length l → counter_at l k < 4) → sum_below (λ i. times_set i l) 4 ≡ length l
 unfolding times_set
 set_in_all [] h = sum_const 4 0
 set_in_all (a ∷ l) h =
@@ -56,16 +57,16 @@ set_in_all (a ∷ l) h =
     omega (arith, sum_add (λ i. cond (eqb i (counter_of a)) 1 0) (λ i. times_set i l) 4, one, others)
 
 -- ---- what the slots show of it
-put_keeps : (a : SetRead) → is_keep (update_in a) ≡ is_malformed a
-put_keeps Malformed = refl
-put_keeps (ToConstant v c) = refl
-put_keeps (ToSum v w negative n) = refl
+put_keeps : (a : Option SetRead) → is_keep (update_in a) ≡ is_malformed a
+put_keeps None = refl
+put_keeps (Some (ToConstant v c)) = refl
+put_keeps (Some (ToSum v w negative n)) = refl
 
 set_or_more : (b c : Bool) (n : ℕ) → ((b || c) || ltb 0 n) ≡ (c || ltb 0 (cond b 1 0 + n))
 set_or_more true c n = rw (lt-ltb 0 (1 + n) (omega arith)) (sym (or-true c))
 set_or_more false c n = let e : 0 + n ≡ n = omega arith in ap (λ (m : ℕ). c || ltb 0 m) (sym e)
 
-slots_set : (l : List SetRead) (slots : List Update) → length slots ≡ 4 → (i : ℕ) → i < 4
+slots_set : (l : List (Option SetRead)) (slots : List Update) → length slots ≡ 4 → (i : ℕ) → i < 4
     → is_set (foldl placed slots l) i ≡ (is_set slots i || ltb 0 (times_set i l))
 unfolding times_set
 slots_set [] slots long i p = sym (or-false (is_set slots i))
@@ -74,25 +75,25 @@ slots_set (a ∷ l) slots long i p =
     ∙ rw (set_more slots a (update_in a) long (put_keeps a) i p) (set_or_more (eqb i (counter_of a)) (is_set slots i) (times_set i l))
 
 -- an update is not keep exactly where its counter is set
-kept_or_set : (items : List SetRead) (i : ℕ) → i < 4 → not (is_keep (get_or (update_slots items) i blank_update)) ≡ ltb 0 (times_set i items)
+kept_or_set : (items : List (Option SetRead)) (i : ℕ) → i < 4 → not (is_keep (get_or (update_slots items) i blank_update)) ≡ ltb 0 (times_set i items)
 unfolding update_slots
 kept_or_set items i p =
     let blank = replicate 4 blank_update in
     let e : is_set (foldl placed blank items) i ≡ ltb 0 (times_set i items) = slots_set items blank refl i p ∙ rw (blank_set i p) in
     rw (lt-ltb i 4 p) at e
 
-counters_below : (vars : ℕ) (l : List SetRead) → any_of (unfit vars) l ≡ false → (k : ℕ) → k < length l → counter_at l k < vars
+counters_below : (vars : ℕ) (l : List (Option SetRead)) → any_of (unfit vars) l ≡ false → (k : ℕ) → k < length l → counter_at l k < vars
 counters_below vars [] u k p = absurd (omega (arith, p))
 counters_below vars (a ∷ l) u zero p = (item_formed vars a (any_head (unfit vars) a l u)).0
 counters_below vars (a ∷ l) u (suc k) p = counters_below vars l (any_tail (unfit vars) a l u) k (omega (arith, p))
 
 -- ---- the order
 -- every item sets one of v0 to v3, and none is set twice
-pub record SetLine (items : List SetRead) : Type 0 where
+pub record SetLine (items : List (Option SetRead)) : Type 0 where
   pub below : (k : ℕ) → k < length items → counter_at items k < 4
   pub once : (i : ℕ) → i < 4 → times_set i items ≤ 1
 
-pub set_line : (vars : ℕ) (items : List SetRead) → vars ≤ 4 → fault_number (set_faults vars items) ≡ 0 → SetLine items
+pub set_line : (vars : ℕ) (items : List (Option SetRead)) → vars ≤ 4 → fault_number (set_faults vars items) ≡ 0 → SetLine items
 unfolding set_faults set_twice
 set_line vars items few h =
     let g = passed (set_faults vars items) h in
@@ -103,7 +104,7 @@ set_line vars items few h =
       once = λ i p. leb→le (times_set i items) 1 (each i p);
     }
 
-module _ (items : List SetRead) (line : SetLine items) (x : Edge) (updates : x.updates ≡ update_slots items) (order : x.order ≡ order_slots items) where
+module _ (items : List (Option SetRead)) (line : SetLine items) (x : Edge) (updates : x.updates ≡ update_slots items) (order : x.order ≡ order_slots items) where
   pub slot_is : (k : ℕ) → k < 4 → counter_in x.order k ≡ counter_at items k
   unfolding order_slots
   slot_is k p = ap (λ (l : List ℕ). get_or l k 0) order ∙ get_d_list 0 (counter_at items) 4 k p
@@ -149,7 +150,7 @@ module _ (items : List SetRead) (line : SetLine items) (x : Edge) (updates : x.u
           let zero : c ≡ 0 = get_or-eq_default (map counter_of items) 0 (omega (arith, h, length-map items counter_of)) in
           rw (le-ltb k (length items) h) ((eq_T c 0).1 zero)
 
-pub order_formed_lem : (vars : ℕ) (items : List SetRead) → vars ≤ 4 → fault_number (set_faults vars items) ≡ 0
+pub order_formed_lem : (vars : ℕ) (items : List (Option SetRead)) → vars ≤ 4 → fault_number (set_faults vars items) ≡ 0
     → (x : Edge) → x.updates ≡ update_slots items → x.order ≡ order_slots items → T (order_formed x)
 unfolding order_formed
 order_formed_lem vars items few h x updates order =

@@ -8,25 +8,26 @@ use lib.Dec.{T, ltb, leb, eqb}
 use lib.ListN.{length, set, replicate, get_or-replicate}
 use lib.Seq.{get_or-set_same, get_or-set_other}
 use borrow.Author.Tests.{lt-ltb, ltb-true, lt-leb, eq-eqb, ne_eqb, eqb-true}
+use Rattle.std.specs.Prelude.{Option, Some, None}
 use Rattle.model.specs.declared.Update.{Update}
 use Rattle.model.specs.Indexed.{all_below}
 use Rattle.model.specs.Record.{blank_update}
 use Rattle.model.specs.Automaton.{is_keep}
 use Rattle.model.proofs.IndexedLaws.{and_T, T_true, all_below_lem, all_fails}
 use Rattle.text.specs.declared.updates.SetRead.{SetRead}
-use Rattle.text.specs.declared.updates.SetRead.TheVariants.{Malformed, ToConstant, ToSum}
+use Rattle.text.specs.declared.updates.SetRead.TheVariants.{ToConstant, ToSum}
 use Rattle.text.specs.updates.Sets.{is_malformed, counter_of, times_set, set_twice}
 use Rattle.text.specs.updates.OnePass.{is_set}
 use Rattle.text.proofs.Laws.Slots.{three_ways}
 
 -- an item that sets one of v0 to v3 is of its form
-sets_one : (a : SetRead) (i : ℕ) → i < 4 → counter_of a ≡ i → is_malformed a ≡ false
-sets_one Malformed i l e = absurd (omega (arith, l, e))
-sets_one (ToConstant v c) i l e = refl
-sets_one (ToSum v w negative n) i l e = refl
+sets_one : (a : Option SetRead) (i : ℕ) → i < 4 → counter_of a ≡ i → is_malformed a ≡ false
+sets_one None i l e = absurd (omega (arith, l, e))
+sets_one (Some (ToConstant v c)) i l e = refl
+sets_one (Some (ToSum v w negative n)) i l e = refl
 
 -- after an item is put into its slot, its counter is set too
-pub set_more : (slots : List Update) (a : SetRead) (u : Update) → length slots ≡ 4 → is_keep u ≡ is_malformed a → (i : ℕ) → i < 4
+pub set_more : (slots : List Update) (a : Option SetRead) (u : Update) → length slots ≡ 4 → is_keep u ≡ is_malformed a → (i : ℕ) → i < 4
     → is_set (set slots (counter_of a) (u)) i ≡ (eqb i (counter_of a) || is_set slots i)
 set_more slots a u long keep i l =
     three_ways i (counter_of a)
@@ -53,7 +54,7 @@ all_same p q zero h = refl
 all_same p q (suc n) h = ap₂ ◌&&◌ (all_same p q n (λ i l. h i (omega arith))) (h n (omega arith))
 
 -- counter i is set once at most, by the slots and the items after them
-abbrev pub once : List Update → List SetRead → ℕ → Bool
+abbrev pub once : List Update → List (Option SetRead) → ℕ → Bool
 once slots l i = leb (cond (is_set slots i) 1 0 + times_set i l) 1
 
 pub once_none : (slots : List Update) → all_below (once slots []) 4 ≡ true
@@ -72,7 +73,7 @@ one_or_other false true h n = omega arith
 one_or_other false false h n = omega arith
 
 -- an item is put into its slot: its counter was set before, or each is set as often as with the item among those that follow
-pub once_more : (slots : List Update) (a : SetRead) (u : Update) → length slots ≡ 4 → is_keep u ≡ is_malformed a → (l : List SetRead)
+pub once_more : (slots : List Update) (a : Option SetRead) (u : Update) → length slots ≡ 4 → is_keep u ≡ is_malformed a → (l : List (Option SetRead))
     → (is_set slots (counter_of a) || not (all_below (once (set slots (counter_of a) (u)) l) 4)) ≡ not (all_below (once slots (a ∷ l)) 4)
 unfolding times_set
 once_more slots a u long keep l = go (is_set slots (counter_of a)) refl
@@ -98,7 +99,7 @@ once_more slots a u long keep l = go (is_set slots (counter_of a)) refl
     go false h = ap not (all_same (once next l) (once slots (a ∷ l)) 4 (moved h))
 
 -- after blank slots it is how often the items set it
-pub once_blank : (items : List SetRead) → not (all_below (once (replicate 4 blank_update) items) 4) ≡ set_twice items
+pub once_blank : (items : List (Option SetRead)) → not (all_below (once (replicate 4 blank_update) items) 4) ≡ set_twice items
 unfolding set_twice
 once_blank items =
     ap not (all_same _ _ 4 (λ i l. let e : 0 + times_set i items ≡ times_set i items = omega arith in rw (blank_set i l) (ap (λ (n : ℕ). leb n 1) e)))

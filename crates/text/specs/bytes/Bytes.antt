@@ -1,7 +1,6 @@
 -- What a run of bytes says: its first line, its key, the number that it is, the items that it is made of.
-use Rattle.std.specs.Prelude.{ℕ, ◌+◌, ◌-◌, ◌*◌, ◌≤◌, ◌≡◌, length, get_or, take, drop, List, [], ◌∷◌, Bool, true, false, cond, not, ◌&&◌, ltb, leb, eqb}
-use Rattle.text.specs.declared.bytes.NumberRead.{NumberRead}
-use Rattle.text.specs.declared.bytes.NumberRead.TheVariants.{Malformed, Number}
+use Rattle.std.specs.Prelude.{ℕ, ◌+◌, ◌-◌, ◌*◌, ◌≤◌, ◌<◌, ◌≡◌, length, get_or, take, drop, List, [], ◌∷◌, Bool, true, false, cond, not, ◌&&◌, ltb, leb, eqb}
+use Rattle.std.specs.Prelude.{Option, Some, None, is_some}
 
 -- ---- lines: key=value, each ended by LF
 -- the place of the first b in l, or l's length where l has none
@@ -25,6 +24,11 @@ pub record FirstFrom (b at : ℕ) (s : List ℕ) (r : ℕ) : Type 0 where
   pub low : at ≤ r
   pub high : r ≤ length s
 
+-- the same of a search that may find none
+abbrev pub Found : ℕ → ℕ → List ℕ → Option ℕ → Type 0
+Found b at s None = FirstFrom b at s (length s)
+Found b at s (Some r) = FirstFrom b at s r × (r < length s)
+
 -- l begins with the bytes of k
 unfoldable pub starts_with : List ℕ → List ℕ → Bool
 starts_with [] l = true
@@ -45,30 +49,29 @@ abbrev pub is_digit : ℕ → Bool
 is_digit x = leb 48 x && leb x 57
 
 -- the number that the bytes are
-unfoldable pub number_of : List ℕ → NumberRead
-number_of [] = Malformed
-number_of (a ∷ []) = cond (is_digit a) (Number (a - 48)) Malformed
-number_of (a ∷ b ∷ []) = cond (is_digit a && is_digit b && not (eqb a 48)) (Number ((a - 48) * 10 + (b - 48))) Malformed
+unfoldable pub number_of : List ℕ → Option ℕ
+number_of [] = None
+number_of (a ∷ []) = cond (is_digit a) (Some (a - 48)) None
+number_of (a ∷ b ∷ []) = cond (is_digit a && is_digit b && not (eqb a 48)) (Some ((a - 48) * 10 + (b - 48))) None
 number_of (a ∷ b ∷ c ∷ []) =
-    cond (is_digit a && is_digit b && is_digit c && not (eqb a 48)) (Number (((a - 48) * 10 + (b - 48)) * 10 + (c - 48))) Malformed
-number_of (a ∷ b ∷ c ∷ d ∷ l) = Malformed
+    cond (is_digit a && is_digit b && is_digit c && not (eqb a 48)) (Some (((a - 48) * 10 + (b - 48)) * 10 + (c - 48))) None
+number_of (a ∷ b ∷ c ∷ d ∷ l) = None
 
 -- the bytes are no number
-abbrev pub is_malformed : NumberRead → Bool
-is_malformed Malformed = true
-is_malformed (Number n) = false
+abbrev pub is_malformed : Option ℕ → Bool
+is_malformed n = not (is_some n)
 
 -- the number, and 0 where there is none
-abbrev pub number_in : NumberRead → ℕ
-number_in Malformed = 0
-number_in (Number n) = n
+abbrev pub number_in : Option ℕ → ℕ
+number_in None = 0
+number_in (Some n) = n
 
 -- a number that fits a byte, or else 0
 abbrev pub narrowed : ℕ → ℕ
 narrowed n = cond (ltb n 256) n 0
 
 -- the same as a byte
-abbrev pub byte_in : NumberRead → ℕ
+abbrev pub byte_in : Option ℕ → ℕ
 byte_in n = narrowed (number_in n)
 
 -- how many bytes stand before the first that is no digit
@@ -82,7 +85,7 @@ pub record LeadingDigits (s : List ℕ) (r : ℕ) : Type 0 where
   pub most : r ≤ length s
 
 -- the number that the leading digits are, and what follows them
-abbrev pub leading : List ℕ → NumberRead
+abbrev pub leading : List ℕ → Option ℕ
 leading l = number_of (take (digits_of l) l)
 
 abbrev pub following : List ℕ → List ℕ

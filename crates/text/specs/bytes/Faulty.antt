@@ -1,8 +1,8 @@
 -- The tests of a line, and tests over all items of one.
-use Rattle.std.specs.Prelude.{ℕ, ◌+◌, List, [], ◌∷◌, Bool, true, false, cond, ◌&&◌, ◌||◌, leb}
+use Rattle.std.specs.Prelude.{ℕ, ◌+◌, ◌≡◌, List, [], ◌∷◌, Bool, true, false, cond, ◌&&◌, ◌||◌, leb, Result, Ok, Err}
 use Rattle.text.specs.declared.bytes.Faults.{Faults}
 use Rattle.text.specs.declared.bytes.LineFault.{LineFault}
-use Rattle.text.specs.declared.bytes.LineFault.TheVariants.{NoFault, NotDue, NotOfItsForm, TooManyItems, OutOfRange, NotDeclared, SetTwiceOrNotRising}
+use Rattle.text.specs.declared.bytes.LineFault.TheVariants.{NotDue, NotOfItsForm, TooManyItems, OutOfRange, NotDeclared, SetTwiceOrNotRising}
 
 -- the number of the first test of a value that fails, or 0. The value is tried whole in this order: 3 not of its form; 7 more than four items in
 -- inv or when; 4 number outside its range; 5 location, clock or counter not declared; 6 a counter is set twice in one edge,
@@ -18,9 +18,8 @@ line_number due f = cond due (fault_number f) 2
 abbrev pub no_faults : Faults
 no_faults = record { malformed = false; crowded = false; outside = false; undeclared = false; unordered = false }
 
--- the number of each case of the answer
+-- the number of each fault
 abbrev pub line_told : LineFault → ℕ
-line_told NoFault = 0
 line_told NotDue = 2
 line_told NotOfItsForm = 3
 line_told TooManyItems = 7
@@ -28,15 +27,10 @@ line_told OutOfRange = 4
 line_told NotDeclared = 5
 line_told SetTwiceOrNotRising = 6
 
--- no test of the line fails
-abbrev pub is_no_fault : LineFault → Bool
-is_no_fault NoFault = true
-is_no_fault NotDue = false
-is_no_fault NotOfItsForm = false
-is_no_fault TooManyItems = false
-is_no_fault OutOfRange = false
-is_no_fault NotDeclared = false
-is_no_fault SetTwiceOrNotRising = false
+-- the answer to a value with the faults f: what it says, x, where it has none, and else the first of them
+abbrev pub Checked : {A : Type 0} → Faults → A → Result A LineFault → Type 0
+Checked f x (Ok y) = (fault_number f ≡ 0) × (y ≡ x)
+Checked f x (Err fault) = fault_number f ≡ line_told fault
 
 -- some item fails a test
 unfoldable pub any_of : {A : Type 0} → (A → Bool) → List A → Bool

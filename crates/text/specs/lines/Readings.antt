@@ -1,9 +1,13 @@
 -- A reading by its place in the text, as the code holds it.
-use Rattle.std.specs.Prelude.{ℕ, ◌+◌, ◌≤◌, ◌<◌, ◌≡◌, List, cond, length, drop, eqb}
-use Rattle.text.specs.bytes.Faulty.{line_told, line_number}
+use Rattle.std.specs.Prelude.{ℕ, ◌+◌, ◌≤◌, ◌≡◌, List, length, drop, Result, Ok, Err}
+use denote.Param.Members.{Once}
+use denote.Ref.{Bor}
+use Rattle.text.specs.Text.{outcome_number, outcome_line}
+use Rattle.text.specs.bytes.Faulty.{Checked}
 use Rattle.text.specs.declared.bytes.Faults.{Faults}
-use Rattle.text.specs.declared.line.Due.{Due}
+use Rattle.text.specs.declared.bytes.LineFault.{LineFault}
 use Rattle.model.specs.declared.Model.{Model}
+use Rattle.text.specs.declared.ReadRefusal.{ReadRefusal}
 use Rattle.text.specs.declared.lines.Reading.{Reading}
 use Rattle.text.specs.lines.Progress.{Progress}
 use Rattle.text.specs.lines.Sequence.{read_lines}
@@ -13,41 +17,32 @@ pub record Placed (t : List ℕ) (r : Reading) : Type 0 where
   pub counted : r.line ≤ r.at + 1
   pub within : r.at ≤ length t
 
--- what a reading of the text t has come to
+-- what a reading of the text t that is not refused has come to
 abbrev pub progress : List ℕ → Reading → Progress
-progress t r = record { number = line_told r.fault; line = r.line; rest = drop r.at t; model = r.model }
+progress t r = record { number = 0; line = r.line; rest = drop r.at t; model = r.model }
 
--- q is r after the step f of the reading
-pub record Reads (f : Progress → Progress) (t : List ℕ) (r q : Reading) : Type 0 where
-  pub is : progress t q ≡ f (progress t r)
+-- the answer q to a reading that has come to p: where it goes on, or the refusal
+pub record GoesOn (t : List ℕ) (p : Progress) (q : Reading) : Type 0 where
+  pub is : progress t q ≡ p
   pub placed : Placed t q
 
--- r is the reading of the lines of a model from the place `at` on; its own place, which lies within the text, is where it stopped
-pub record ReadsFrom (t : List ℕ) (at : ℕ) (r : Reading) : Type 0 where
-  pub is : progress t r ≡ read_lines (drop at t)
-  pub within : r.at ≤ length t
+pub record Stopped (p : Progress) (e : ReadRefusal) : Type 0 where
+  pub number_is : outcome_number e ≡ p.number
+  pub line_is : outcome_line e ≡ p.line
 
--- ---- one due line, by places
-pub record Told : Type 0 where
-  pub number : ℕ
-  pub line : ℕ
-  pub at : ℕ
-  pub model : Model
+abbrev pub Comes : List ℕ → Progress → Result Reading ReadRefusal → Type 0
+Comes t p (Ok q) = GoesOn t p q
+Comes t p (Err e) = Stopped p e
 
-abbrev pub told : Reading → Told
-told r = record { number = line_told r.fault; line = r.line; at = r.at; model = r.model }
+-- q is the answer to r after the step f of the reading
+abbrev pub Reads : (Progress → Progress) → List ℕ → Reading → Result Reading ReadRefusal → Type 0
+Reads f t r q = Comes t (f (progress t r)) q
 
--- the due line d with the faults f, which gives the model m
-unfoldable pub settled : Told → Due → Faults → Model → Told
-settled p d f m =
-    cond (eqb p.number 0)
-    (cond (eqb (line_number d.found f) 0)
-    (record { number = 0; line = p.line + 1; at = d.end + 1; model = m })
-    (record { number = line_number d.found f; line = p.line; at = p.at; model = p.model }))
-    p
+-- q is the answer to the reading of the lines of a model from the place `at` on
+abbrev pub ReadsFrom : List ℕ → ℕ → Result Reading ReadRefusal → Type 0
+ReadsFrom t at q = Comes t (read_lines (drop at t)) q
 
--- the line d lies after the place of r, and its end can be counted
-pub record Follows (r : Reading) (d : Due) : Type 0 where
-  pub counted : r.line ≤ r.at + 1
-  pub low : r.at ≤ d.end
-  pub small : d.end < 9223372036854775808
+-- the closure g puts the value of a line into the model, or tells the first of its faults
+abbrev pub Stores : {F : Type 0} → Once F (Bor (List ℕ) × (Model × Unit {0})) (Result Model LineFault) → F → (Model → List ℕ → Faults)
+    → (Model → List ℕ → Model) → Type 0
+Stores g f faults put = (x : Bor (List ℕ)) (m : Model) (r : Result Model LineFault) → g.post f (x, (m, tt)) r → Checked (faults m x.now) (put m x.now) r

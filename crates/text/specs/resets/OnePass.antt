@@ -1,21 +1,20 @@
 -- What one pass over the items of a reset value collects. Reading does not rest on it: it is proved equal to the tests of specs/Resets.
-use Rattle.std.specs.Prelude.{ℕ, ◌+◌, List, cond, ◌||◌, set, replicate, ltb, eqb}
+use Rattle.std.specs.Prelude.{ℕ, ◌+◌, List, cond, ◌||◌, set, replicate, ltb, Option, Some, None}
 use Rattle.text.specs.bytes.Bytes.{narrowed}
-use Rattle.text.specs.bytes.Faulty.{no_faults, fault_number}
+use Rattle.text.specs.bytes.Faulty.{no_faults}
 use Rattle.model.specs.declared.ClockUpdate.{ClockUpdate}
 use Rattle.model.specs.declared.ClockUpdate.TheVariants.{Unchanged, Reset, Copy}
 use Rattle.model.specs.Record.{blank_reset}
-use Rattle.text.specs.declared.resets.ResetValue.{ResetValue}
 use Rattle.text.specs.declared.resets.ResetRead.{ResetRead}
-use Rattle.text.specs.declared.resets.ResetRead.TheVariants.{Malformed, ToZero, ToCopy}
+use Rattle.text.specs.declared.resets.ResetRead.TheVariants.{ToZero, ToCopy}
 use Rattle.text.specs.declared.resets.ResetsRead.{ResetsRead}
 use Rattle.text.specs.resets.Resets.{is_malformed, is_undeclared, clock_of}
 
 -- the update of an item, its number narrowed to a byte
-abbrev pub stored_update : ResetRead → ClockUpdate
-stored_update Malformed = Unchanged
-stored_update (ToZero x) = Reset
-stored_update (ToCopy x w) = Copy (narrowed w)
+abbrev pub stored_update : Option ResetRead → ClockUpdate
+stored_update None = Unchanged
+stored_update (Some (ToZero x)) = Reset
+stored_update (Some (ToCopy x w)) = Copy (narrowed w)
 
 -- one more update, in slot k, if there is such a slot
 unfoldable pub put : List ClockUpdate → ℕ → ClockUpdate → List ClockUpdate
@@ -26,7 +25,7 @@ unfoldable pub no_resets : ResetsRead
 no_resets = record { faults = no_faults; least = 0; resets = replicate 4 blank_reset }
 
 -- one more item
-unfoldable pub absorbed : ℕ → ResetsRead → ResetRead → ResetsRead
+unfoldable pub absorbed : ℕ → ResetsRead → Option ResetRead → ResetsRead
 absorbed clocks s a = record {
   faults = record {
     malformed = s.faults.malformed || is_malformed a;
@@ -38,7 +37,3 @@ absorbed clocks s a = record {
   least = clock_of a + 1;
   resets = put s.resets (clock_of a) (stored_update a);
 }
-
--- the faults, and the slots where there are none
-unfoldable pub collected : ResetsRead → ResetValue
-collected s = record { faults = s.faults; resets = cond (eqb (fault_number s.faults) 0) s.resets (replicate 4 blank_reset) }

@@ -1,14 +1,13 @@
 -- What one pass over the items of a set value collects. Reading does not rest on it: it is proved equal to the tests of specs/Sets.
-use Rattle.std.specs.Prelude.{ℕ, List, Bool, cond, not, ◌&&◌, ◌||◌, get_or, set, replicate, ltb, eqb, ℤ, pos}
+use Rattle.std.specs.Prelude.{ℕ, List, Bool, cond, not, ◌&&◌, ◌||◌, get_or, set, replicate, ltb, ℤ, pos, Option, Some, None}
 use Rattle.text.specs.bytes.Bytes.{narrowed, counted}
-use Rattle.text.specs.bytes.Faulty.{no_faults, fault_number}
+use Rattle.text.specs.bytes.Faulty.{no_faults}
 use Rattle.model.specs.declared.Update.{Update}
 use Rattle.model.specs.declared.Update.TheVariants.{Keep, Constant, Sum}
 use Rattle.model.specs.Record.{blank_update}
 use Rattle.model.specs.Automaton.{is_keep}
-use Rattle.text.specs.declared.updates.SetValue.{SetValue}
 use Rattle.text.specs.declared.updates.SetRead.{SetRead}
-use Rattle.text.specs.declared.updates.SetRead.TheVariants.{Malformed, ToConstant, ToSum}
+use Rattle.text.specs.declared.updates.SetRead.TheVariants.{ToConstant, ToSum}
 use Rattle.text.specs.declared.updates.SetsRead.{SetsRead}
 use Rattle.text.specs.updates.Sets.{is_malformed, is_outside, is_undeclared, counter_of, offset_of}
 
@@ -17,10 +16,10 @@ abbrev pub stored_offset : Bool → ℕ → ℤ
 stored_offset negative n = cond (ltb 31 n) (pos 0) (offset_of negative n)
 
 -- the update of an item, its numbers narrowed to bytes
-abbrev pub stored_update : SetRead → Update
-stored_update Malformed = Keep
-stored_update (ToConstant v c) = Constant (narrowed c)
-stored_update (ToSum v w negative n) = Sum (narrowed w) (stored_offset negative n)
+abbrev pub stored_update : Option SetRead → Update
+stored_update None = Keep
+stored_update (Some (ToConstant v c)) = Constant (narrowed c)
+stored_update (Some (ToSum v w negative n)) = Sum (narrowed w) (stored_offset negative n)
 
 -- one more update, in slot k, if there is such a slot
 unfoldable pub put : List Update → ℕ → Update → List Update
@@ -39,7 +38,7 @@ unfoldable pub no_sets : SetsRead
 no_sets = record { faults = no_faults; updates = replicate 4 blank_update; count = 0; order = replicate 4 0 }
 
 -- one more item
-unfoldable pub absorbed : ℕ → SetsRead → SetRead → SetsRead
+unfoldable pub absorbed : ℕ → SetsRead → Option SetRead → SetsRead
 absorbed vars s a = record {
   faults = record {
     malformed = s.faults.malformed || is_malformed a;
@@ -51,12 +50,4 @@ absorbed vars s a = record {
   updates = put s.updates (counter_of a) (stored_update a);
   count = counted 4 s.count;
   order = listed_at s.order s.count (narrowed (counter_of a));
-}
-
--- the faults, and the slots where there are none
-unfoldable pub collected : SetsRead → SetValue
-collected s = record {
-  faults = s.faults;
-  updates = cond (eqb (fault_number s.faults) 0) s.updates (replicate 4 blank_update);
-  order = cond (eqb (fault_number s.faults) 0) s.order (replicate 4 0);
 }

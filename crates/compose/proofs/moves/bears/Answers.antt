@@ -1,25 +1,18 @@
--- `bears`: so far no edge bears the label; the first that does makes the answer true.
-use borrow.Author.Rules.{rules}
-use mathlib.Core.Path.{◌≡◌}
-use native.Mathlib.Omega.{arith}
-use Rattle.model.proofs.IndexedLaws.{all_none}
-use Rattle.compose.proofs.Parts.{none_more, one_bears, none_bears}
+-- `bears`: some edge of the declared ones bears the label.
+use Rattle.std.proofs.Common.{rules, tests, arith, ◌∙◌}
+use Rattle.std.proofs.lemmas.Iterator.{YieldsList-from_slice}
+use Rattle.std.proofs.lemmas.Iterator.Search.{any_from_yields_List}
+use lib.Dec.{eqb}
+use Rattle.model.specs.declared.Edge.{Edge}
+use Rattle.model.specs.Record.{past_edge}
+use Rattle.model.proofs.FormLaws.{formed}
+use Rattle.compose.specs.Moves.{bears}
+use Rattle.compose.proofs.Fronts.{front_any, form_of, long_of}
 use Rattle.compose.proofs.moves.bears.Goals as goal
 
-pub loop-e-init : goal.loop-e-init
-loop-e-init c = (search rules, all_none _)
-
-pub returns-then-edge-label : goal.returns-then-edge-label
-returns-then-edge-label c =
-    let loop = c.loop-e in
-    one_bears c.args.m c.args.label loop.e c.loop-e-test.true c.if-edge-label.true
-
-pub loop-e-preserved : goal.loop-e-preserved
-loop-e-preserved c =
-    let loop = c.loop-e in
-    (search rules, none_more c.args.m c.args.label loop.e loop.invariant.1 c.if-edge-label.false)
-
 pub returns : goal.returns
+unfolding bears
 returns c =
-    let e : c.loop-e.e ≡ c.args.m.used = omega arith in
-    none_bears c.args.m c.args.label (rw e at c.loop-e.invariant.1)
+    let m = c.args.m.model in
+    any_from_yields_List (λ (e : Edge). eqb e.label c.args.label) _ _ _ c.any.ensures.ran (YieldsList-from_slice _ cc) (λ x b q k. search (rules, tests))
+    ∙ front_any past_edge (λ (e : Edge). eqb e.label c.args.label) m.used m.edges (omega (arith, (long_of c.args.m _ c.well_formed.0).edges, (formed m (form_of c.args.m)).used_le))

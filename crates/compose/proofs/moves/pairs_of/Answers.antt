@@ -1,45 +1,45 @@
 -- `pairs_of`: the loop has added the pairs with the edges so far.
-use borrow.Author.Rules.{rules}
-use mathlib.Core.Path.{◌≡◌, sym, ◌∙◌}
-use native.Mathlib.Omega.{arith}
+use Rattle.std.proofs.Common.{arith, sym, ◌∙◌, ◌≡◌}
 use Rattle.model.specs.Indexed.{each}
-use Rattle.compose.specs.Moves.{pair_of, pairs_of}
+use Rattle.model.proofs.FormLaws.{formed}
+use Rattle.compose.specs.Moves.{paired, pair_of, pairs_of}
 use Rattle.compose.proofs.Adding.{counted, each_start, each_turn, each_skip, pair_here, pair_none}
+use Rattle.compose.proofs.Fronts.{form_of}
 use Rattle.compose.proofs.MoveCounts.{some_pairs_most}
 use Rattle.compose.proofs.moves.pairs_of.Goals as goal
 use Rattle.compose.proofs.moves.pairs_of.Goals.{then-paired, else-paired}
 
 pub loop-f-init : goal.loop-f-init
-loop-f-init c = (search rules, each_start _ _)
+loop-f-init c = each_start _ _
+
+pub bounds-a-e : goal.bounds-a-e
+bounds-a-e c = omega (arith, c.requires.1, (formed c.args.a.model (form_of c.args.a)).used_le)
+
+pub bounds-b-f : goal.bounds-b-f
+bounds-b-f c = omega (arith, (formed c.args.b.model (form_of c.args.b)).used_le)
 
 pub add-moves-requires : goal.add-moves-requires
 add-moves-requires c =
-    let loop = c.loop-f in
-    let pairs = pair_of c.args.a c.args.b c.args.e in
-    omega (
-      arith,
-      c.requires,
-      loop.invariant.0,
-      counted c.args.list (each loop.f pairs) loop.invariant.1,
-      some_pairs_most c.args.a c.args.b c.args.e loop.f,
-    )
+    let a = c.args.a.model in
+    let b = c.args.b.model in
+    let pairs = pair_of a b c.args.e in
+    omega (arith, c.requires.0, counted c.args.list (each c.loop-f.f pairs) c.loop-f.invariant, some_pairs_most a b c.args.e c.loop-f.f)
 
 pub loop-f-preserved : goal.loop-f-preserved
+unfolding paired
 loop-f-preserved c =
     let loop = c.loop-f in
-    let entry = c.args in
-    let pairs = pair_of entry.a entry.b entry.e in
-    let told = sym c.paired.ensures in (
-      search rules,
-      elim c.if-paired.branch [
-        | then-paired w ↦ each_turn entry.list pairs loop.f _ loop.invariant.1 (w.moves-is ∙ w.add-moves.ensures)
-            (pair_here entry.a entry.b entry.e loop.f (told ∙ w.if-paired.true))
-        | else-paired w ↦ each_skip entry.list pairs loop.f loop.invariant.1 w.moves-is
-            (pair_none entry.a entry.b entry.e loop.f (told ∙ w.if-paired.false))
-      ],
-    )
+    let a = c.args.a.model in
+    let b = c.args.b.model in
+    let e = c.args.e in
+    let told = sym c.paired.ensures in
+    elim c.if-paired.branch [
+      | then-paired w ↦ each_turn c.args.list (pair_of a b e) loop.f _ loop.invariant (w.moves-is ∙ w.add-moves.ensures)
+          (pair_here a b e loop.f (told ∙ w.if-paired.true))
+      | else-paired w ↦ each_skip c.args.list (pair_of a b e) loop.f loop.invariant w.moves-is (pair_none a b e loop.f (told ∙ w.if-paired.false))
+    ]
 
 pub returns : goal.returns
 unfolding pairs_of
-returns c = let e : c.loop-f.f ≡ c.args.b.used = omega arith in
-    rw e at c.loop-f.invariant.1
+returns c = let e : c.loop-f.f ≡ c.args.b.model.used = omega arith in
+    rw e at c.loop-f.invariant

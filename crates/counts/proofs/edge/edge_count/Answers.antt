@@ -7,7 +7,7 @@ use Rattle.parts.proofs.LayoutLaws.{known_of_layout}
 use Rattle.parts.specs.Pieces.{edge_piece}
 use Rattle.parts.specs.PartsOf.{edge_part}
 use Rattle.counts.specs.Counted.{Counted}
-use Rattle.counts.proofs.CountLaws.{clauses_le, words_le}
+use Rattle.counts.proofs.CountLaws.{small_piece}
 use Rattle.counts.proofs.CountedList.{edge_counted}
 use Rattle.counts.proofs.EdgeLaws.{edge_small}
 use Rattle.counts.proofs.PartLaws.{part_most}
@@ -31,7 +31,7 @@ sum-requires-clause-small c j r p q =
     let e = edge_at l.model c.args.i in
     let n : (x o : ℕ) → Counted (edge_piece x l.table e o j) r.clauses r.words = search (rules, tests) in
     let m = part_most 0 (edge_part l.table e 0 j) (edge_small l.table (known_bounded (known_of_layout l)) 0 e j) in
-    (omega (arith, clauses_le (n 0 0) m), omega (arith, words_le (n 0 0) m))
+    small_piece (n 0 0) m (omega arith) (omega arith)
 
 pub returns : goal.returns
 returns c = edge_counted (known_of_layout c.args.l.now) c.args.i c.requires (λ x o. c.sum.ensures _ (λ i r l e. search (rules, tests)))

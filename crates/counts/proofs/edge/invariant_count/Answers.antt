@@ -7,7 +7,7 @@ use Rattle.parts.specs.PartsOf.{atom_part}
 use Rattle.parts.proofs.KnownLaws.{known_bounded}
 use Rattle.parts.proofs.LayoutLaws.{known_of_layout}
 use Rattle.counts.specs.Counted.{Counted}
-use Rattle.counts.proofs.CountLaws.{clauses_le, words_le}
+use Rattle.counts.proofs.CountLaws.{small_piece}
 use Rattle.counts.proofs.CountedList.{location_counted}
 use Rattle.counts.proofs.EdgeLaws.{atom_most}
 use Rattle.counts.proofs.edge.invariant_count.Goals as goal
@@ -24,7 +24,7 @@ sum-requires-clause-small c k r p e =
     let atom = atom_at (invariant_at l.model c.args.i) k in
     let n : (x o : ℕ) → Counted (part_clauses x (atom_part l.table o atom)) r.clauses r.words = search (rules, tests) in
     let m = atom_most l.table (known_bounded (known_of_layout l)) 0 0 atom in
-    (omega (arith, clauses_le (n 0 0) m), omega (arith, words_le (n 0 0) m))
+    small_piece (n 0 0) m (omega arith) (omega arith)
 
 pub returns : goal.returns
 returns c = location_counted (known_of_layout c.args.l.now) c.args.i c.requires (λ x o. c.sum.ensures _ (λ i r l e. search (rules, tests)))

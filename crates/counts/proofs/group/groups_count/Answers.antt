@@ -5,7 +5,7 @@ use Rattle.parts.proofs.KnownLaws.{at_most_nine, known_small}
 use Rattle.parts.proofs.LayoutLaws.{known_of_layout}
 use Rattle.parts.specs.StateBlock.{first_at, size_at}
 use Rattle.counts.specs.Counted.{Counted}
-use Rattle.counts.proofs.CountLaws.{clauses_le, words_le}
+use Rattle.counts.proofs.CountLaws.{small_piece}
 use Rattle.counts.proofs.GroupLaws.{group_32}
 use Rattle.counts.proofs.group.groups_count.Goals as goal
 
@@ -23,7 +23,7 @@ sum-requires-clause-small c g r p q =
     let l = c.args.l.now in
     let n : (first : ℕ) → Counted (group_clauses first (size_at l.table g)) r.clauses r.words = search (rules, tests) in
     let m = group_32 0 (size_at l.table g) (known_small (known_of_layout l) g p) in
-    (omega (arith, clauses_le (n 0) m), omega (arith, words_le (n 0) m))
+    small_piece (n 0) m (omega arith) (omega arith)
 
 pub returns : goal.returns
 returns c o = c.sum.ensures _ (λ g r l e.

@@ -1,12 +1,7 @@
 -- `put_ahead`: the loop has stored the first words; what is stored beyond a text is covered by the next one.
-use mathlib.Core.Path.{◌≡◌}
-use Prim.Native.Nat.{◌≤◌, ◌-◌}
-use lib.ListN.{length, take}
+use lib.ListN.{take}
 use Rattle.dimacs.specs.Texts.{entries_text, Ahead}
 use Rattle.dimacs.proofs.texts.put_ahead.Given as goal
 
-abbrev pub invariant-loop-i : goal.invariant-loop-i
-invariant-loop-i l = (l.i ≤ l.i-end) × (l.i-end ≡ length l.words) × Ahead (entries_text l.texts (take l.i l.words)) l.initial.out l.out l.at l.end
-
-abbrev pub decreases-loop-i : goal.decreases-loop-i
-decreases-loop-i l = l.i-end - l.i
+abbrev pub invariant-loop-w : goal.invariant-loop-w
+invariant-loop-w l = Ahead (entries_text l.texts (take l.w-index l.words)) l.initial.out l.out l.at l.end

@@ -1,55 +1,35 @@
 -- `put_words`: the last three words cover what is stored beyond those before them.
-use mathlib.Core.Path.{sym, ap}
-use Prim.Native.Nat.{◌-◌, ◌≤◌}
-use native.Mathlib.Omega.{arith}
-use lib.ListN.{length, take, drop, length-append}
-use lib.Seq.{length-take-le}
+use Rattle.std.proofs.Common.{arith, ap, ◌≤◌, length}
+use lib.ListN.{length-append}
 use Rattle.buffer.proofs.BufferLaws.{wrote_as}
 use Rattle.dimacs.specs.Texts.{entries_text}
-use Rattle.dimacs.proofs.TextLaws.{cut_text, cut_all, cut_least, ahead_then}
+use Rattle.dimacs.proofs.TextLaws.{parts_text, parts_all, entries_least, ahead_then}
 use Rattle.dimacs.proofs.texts.put_words.Goals as goal
+use Rattle.dimacs.proofs.texts.put_words.Goals.{After-split_at}
 
-pub slice_bounds-put_exact-end : goal.slice_bounds-put_exact-end
-slice_bounds-put_exact-end c =
-    sym (length-take-le c.args.n c.args.words.now c.requires.0)
-
-pub slice_bounds-put_ahead-end : goal.slice_bounds-put_ahead-end
-slice_bounds-put_ahead-end c =
-    sym (length-take-le (c.args.n - 3) c.args.words.now (omega (arith, c.requires.0)))
+-- the last three words have six bytes at least
+least : (c : After-split_at) → 6 ≤ length (entries_text c.args.texts.now c.split_at.result.1.now)
+least c =
+    let all = parts_all c.args.texts.now _ _ c.split_at.ensures.by_index.0 c.requires.1 in
+    omega (arith, c.split_at.ensures.back_len, entries_least c.args.texts.now c.split_at.result.1.now all.1)
 
 pub put_ahead-end-requires : goal.put_ahead-end-requires
 put_ahead-end-requires c =
     let texts = c.args.texts.now in
-    let words = c.args.words.now in
-    let n = c.args.n in
-    let many : 3 ≤ n = omega arith in
-    let first = entries_text texts (take (n - 3) words) in
-    let last = entries_text texts (take (n - (n - 3)) (drop (n - 3) words)) in
-    let long = ap length (cut_text texts words n many) in
-    let least = cut_least texts words n many c.requires.0 c.requires.2 in
-    (c.requires.1, (cut_all texts words n many c.requires.2).0, omega (arith, c.requires.3.room, long, length-append first last, least))
+    let parts = c.split_at.ensures.by_index.0 in
+    let long = ap length (parts_text texts c.split_at.result.0.now c.split_at.result.1.now parts) in
+    let both = length-append (entries_text texts c.split_at.result.0.now) (entries_text texts c.split_at.result.1.now) in
+    (c.requires.0, (parts_all texts _ _ parts c.requires.1).0, omega (arith, c.requires.2.room, long, both, least (goal.at.put_ahead-end-requires c).After-split_at))
 
 pub put_exact-requires-2 : goal.put_exact-requires-2
 put_exact-requires-2 c =
     let texts = c.args.texts.now in
-    let words = c.args.words.now in
-    let n = c.args.n in
-    let many : 3 ≤ n = omega arith in
-    let first = entries_text texts (take (n - 3) words) in
-    let last = entries_text texts (take (n - (n - 3)) (drop (n - 3) words)) in
-    let long = ap length (cut_text texts words n many) in
-    let stored = c.put_ahead-end.ensures in (
-      c.requires.1,
-      (cut_all texts words n many c.requires.2).1,
-      record { room = omega (arith, c.requires.3.room, long, length-append first last, stored.ends, stored.long) },
-    )
+    let parts = c.split_at.ensures.by_index.0 in
+    let long = ap length (parts_text texts c.split_at.result.0.now c.split_at.result.1.now parts) in
+    let both = length-append (entries_text texts c.split_at.result.0.now) (entries_text texts c.split_at.result.1.now) in
+    let stored = c.put_ahead-end.ensures in
+    (c.requires.0, (parts_all texts _ _ parts c.requires.1).1, record { room = omega (arith, c.requires.2.room, long, both, stored.ends, stored.long) })
 
 pub returns : goal.returns
 returns c =
-    let stored = c.put_ahead-end.ensures in
-    let texts = c.args.texts.now in
-    let words = c.args.words.now in
-    let n = c.args.n in
-    let many : 3 ≤ n = omega arith in
-    let least = cut_least texts words n many c.requires.0 c.requires.2 in
-    wrote_as (cut_text texts words n many) (ahead_then stored c.put_exact-2.ensures least)
+    wrote_as (parts_text c.args.texts.now _ _ c.split_at.ensures.by_index.0) (ahead_then c.put_ahead-end.ensures c.put_exact-2.ensures (least (goal.at.returns c).After-split_at))

@@ -1,104 +1,124 @@
--- put_edge: the pieces of an edge, kind after kind.
-use native.Mathlib.Omega.{arith}
-use Rattle.parts.proofs.EdgeKinds.{edge_kinds}
-use Rattle.emission.proofs.TableLaws.{lent_atoms}
-use Rattle.emission.proofs.LeafLaws.{atom_fits_by, atoms_by, source_in, target_in, guard_fits_lem, updates_fit, resets_fit}
+-- The pieces of an edge, kind after kind.
+use Rattle.std.proofs.Common.{arith}
+use Rattle.parts.proofs.KnownLaws.{wf, known_bounded}
+use Rattle.parts.proofs.LayoutLaws.{known_of_layout}
+use Rattle.emission.proofs.ListPieces.{choice_below, source_in, target_in, guard_fits, updates_fit, resets_fit, edge_is}
 use Rattle.emission.proofs.ClauseLaws.{wrote_then, room_first, room_then, wrote_as, room_as}
 use Rattle.emission.proofs.edge.put_edge.Goals as goal
 
-pub overflow_cast-block : goal.overflow_cast-block
-overflow_cast-block c = omega (arith, target_in c.requires.2 c.requires.3)
+pub offset_bounds-layout-e : goal.offset_bounds-layout-e
+offset_bounds-layout-e c =
+    let a = c.args in
+    let k = known_of_layout a.layout.now in
+    omega (arith, (wf k).used_le, c.requires.1)
 
-pub overflow_add-next : goal.overflow_add-next
-overflow_add-next c = omega (arith, target_in c.requires.2 c.requires.3)
+pub bounds-layout-e : goal.bounds-layout-e
+bounds-layout-e c =
+    let a = c.args in
+    let k = known_of_layout a.layout.now in
+    omega (arith, (wf k).used_le, c.requires.1)
+
+pub overflow_cast-x : goal.overflow_cast-x
+overflow_cast-x c =
+    let a = c.args in
+    let k = known_of_layout a.layout.now in
+    omega (arith, choice_below k a.o c.requires.0 a.e c.requires.1)
+
+pub overflow_add-x : goal.overflow_add-x
+overflow_add-x c =
+    let a = c.args in
+    let k = known_of_layout a.layout.now in
+    omega (arith, choice_below k a.o c.requires.0 a.e c.requires.1)
+
+pub overflow_add-x-2 : goal.overflow_add-x-2
+overflow_add-x-2 c =
+    let a = c.args in
+    let k = known_of_layout a.layout.now in
+    omega (arith, choice_below k a.o c.requires.0 a.e c.requires.1)
+
+pub overflow_add-x-3 : goal.overflow_add-x-3
+overflow_add-x-3 c =
+    let a = c.args in
+    let k = known_of_layout a.layout.now in
+    omega (arith, choice_below k a.o c.requires.0 a.e c.requires.1)
+
+pub overflow_add-x-4 : goal.overflow_add-x-4
+overflow_add-x-4 c =
+    let a = c.args in
+    let k = known_of_layout a.layout.now in
+    omega (arith, choice_below k a.o c.requires.0 a.e c.requires.1)
+
+pub overflow_cast-next-2 : goal.overflow_cast-next-2
+overflow_cast-next-2 c =
+    let a = c.args in
+    let k = known_of_layout a.layout.now in
+    omega (arith, target_in k a.o c.requires.0 a.e c.requires.1)
 
 pub overflow_add-next-2 : goal.overflow_add-next-2
 overflow_add-next-2 c =
-    let pre = c.requires in
-    omega (arith, target_in pre.2 pre.3)
+    let a = c.args in
+    let k = known_of_layout a.layout.now in
+    omega (arith, target_in k a.o c.requires.0 a.e c.requires.1)
 
-pub overflow_add-source : goal.overflow_add-source
-overflow_add-source c =
-    let pre = c.requires in
-    omega (arith, source_in pre.2 pre.3)
-
-pub overflow_cast-source-2 : goal.overflow_cast-source-2
-overflow_cast-source-2 c =
-    let pre = c.requires in
-    omega (arith, source_in pre.2 pre.3)
+pub overflow_add-goal : goal.overflow_add-goal
+overflow_add-goal c =
+    let a = c.args in
+    let k = known_of_layout a.layout.now in
+    omega (arith, target_in k a.o c.requires.0 a.e c.requires.1)
 
 pub put_implication-target-requires : goal.put_implication-target-requires
 put_implication-target-requires c =
     let a = c.args in
-    let p = c.requires in (
-      omega arith,
-      source_in p.2 p.3,
-      room_first _ (room_first _ (room_first _ (room_first _ (room_as (edge_kinds a.b a.x a.o a.e p.2.vars_in) p.4)))),
+    let k = known_of_layout a.layout.now in (
+      choice_below k a.o c.requires.0 a.e c.requires.1,
+      source_in k a.o c.requires.0 a.e c.requires.1,
+      room_first _ (room_first _ (room_first _ (room_first _ (room_as (edge_is k a.o a.e c.requires.1) c.requires.2)))),
     )
-
-pub overflow_add-goal : goal.overflow_add-goal
-overflow_add-goal c =
-    let pre = c.requires in
-    omega (arith, target_in pre.2 pre.3)
-
-pub overflow_cast-goal-2 : goal.overflow_cast-goal-2
-overflow_cast-goal-2 c =
-    let pre = c.requires in
-    omega (arith, target_in pre.2 pre.3)
 
 pub put_implication-guarded-requires : goal.put_implication-guarded-requires
 put_implication-guarded-requires c =
     let a = c.args in
-    let p = c.requires in (
-      omega arith,
-      target_in p.2 p.3,
-      room_then c.put_implication-target.ensures
-          (room_first _ (room_first _ (room_first _ (room_as (edge_kinds a.b a.x a.o a.e p.2.vars_in) p.4)))),
+    let k = known_of_layout a.layout.now in (
+      choice_below k a.o c.requires.0 a.e c.requires.1,
+      target_in k a.o c.requires.0 a.e c.requires.1,
+      room_then c.put_implication-target.ensures (room_first _ (room_first _ (room_first _ (room_as (edge_is k a.o a.e c.requires.1) c.requires.2)))),
     )
 
 pub put_atoms-counters-requires : goal.put_atoms-counters-requires
 put_atoms-counters-requires c =
     let a = c.args in
-    let p = c.requires in
-    let ends = wrote_then c.put_implication-target.ensures c.put_implication-guarded.ensures in (
-      lent_atoms p.0,
-      omega arith,
-      (λ k l. atom_fits_by p.0 a.o _ (guard_fits_lem p.2 p.3 k l)),
-      room_as (atoms_by p.0 a.o a.x a.e.guard) (room_then ends
-          (room_first _ (room_first _ (room_as (edge_kinds a.b a.x a.o a.e p.2.vars_in) p.4)))),
+    let k = known_of_layout a.layout.now in (
+      (known_bounded k).vars_le,
+      choice_below k a.o c.requires.0 a.e c.requires.1,
+      guard_fits k a.o c.requires.0 a.e c.requires.1,
+      room_then (wrote_then c.put_implication-target.ensures c.put_implication-guarded.ensures) (room_first _ (room_first _ (room_as (edge_is k a.o a.e c.requires.1) c.requires.2))),
     )
 
 pub put_updates-clocks-requires : goal.put_updates-clocks-requires
 put_updates-clocks-requires c =
     let a = c.args in
-    let p = c.requires in (
-      p.0,
-      omega arith,
-      p.2.vars_le,
-      updates_fit p.2 p.3,
-      room_then (wrote_then (wrote_then c.put_implication-target.ensures c.put_implication-guarded.ensures)
-          (wrote_as (atoms_by p.0 a.o a.x a.e.guard) c.put_atoms-counters.ensures))
-          (room_first _ (room_as (edge_kinds a.b a.x a.o a.e p.2.vars_in) p.4)),
+    let k = known_of_layout a.layout.now in
+    let guard = wrote_then (wrote_then c.put_implication-target.ensures c.put_implication-guarded.ensures) c.put_atoms-counters.ensures in (
+      choice_below k a.o c.requires.0 a.e c.requires.1,
+      (known_bounded k).vars_le,
+      updates_fit k a.o c.requires.0 a.e c.requires.1,
+      room_then guard (room_first _ (room_as (edge_is k a.o a.e c.requires.1) c.requires.2)),
     )
 
 pub put_resets-requires : goal.put_resets-requires
 put_resets-requires c =
     let a = c.args in
-    let p = c.requires in
-    let ends = wrote_then c.put_implication-target.ensures c.put_implication-guarded.ensures in
-    let guard = wrote_as (atoms_by p.0 a.o a.x a.e.guard) c.put_atoms-counters.ensures in (
-      p.0,
-      omega arith,
-      p.2,
-      resets_fit p.2 p.3,
-      room_then (wrote_then (wrote_then ends guard) c.put_updates-clocks.ensures)
-          (room_as (edge_kinds a.b a.x a.o a.e p.2.vars_in) p.4),
+    let k = known_of_layout a.layout.now in
+    let guard = wrote_then (wrote_then c.put_implication-target.ensures c.put_implication-guarded.ensures) c.put_atoms-counters.ensures in (
+      choice_below k a.o c.requires.0 a.e c.requires.1,
+      known_bounded k,
+      resets_fit k a.o c.requires.0 a.e c.requires.1,
+      room_then (wrote_then guard c.put_updates-clocks.ensures) (room_as (edge_is k a.o a.e c.requires.1) c.requires.2),
     )
 
 pub returns : goal.returns
 returns c =
     let a = c.args in
-    let ends = wrote_then c.put_implication-target.ensures c.put_implication-guarded.ensures in
-    let guard = wrote_as (atoms_by c.requires.0 a.o a.x a.e.guard) c.put_atoms-counters.ensures in
-    let counters = wrote_then (wrote_then ends guard) c.put_updates-clocks.ensures in
-    wrote_as (edge_kinds a.b a.x a.o a.e c.requires.2.vars_in) (wrote_then counters c.put_resets.ensures)
+    let k = known_of_layout a.layout.now in
+    let guard = wrote_then (wrote_then c.put_implication-target.ensures c.put_implication-guarded.ensures) c.put_atoms-counters.ensures in
+    wrote_as (edge_is k a.o a.e c.requires.1) (wrote_then (wrote_then guard c.put_updates-clocks.ensures) c.put_resets.ensures)

@@ -1,12 +1,8 @@
--- put_initial: the initial value of each group, a group a turn.
+-- The initial value of each group, a group a turn.
 use Rattle.model.specs.Indexed.{each}
-use Rattle.emission.proofs.TableLaws.{initial_by}
-use Prim.Native.Nat.{◌-◌, ◌≤◌}
+use Rattle.parts.specs.Pieces.{initial_piece}
 use Rattle.emission.specs.Written.{WroteClauses}
 use Rattle.emission.proofs.start.put_initial.Given as goal
 
 abbrev pub invariant-loop-g : goal.invariant-loop-g
-invariant-loop-g l = (l.g ≤ l.g-end) × WroteClauses (each l.g (initial_by l.b l.first l.initial')) l.initial.out l.out l.initial.end l.end
-
-abbrev pub decreases-loop-g : goal.decreases-loop-g
-decreases-loop-g l = l.g-end - l.g
+invariant-loop-g l = WroteClauses (each l.g (initial_piece l.layout.model l.layout.table)) l.initial.out l.out l.initial.end l.end

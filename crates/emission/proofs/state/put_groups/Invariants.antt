@@ -1,12 +1,8 @@
--- put_groups: the group clauses of each group, a group a turn, by the lent slices.
+-- The group clauses of each group, a group a turn.
 use Rattle.model.specs.Indexed.{each}
-use Rattle.emission.proofs.TableLaws.{group_by}
-use Prim.Native.Nat.{◌-◌, ◌≤◌}
+use Rattle.parts.specs.Pieces.{group_piece}
 use Rattle.emission.specs.Written.{WroteClauses}
 use Rattle.emission.proofs.state.put_groups.Given as goal
 
 abbrev pub invariant-loop-g : goal.invariant-loop-g
-invariant-loop-g l = (l.g ≤ l.g-end) × WroteClauses (each l.g (group_by l.first l.size l.o)) l.initial.out l.out l.initial.end l.end
-
-abbrev pub decreases-loop-g : goal.decreases-loop-g
-decreases-loop-g l = l.g-end - l.g
+invariant-loop-g l = WroteClauses (each l.g (group_piece l.layout.table l.o)) l.initial.out l.out l.initial.end l.end

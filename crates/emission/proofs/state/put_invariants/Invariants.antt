@@ -1,12 +1,10 @@
--- put_invariants: the invariant of each location, a location a turn.
+-- The invariant of each location, a location a turn.
 use Rattle.model.specs.Indexed.{each}
-use Rattle.emission.specs.Writable.{invariant_piece}
-use Prim.Native.Nat.{◌-◌, ◌≤◌}
+use Rattle.list.specs.Items.{invariant_of}
+use Rattle.list.specs.Clauses.{one_hot_width, clauses_of}
 use Rattle.emission.specs.Written.{WroteClauses}
 use Rattle.emission.proofs.state.put_invariants.Given as goal
 
 abbrev pub invariant-loop-l : goal.invariant-loop-l
-invariant-loop-l l = (l.l ≤ l.l-end) × WroteClauses (each l.l (invariant_piece l.b l.invariants l.o)) l.initial.out l.out l.initial.end l.end
-
-abbrev pub decreases-loop-l : goal.decreases-loop-l
-decreases-loop-l l = l.l-end - l.l
+invariant-loop-l l =
+    WroteClauses (each l.l (λ i. clauses_of (invariant_of one_hot_width l.layout.model l.o i))) l.initial.out l.out l.initial.end l.end

@@ -1,25 +1,11 @@
--- The clause, stored word by word.
-use native.Mathlib.Omega.{arith}
-use Rattle.emission.proofs.ClauseLaws.{clause_2, words_2}
+-- The clause, by the words of its literals.
+use Rattle.std.proofs.Common.{rules, [], ◌∷◌}
 use Rattle.list.specs.Clauses.{negated}
-use lib.ListN.{length, length-set}
-use Prim.Native.Nat.{◌+◌, ◌≤◌}
-use borrow.Author.Rules.{rules}
+use Rattle.emission.proofs.ClauseLaws.{wrote_clause, room_clause, stored, literals_2}
 use Rattle.emission.proofs.words.put_exclusion.Goals as goal
-use Rattle.emission.proofs.words.put_exclusion.Goals.{Start}
 
--- the clause takes three words
-room : (c : Start) → c.args.at + 3 ≤ length c.args.out.now
-room c = omega (arith, c.requires.2.words.room, words_2 (negated c.args.a) (negated c.args.b))
-
-pub bounds-out-at : goal.bounds-out-at
-bounds-out-at c = omega (arith, room c.before.before)
-
-pub bounds-out-at-2 : goal.bounds-out-at-2
-bounds-out-at-2 c = simp length-set (omega (arith, room c.before.before))
-
-pub slice_set_of-out : goal.slice_set_of-out
-slice_set_of-out c = simp length-set (omega (arith, room c.before.before))
+pub put_clause-requires : goal.put_clause-requires
+put_clause-requires c = room_clause (negated c.args.a ∷ negated c.args.b ∷ []) (literals_2 (negated c.args.a) (negated c.args.b) (stored c.negative.result c.negative.ensures (search rules)) (stored c.negative-2.result c.negative-2.ensures (search rules))) c.requires.2
 
 pub returns : goal.returns
-returns c = clause_2 _ _ _ _ _ _ c.negative-first.ensures c.negative-second.ensures (search rules) (search rules) c.requires.2
+returns c = wrote_clause (negated c.args.a ∷ negated c.args.b ∷ []) (literals_2 (negated c.args.a) (negated c.args.b) (stored c.negative.result c.negative.ensures (search rules)) (stored c.negative-2.result c.negative-2.ensures (search rules))) c.put_clause.ensures

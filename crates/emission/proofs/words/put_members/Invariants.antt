@@ -1,13 +1,11 @@
--- The clause of all members: after v turns the words of v members stand from `at` on; the last word is 0.
-use Rattle.buffer.specs.Buffers.{Wrote}
-use Rattle.list.specs.Clauses.{word, members}
-use Prim.Native.Nat.{◌+◌, ◌-◌, ◌≤◌}
-use mathlib.Core.List.{map}
-use mathlib.Core.Path.{◌≡◌}
+-- The clause of all members: the words of the members so far, in the part of the buffer that is for them.
+use Rattle.std.proofs.Common.{◌≡◌, take, length}
+use Rattle.model.specs.Indexed.{list_below}
+use Rattle.emission.proofs.Members.{member_word}
 use Rattle.emission.proofs.words.put_members.Given as goal
 
 abbrev pub invariant-loop-v : goal.invariant-loop-v
-invariant-loop-v l = (l.v ≤ l.n) × (l.end ≡ l.at + l.v) × Wrote (map word (members l.b l.v)) l.initial.out l.out l.at l.end
-
-abbrev pub decreases-loop-v : goal.decreases-loop-v
-decreases-loop-v l = l.n - l.v
+invariant-loop-v l = record {
+  long : length l.member-items ≡ l.n;
+  so_far : take l.v l.member-items ≡ list_below (member_word l.b) l.v;
+}

@@ -1,12 +1,6 @@
--- `unsigned`: the first byte decides the definition; what follows it is a part up to the end.
-use Rattle.output.proofs.ByteLaws.{unsigned_none, unsigned_minus, unsigned_bare}
+-- `unsigned`: what `strip_prefix` answers at a minus.
+use Rattle.output.proofs.WordLaws.{unsigned_is}
 use Rattle.output.proofs.literals.unsigned.Goals as goal
 
-pub returns-then-w-eq0 : goal.returns-then-w-eq0
-returns-then-w-eq0 c = unsigned_none _ c.if-w-eq0.true
-
-pub returns-then-w-eq45 : goal.returns-then-w-eq45
-returns-then-w-eq45 c = unsigned_minus _ c.if-w-eq0.false c.if-w-eq45.true
-
-pub returns-else-w-eq45 : goal.returns-else-w-eq45
-returns-else-w-eq45 c = unsigned_bare _ c.if-w-eq0.false c.if-w-eq45.false
+pub returns : goal.returns
+returns c = unsigned_is c.args.w c.strip_prefix.result c.strip_prefix.ensures.cases c.unwrap_or.ensures

@@ -7,7 +7,7 @@ use Rattle.output.proofs.placing.fresh.Given as goal
 
 abbrev pub invariant-loop-low : goal.invariant-loop-low
 invariant-loop-low l =
-    (l.low ≤ l.most + 1) × Looking (literals_of (literal_up_to l.most) l.text) l.named l.low l.bound
+    (l.low ≤ l.variables.most + 1 + 32768) × Looking (literals_of (literal_up_to l.variables.most) l.text) l.named l.low l.bound
 
 abbrev pub decreases-loop-low : goal.decreases-loop-low
-decreases-loop-low l = l.most + 2 - l.low
+decreases-loop-low l = l.variables.most + 2 + 32768 - l.low

@@ -1,11 +1,7 @@
--- check_initial: a loop of checks over the groups, one clause each, in terms of the list by the table's law.
-use Prim.Native.Nat.{◌-◌}
+-- check_initial: the first groups stand at their initial values.
 use Rattle.parts.specs.Pieces.{initial_piece}
 use Rattle.search.proofs.CheckLaws.{Upto}
 use Rattle.search.proofs.pieces.check_initial.Given as goal
 
 abbrev pub invariant-loop-g : goal.invariant-loop-g
-invariant-loop-g l = Upto l.a (initial_piece l.m l.b) 1 l.at l.g l.b.groups l.count
-
-abbrev pub decreases-loop-g : goal.decreases-loop-g
-decreases-loop-g l = l.b.groups - l.g
+invariant-loop-g l = Upto l.a (initial_piece l.layout.model l.layout.table) 1 l.fn.at l.g l.layout.table.groups l.count

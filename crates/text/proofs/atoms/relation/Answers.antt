@@ -1,51 +1,37 @@
--- `relation`: every path through the tests of the two bytes decides the definition on that path.
+-- `relation`: every case of the two bytes decides the definition.
+use Rattle.std.proofs.Common.{arith}
+use Rattle.std.proofs.lemmas.Grind.{common_steps}
 use Rattle.text.specs.atoms.Atoms.{relation_at}
-use borrow.Author.Tests.{eq-eqb, ne_eqb}
 use Rattle.text.proofs.atoms.relation.Goals as goal
 
-pub returns-then-b-eq61 : goal.returns-then-b-eq61
+pub returns-in_default : goal.returns-in_default
 unfolding relation_at
-returns-then-b-eq61 c = rw (eq-eqb _ _ c.if-a-eq60.true, eq-eqb _ _ c.if-b-eq61.true)
+returns-in_default c = grind (arith, common_steps)
 
-pub returns-then-a-eq60 : goal.returns-then-a-eq60
+pub returns-in_default-2 : goal.returns-in_default-2
 unfolding relation_at
-returns-then-a-eq60 c = rw (eq-eqb _ _ c.if-a-eq60.true, ne_eqb _ _ c.if-b-eq61.false)
+returns-in_default-2 c = grind (arith, common_steps)
 
-pub returns-then-b-eq61-2 : goal.returns-then-b-eq61-2
+pub returns-in-60-eq61 : goal.returns-in-60-eq61
 unfolding relation_at
-returns-then-b-eq61-2 c = rw (ne_eqb _ _ c.if-a-eq60.false, eq-eqb _ _ c.if-a-eq62.true, eq-eqb _ _ c.if-b-eq61-2.true)
+returns-in-60-eq61 c = grind (arith, common_steps)
 
-pub returns-then-a-eq62 : goal.returns-then-a-eq62
+pub returns-in-60-default : goal.returns-in-60-default
 unfolding relation_at
-returns-then-a-eq62 c = rw (ne_eqb _ _ c.if-a-eq60.false, eq-eqb _ _ c.if-a-eq62.true, ne_eqb _ _ c.if-b-eq61-2.false)
+returns-in-60-default c = grind (arith, common_steps)
 
-pub returns-then-a-eq61 : goal.returns-then-a-eq61
+pub returns-in-62-eq61 : goal.returns-in-62-eq61
 unfolding relation_at
-returns-then-a-eq61 c = rw (ne_eqb _ _ c.if-a-eq60.false, ne_eqb _ _ c.if-a-eq62.false, eq-eqb _ _ c.if-a-eq61.true)
+returns-in-62-eq61 c = grind (arith, common_steps)
 
-pub returns-then-b-eq61-3 : goal.returns-then-b-eq61-3
+pub returns-in-62-default : goal.returns-in-62-default
 unfolding relation_at
-returns-then-b-eq61-3 c =
-    rw (
-      ne_eqb _ _ c.if-a-eq60.false,
-      ne_eqb _ _ c.if-a-eq62.false,
-      ne_eqb _ _ c.if-a-eq61.false,
-      eq-eqb _ _ c.if-a-eq33.true,
-      eq-eqb _ _ c.if-b-eq61-3.true,
-    )
+returns-in-62-default c = grind (arith, common_steps)
 
-pub returns-then-a-eq33 : goal.returns-then-a-eq33
+pub returns-in-61-default : goal.returns-in-61-default
 unfolding relation_at
-returns-then-a-eq33 c =
-    rw (
-      ne_eqb _ _ c.if-a-eq60.false,
-      ne_eqb _ _ c.if-a-eq62.false,
-      ne_eqb _ _ c.if-a-eq61.false,
-      eq-eqb _ _ c.if-a-eq33.true,
-      ne_eqb _ _ c.if-b-eq61-3.false,
-    )
+returns-in-61-default c = grind (arith, common_steps)
 
-pub returns : goal.returns
+pub returns-in-33-eq61 : goal.returns-in-33-eq61
 unfolding relation_at
-returns c =
-    rw (ne_eqb _ _ c.if-a-eq60.false, ne_eqb _ _ c.if-a-eq62.false, ne_eqb _ _ c.if-a-eq61.false, ne_eqb _ _ c.if-a-eq33.false)
+returns-in-33-eq61 c = grind (arith, common_steps)

@@ -1,8 +1,9 @@
 -- `two_digits`: what the calls ensure is what the definition asks of two bytes.
+use Rattle.std.proofs.Common.{arith}
+use Rattle.std.proofs.lemmas.Grind.{common_steps}
 use Rattle.text.specs.bytes.Bytes.{number_of}
 use Rattle.text.proofs.bytes.two_digits.Goals as goal
 
 pub returns : goal.returns
 unfolding number_of
-returns c =
-    simp (c.number_if.ensures, c.digit-2.ensures, c.digit.ensures, c.is_digit-2.ensures, c.is_digit.ensures)
+returns c = grind (arith, common_steps)

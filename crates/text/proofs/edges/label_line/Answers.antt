@@ -1,12 +1,11 @@
--- `label_line`: a line of one number, which becomes the label of edge e (`number_reads`).
-use native.Mathlib.Omega.{arith}
-use Rattle.text.specs.lines.Lines.{label_line}
+-- `label_line`: what the closure makes of the value is what the definition of the line asks.
+use Rattle.std.proofs.Common.{rules}
+use Rattle.text.specs.bytes.Bytes.{number_in, number_of}
+use Rattle.text.specs.line.Values.{number_faults}
 use Rattle.text.specs.lines.Store.{with_label}
-use Rattle.text.proofs.lines.LineKinds.{number_reads}
+use Rattle.text.specs.lines.Lines.{label_line}
 use Rattle.text.proofs.edges.label_line.Goals as goal
 
 pub returns : goal.returns
 unfolding label_line
-returns c =
-    number_reads c.requires (λ m. with_label m _) (omega arith) c.number_due-n.ensures c.with_label-next.ensures
-    c.settled.ensures
+returns c = c.line.ensures (λ m v. number_faults 0 15 (number_of v)) (λ m v. with_label m c.args.e (number_in (number_of v))) (λ x m r k. search rules)

@@ -1,13 +1,10 @@
--- `set_line`: a line of items, which become the updates of edge e and their order (`set_reads`).
-use Rattle.text.specs.updates.Sets.{set_items}
-use Rattle.text.specs.lines.Lines.{set_line}
+-- `set_line`: what the closure makes of the value is what the definition of the line asks.
+use Rattle.std.proofs.Common.{rules}
 use Rattle.text.specs.lines.Store.{with_updates}
-use Rattle.text.proofs.lines.LineKinds.{set_reads}
+use Rattle.text.specs.updates.Sets.{order_slots, set_faults, set_items, update_slots}
+use Rattle.text.specs.lines.Lines.{set_line}
 use Rattle.text.proofs.edges.set_line.Goals as goal
 
 pub returns : goal.returns
 unfolding set_line set_items
-returns c =
-    let set_value = c.set_value-v in
-    set_reads c.requires c.due_at-d.ensures (λ m. with_updates m _) set_value.ensures c.with_updates-next.ensures
-    c.settled.ensures
+returns c = c.line.ensures (λ m v. set_faults m.vars (set_items v)) (λ m v. with_updates m c.args.e (update_slots (set_items v)) (order_slots (set_items v))) (λ x m r k. search rules)

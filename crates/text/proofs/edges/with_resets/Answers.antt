@@ -1,17 +1,9 @@
--- `with_resets`: the slot is set, or is not there (`edge_out`).
-use Rattle.text.proofs.lines.Stores.{edge_out}
-use Rattle.text.specs.lines.Store.{with_resets, with_edge}
-use Rattle.model.proofs.Known.{lengths}
-use mathlib.Core.Path.{refl}
-use native.Mathlib.Omega.{arith}
+-- `with_resets`: the edge, with this part put in.
+use Rattle.std.proofs.Common.{rules}
+use Rattle.model.specs.declared.Edge.{Edge}
+use Rattle.text.specs.lines.Store.{with_resets}
 use Rattle.text.proofs.edges.with_resets.Goals as goal
 
-pub returns-then-e-lt-EDGES : goal.returns-then-e-lt-EDGES
-unfolding with_resets with_edge
-returns-then-e-lt-EDGES c = refl
-
-pub returns-else-e-lt-EDGES : goal.returns-else-e-lt-EDGES
+pub returns : goal.returns
 unfolding with_resets
-returns-else-e-lt-EDGES c =
-    let a = c.args in
-    edge_out a.m a.e _ (omega (arith, (lengths a.m _ c.well_formed.0).edges))
+returns c = c.with_edge.ensures (λ (x : Edge). record x { resets = c.args.resets }) (λ x r k. search rules)

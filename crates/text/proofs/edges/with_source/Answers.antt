@@ -1,17 +1,9 @@
--- `with_source`: the slot is set, or is not there (`edge_out`).
-use Rattle.text.proofs.lines.Stores.{edge_out}
-use Rattle.text.specs.lines.Store.{with_source, with_edge}
-use Rattle.model.proofs.Known.{lengths}
-use mathlib.Core.Path.{refl}
-use native.Mathlib.Omega.{arith}
+-- `with_source`: the edge, with this part put in.
+use Rattle.std.proofs.Common.{rules}
+use Rattle.model.specs.declared.Edge.{Edge}
+use Rattle.text.specs.lines.Store.{with_source}
 use Rattle.text.proofs.edges.with_source.Goals as goal
 
-pub returns-then-e-lt-EDGES : goal.returns-then-e-lt-EDGES
-unfolding with_source with_edge
-returns-then-e-lt-EDGES c = refl
-
-pub returns-else-e-lt-EDGES : goal.returns-else-e-lt-EDGES
+pub returns : goal.returns
 unfolding with_source
-returns-else-e-lt-EDGES c =
-    let a = c.args in
-    edge_out a.m a.e _ (omega (arith, (lengths a.m _ c.well_formed.0).edges))
+returns c = c.with_edge.ensures (λ (x : Edge). record x { source = c.args.source }) (λ x r k. search rules)

@@ -1,12 +1,11 @@
--- `locations_line`: a line of one number, which becomes the number of locations (`number_reads`).
-use mathlib.Core.Path.{refl}
-use native.Mathlib.Omega.{arith}
-use Rattle.text.specs.lines.Lines.{locations_line}
+-- `locations_line`: what the closure makes of the value is what the definition of the line asks.
+use Rattle.std.proofs.Common.{rules}
+use Rattle.text.specs.bytes.Bytes.{number_in, number_of}
+use Rattle.text.specs.line.Values.{number_faults}
 use Rattle.text.specs.lines.Store.{with_locations}
-use Rattle.text.proofs.lines.LineKinds.{number_reads}
+use Rattle.text.specs.lines.Lines.{locations_line}
 use Rattle.text.proofs.head.locations_line.Goals as goal
 
 pub returns : goal.returns
 unfolding locations_line with_locations
-returns c =
-    number_reads c.requires with_locations (omega arith) c.number_due-n.ensures refl c.settled.ensures
+returns c = c.line.ensures (λ m v. number_faults 1 16 (number_of v)) (λ m v. with_locations m (number_in (number_of v))) (λ x m r k. search rules)

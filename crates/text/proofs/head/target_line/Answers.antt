@@ -1,11 +1,11 @@
--- `target_line`: a line of a reference, which becomes the target location (`reference_reads`).
-use mathlib.Core.Path.{refl}
-use Rattle.text.specs.lines.Lines.{target_line}
+-- `target_line`: what the closure makes of the value is what the definition of the line asks.
+use Rattle.std.proofs.Common.{rules}
+use Rattle.text.specs.bytes.Bytes.{number_in, number_of}
+use Rattle.text.specs.line.Values.{reference_faults}
 use Rattle.text.specs.lines.Store.{with_target}
-use Rattle.text.proofs.lines.LineKinds.{reference_reads}
+use Rattle.text.specs.lines.Lines.{target_line}
 use Rattle.text.proofs.head.target_line.Goals as goal
 
 pub returns : goal.returns
 unfolding target_line with_target
-returns c =
-    reference_reads c.requires with_target c.reference_due-n.ensures refl c.settled.ensures
+returns c = c.line.ensures (λ m v. reference_faults m.locations (number_of v)) (λ m v. with_target m (number_in (number_of v))) (λ x m r k. search rules)

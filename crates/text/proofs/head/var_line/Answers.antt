@@ -1,10 +1,10 @@
--- `var_line`: a line of a counter, which becomes counter i (`counter_reads`).
-use Rattle.text.specs.lines.Lines.{var_line}
+-- `var_line`: what the closure makes of the value is what the definition of the line asks.
+use Rattle.std.proofs.Common.{rules}
+use Rattle.text.specs.line.Values.{counter_faults, counter_in, greatest_of, initial_of}
 use Rattle.text.specs.lines.Store.{with_counter}
-use Rattle.text.proofs.lines.LineKinds.{counter_reads}
+use Rattle.text.specs.lines.Lines.{var_line}
 use Rattle.text.proofs.head.var_line.Goals as goal
 
 pub returns : goal.returns
 unfolding var_line
-returns c =
-    counter_reads c.requires (λ m. with_counter m _) c.counter_due-n.ensures c.with_counter-next.ensures c.settled.ensures
+returns c = c.line.ensures (λ m v. counter_faults (greatest_of v) (initial_of v)) (λ m v. with_counter m c.args.i (counter_in (greatest_of v) (initial_of v))) (λ x m r k. search rules)

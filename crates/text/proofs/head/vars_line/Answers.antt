@@ -1,12 +1,11 @@
--- `vars_line`: a line of one number, which becomes the number of counters (`number_reads`).
-use mathlib.Core.Path.{refl}
-use native.Mathlib.Omega.{arith}
-use Rattle.text.specs.lines.Lines.{vars_line}
+-- `vars_line`: what the closure makes of the value is what the definition of the line asks.
+use Rattle.std.proofs.Common.{rules}
+use Rattle.text.specs.bytes.Bytes.{number_in, number_of}
+use Rattle.text.specs.line.Values.{number_faults}
 use Rattle.text.specs.lines.Store.{with_vars}
-use Rattle.text.proofs.lines.LineKinds.{number_reads}
+use Rattle.text.specs.lines.Lines.{vars_line}
 use Rattle.text.proofs.head.vars_line.Goals as goal
 
 pub returns : goal.returns
 unfolding vars_line with_vars
-returns c =
-    number_reads c.requires with_vars (omega arith) c.number_due-n.ensures refl c.settled.ensures
+returns c = c.line.ensures (λ m v. number_faults 0 4 (number_of v)) (λ m v. with_vars m (number_in (number_of v))) (λ x m r k. search rules)

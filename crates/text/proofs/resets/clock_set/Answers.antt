@@ -1,28 +1,42 @@
--- `clock_set`: the digits are counted, := stands after them, or not, and each part is taken by its call.
-use Prim.Native.Nat.{ℕ}
-use mathlib.Core.Path.{◌≡◌, ◌∙◌, sym, ap, ap₂}
-use mathlib.Core.Bool.{true, false}
-use lib.ListN.{take, drop}
-use Rattle.text.specs.bytes.Bytes.{number_of, following, assigns}
-use Rattle.text.specs.resets.Resets.{reset_named, copy_named, source_of, clock_set}
+-- `clock_set`: a clock and the one that it becomes a copy of, or a clock alone; each part is read, or not.
+use Rattle.std.proofs.Common.{◌≡◌, ◌∙◌, sym, drop, true, false, None, Some}
+use Rattle.text.specs.bytes.Bytes.{number_of, leading, following, assigns}
+use Rattle.text.specs.resets.Resets.{source_of, clock_set}
 use Rattle.text.proofs.resets.clock_set.Goals as goal
 
-pub returns-then-assigns : goal.returns-then-assigns
+pub returns-in_err-clock : goal.returns-in_err-clock
 unfolding clock_set
-returns-then-assigns c =
-    let digits = c.digits-d.ensures.is in
-    let s = c.args.s.now in
-    let rest = c.tail-u.ensures ∙ ap (λ (n : ℕ). drop n s) digits in
-    let is-copy : assigns (following s) ≡ true = ap assigns (sym rest) ∙ sym c.assigns.ensures ∙ c.if-assigns.true in
-    let clock = c.number.ensures ∙ ap number_of (c.head.ensures ∙ ap (λ (n : ℕ). take n s) digits) in
-    let source = c.source.ensures ∙ ap source_of (c.tail.ensures ∙ ap (drop 2) rest) in
-    rw is-copy (c.copy_named.ensures ∙ ap₂ copy_named clock source)
+returns-in_err-clock c =
+    let named : assigns (following c.args.s.now) ≡ true = rw (← c.leading-clock.ensures.1, ← c.assigns.ensures) c.if-assigns.true in
+    let clock : leading c.args.s.now ≡ None = sym c.leading-clock.ensures.0 ∙ c.in_err-clock.was in
+    rw (c.from_residual.ensures, named, clock)
 
-pub returns-else-assigns : goal.returns-else-assigns
+pub returns-in_err-source : goal.returns-in_err-source
 unfolding clock_set
-returns-else-assigns c =
-    let digits = c.digits-d.ensures.is in
-    let s = c.args.s.now in
-    let rest = c.tail-u.ensures ∙ ap (λ (n : ℕ). drop n s) digits in
-    let is-reset : assigns (following s) ≡ false = ap assigns (sym rest) ∙ sym c.assigns.ensures ∙ c.if-assigns.false in
-    rw is-reset (c.reset_named.ensures ∙ ap reset_named c.number-else-assigns.ensures)
+returns-in_err-source c =
+    let named : assigns (following c.args.s.now) ≡ true = rw (← c.leading-clock.ensures.1, ← c.assigns.ensures) c.if-assigns.true in
+    let clock : leading c.args.s.now ≡ Some c.in_ok-clock.clock = sym c.leading-clock.ensures.0 ∙ c.in_ok-clock.was in
+    let source : source_of (drop 2 (following c.args.s.now)) ≡ None = rw (← c.leading-clock.ensures.1, ← c.tail.ensures, ← c.source.ensures) c.in_err-source.was in
+    rw (c.from_residual-in_err-source.ensures, named, clock, source)
+
+pub returns-in_err-number : goal.returns-in_err-number
+unfolding clock_set
+returns-in_err-number c =
+    let alone : assigns (following c.args.s.now) ≡ false = rw (← c.leading-clock.ensures.1, ← c.assigns.ensures) c.if-assigns.false in
+    let n : number_of c.args.s.now ≡ None = sym c.number.ensures ∙ c.in_err-number.was in
+    rw (c.from_residual-in_err-number.ensures, alone, n)
+
+pub returns-in_ok-source : goal.returns-in_ok-source
+unfolding clock_set
+returns-in_ok-source c =
+    let named : assigns (following c.args.s.now) ≡ true = rw (← c.leading-clock.ensures.1, ← c.assigns.ensures) c.if-assigns.true in
+    let clock : leading c.args.s.now ≡ Some c.in_ok-clock.clock = sym c.leading-clock.ensures.0 ∙ c.in_ok-clock.was in
+    let source : source_of (drop 2 (following c.args.s.now)) ≡ Some c.in_ok-source.source = rw (← c.leading-clock.ensures.1, ← c.tail.ensures, ← c.source.ensures) c.in_ok-source.was in
+    rw (named, clock, source)
+
+pub returns-in_ok-number : goal.returns-in_ok-number
+unfolding clock_set
+returns-in_ok-number c =
+    let alone : assigns (following c.args.s.now) ≡ false = rw (← c.leading-clock.ensures.1, ← c.assigns.ensures) c.if-assigns.false in
+    let n : number_of c.args.s.now ≡ Some c.in_ok-number.field-0 = sym c.number.ensures ∙ c.in_ok-number.was in
+    rw (alone, n)

@@ -1,14 +1,17 @@
--- `item`: the first byte is x, and the clock set follows; or the item is malformed.
-use Rattle.text.specs.resets.Resets.{clock_set, reset_of}
-use borrow.Author.Tests.{eq-eqb, ne_eqb}
-use mathlib.Core.Path.{◌∙◌, ap}
+-- `item`: x stands first, or not.
+use Rattle.std.proofs.Common.{◌≡◌, ◌==◌, ◌∙◌, sym, get_or, true, false}
+use Rattle.text.specs.resets.Resets.{reset_of}
+use Rattle.text.proofs.bytes.Library.{x_first}
 use Rattle.text.proofs.resets.item.Goals as goal
 
-pub returns-then-byte-eq120 : goal.returns-then-byte-eq120
+pub returns-in_err-set : goal.returns-in_err-set
 unfolding reset_of
-returns-then-byte-eq120 c =
-    rw (← c.byte.ensures, eq-eqb _ _ c.if-byte-eq120.true) (c.clock_set.ensures ∙ ap clock_set c.tail.ensures)
+returns-in_err-set c =
+    let other : (get_or c.args.s.now 0 0 == 120) ≡ false = sym (x_first c.args.s.now) ∙ c.in_err-set.ensures.cases in
+    rw (c.from_residual.ensures, other)
 
-pub returns-else-byte-eq120 : goal.returns-else-byte-eq120
+pub returns : goal.returns
 unfolding reset_of
-returns-else-byte-eq120 c = rw (← c.byte.ensures, ne_eqb _ _ c.if-byte-eq120.false)
+returns c =
+    let first : (get_or c.args.s.now 0 0 == 120) ≡ true = sym (x_first c.args.s.now) ∙ c.in_ok-set.ensures.cases.0 in
+    rw (first, ← c.in_ok-set.ensures.cases.1) c.clock_set.ensures

@@ -1,9 +1,28 @@
--- `reset_value`: what one pass collects comes to the tests over all items (`by_stages`).
-use borrow.Author.Rules.{rules}
-use Rattle.text.proofs.resets.Stages.{by_stages}
-use Rattle.text.specs.resets.OnePass.{collected}
-use mathlib.Core.Path.{◌∙◌, ap}
+-- `reset_value`: what one pass collects comes to the tests over all items (`by_stages`, `by_fault`).
+use Rattle.std.proofs.Common.{rules, tests, ◌≡◌, ◌∙◌, Err, map}
+use mathlib.Core.List.{foldl}
+use Rattle.text.specs.bytes.Bytes.{items_of}
+use Rattle.text.specs.resets.Resets.{reset_of}
+use Rattle.text.specs.resets.OnePass.{absorbed, no_resets}
+use Rattle.text.proofs.bytes.Library.{folds_each}
+use Rattle.text.proofs.resets.Stages.{by_stages, by_fault}
 use Rattle.text.proofs.resets.reset_value.Goals as goal
 
+pub returns-in_err-check : goal.returns-in_err-check
+unfolding no_resets
+returns-in_err-check c =
+    let e : c.from_residual.result ≡ Err c.in_err-check.field-0.0 = search rules in
+    let step = absorbed c.args.clocks in
+    let items = items_of c.args.v.now in
+    let read : c.absorbed-read.result ≡ foldl step no_resets (map reset_of items) =
+    c.absorbed-read.ensures (λ s x. step s (reset_of x)) (λ s x r q k. search (rules, tests)) ∙ folds_each step reset_of no_resets items in
+    rw e (by_fault c.args.clocks (search rules) _ _ read _ c.in_err-check.ensures)
+
 pub returns : goal.returns
-returns c = c.collected.ensures ∙ ap collected c.absorb_value.ensures ∙ by_stages _ (search rules) _
+unfolding no_resets
+returns c =
+    let step = absorbed c.args.clocks in
+    let items = items_of c.args.v.now in
+    let read : c.absorbed-read.result ≡ foldl step no_resets (map reset_of items) =
+    c.absorbed-read.ensures (λ s x. step s (reset_of x)) (λ s x r q k. search (rules, tests)) ∙ folds_each step reset_of no_resets items in
+    by_stages c.args.clocks (search rules) _ _ read c.in_ok-check.ensures

@@ -1,15 +1,17 @@
--- `source`: the first byte is x, and a number follows; or the source is malformed.
+-- `source`: x stands first, or not.
+use Rattle.std.proofs.Common.{◌≡◌, ◌==◌, ◌∙◌, sym, get_or, true, false}
 use Rattle.text.specs.resets.Resets.{source_of}
-use Rattle.text.specs.bytes.Bytes.{number_of}
-use borrow.Author.Tests.{eq-eqb, ne_eqb}
-use mathlib.Core.Path.{◌∙◌, ap}
+use Rattle.text.proofs.bytes.Library.{x_first}
 use Rattle.text.proofs.resets.source.Goals as goal
 
-pub returns-then-byte-eq120 : goal.returns-then-byte-eq120
+pub returns-in_err-number : goal.returns-in_err-number
 unfolding source_of
-returns-then-byte-eq120 c =
-    rw (← c.byte.ensures, eq-eqb _ _ c.if-byte-eq120.true) (c.number.ensures ∙ ap number_of c.tail.ensures)
+returns-in_err-number c =
+    let other : (get_or c.args.s.now 0 0 == 120) ≡ false = sym (x_first c.args.s.now) ∙ c.in_err-number.ensures.cases in
+    rw (c.from_residual.ensures, other)
 
-pub returns-else-byte-eq120 : goal.returns-else-byte-eq120
+pub returns : goal.returns
 unfolding source_of
-returns-else-byte-eq120 c = rw (← c.byte.ensures, ne_eqb _ _ c.if-byte-eq120.false)
+returns c =
+    let first : (get_or c.args.s.now 0 0 == 120) ≡ true = sym (x_first c.args.s.now) ∙ c.in_ok-number.ensures.cases.0 in
+    rw (first, ← c.in_ok-number.ensures.cases.1) c.number.ensures

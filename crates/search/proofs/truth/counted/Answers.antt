@@ -1,8 +1,0 @@
--- counted: the answer for one clause, by cases on its truth.
-use Rattle.search.proofs.truth.counted.Goals as goal
-
-pub returns-then-ok : goal.returns-then-ok
-returns-then-ok c = rw c.if-ok.true
-
-pub returns-else-ok : goal.returns-else-ok
-returns-else-ok c = rw c.if-ok.false

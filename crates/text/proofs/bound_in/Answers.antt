@@ -1,5 +1,0 @@
--- `bound_in`: the number is read, or not.
-use Rattle.text.proofs.bound_in.Goals as goal
-
-pub returns-in-Number : goal.returns-in-Number
-returns-in-Number c = rw c.in-Number.is

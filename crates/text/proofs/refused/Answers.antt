@@ -1,5 +1,0 @@
--- `refused`: the model is the blank one.
-use Rattle.text.proofs.refused.Goals as goal
-
-pub returns : goal.returns
-returns c = rw c.blank-model.ensures
