@@ -10,51 +10,43 @@ use std::io;
 mod answers;
 mod calls;
 mod numbers;
-mod print;
 mod records;
 
 // How many bytes of the input are read at most.
 const LONGEST: usize = 65536;
 
 fn command(rt: &impl Print, m: Model, n: Numbers) -> io::Result<Model> {
-    let values = n.values;
-    let op = values[0];
-    if op < 10 {
-        return Ok(records::changed(m, values));
-    }
-    match op {
+    let v = n.values;
+    match v[0] {
+        0..=9 => return Ok(records::changed(m, v)),
         10 => answers::formed(rt, m)?,
         11 => answers::ceiling(rt, m)?,
-        12 => answers::totals_for(rt, m, values[1])?,
-        13 => answers::walked(rt, m, values, n.last)?,
-        14 => answers::stepped(rt, m, values)?,
-        15 => calls::counted(rt, m, values[1])?,
-        16 => calls::emitted(rt, m, values[1], values[2], values[3])?,
-        17 => calls::encoded(rt, m, values, n.last)?,
-        18 => calls::decoded(rt, m, values, n.last)?,
+        12 => answers::totals_for(rt, m, v[1])?,
+        13 => answers::walked(rt, m, n)?,
+        14 => answers::stepped(rt, m, v)?,
+        15 => calls::counted(rt, m, v[1])?,
+        16 => calls::emitted(rt, m, v[1], v[2], v[3])?,
+        17 => calls::encoded(rt, m, n)?,
+        18 => calls::decoded(rt, m, n)?,
         _ => answers::unknown(rt)?,
     }
     Ok(m)
 }
 
+// One line, without its LF.
 fn line(rt: &impl Print, s: &[u8], m: Model) -> io::Result<Model> {
-    if 0 < s.len() {
-        if s[0] == b'#' {
-            rt.write_all(s)?;
-            rt.print("\n")?;
-            return Ok(m);
-        }
+    if s.starts_with(b"#") {
+        rt.write_all(s)?;
+        rt.print("\n")?;
+        return Ok(m);
     }
     command(rt, m, numbers::read(s))
 }
 
 fn run(rt: &impl Print, s: &[u8]) -> io::Result<()> {
     let mut m = Model::blank();
-    let mut at = 0;
-    while at < s.len() {
-        let e = numbers::line_end(s, at);
-        m = line(rt, &s[at..e], m)?;
-        at = e + 1;
+    for each in s.split_inclusive(|&b| b == b'\n') {
+        m = line(rt, each.strip_suffix(b"\n").unwrap_or(each), m)?;
     }
     Ok(())
 }

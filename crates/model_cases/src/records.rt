@@ -1,6 +1,4 @@
 // Changes to a record: any byte in any field.
-ghost use Rattle.std.specs.Prelude.{◌<◌};
-
 use model::{Atom, ClockUpdate, Counter, Invariant, Model, Relation, Update};
 
 // 0 n: a model to begin with.
@@ -44,15 +42,15 @@ fn atom(sort: u8, index: u8, relate: u8, constant: u8) -> Atom {
     match sort {
         0 => Atom::Blank,
         1 => Atom::OnClock {
-                clock: index,
-                relation,
-                constant,
-            },
+            clock: index,
+            relation,
+            constant,
+        },
         _ => Atom::OnCounter {
-                counter: index,
-                relation,
-                constant,
-            },
+            counter: index,
+            relation,
+            constant,
+        },
     }
 }
 
@@ -83,100 +81,37 @@ fn reset(sort: u8, source: u8) -> ClockUpdate {
     }
 }
 
-// 2 i greatest initial
-fn with_counter(mut m: Model, i: usize, greatest: u8, initial: u8) -> Model
-    requires { i < 4 }
-{
-    m.counters[i] = Counter { greatest, initial };
-    m
-}
-
-// 3 l k atom
-fn with_invariant(mut m: Model, l: usize, k: usize, a: Atom) -> Model
-    requires { (l < 16) × (k < 4) }
-{
-    let mut v = m.invariants[l];
-    v.atoms[k] = a;
-    m.invariants[l] = v;
-    m
-}
-
-// 4 e source target
-fn with_ends(mut m: Model, e: usize, source: u8, target: u8) -> Model
-    requires { e < 32 }
-{
-    let mut edge = m.edges[e];
-    edge.source = source;
-    edge.target = target;
-    m.edges[e] = edge;
-    m
-}
-
-// 5 e k atom
-fn with_guard(mut m: Model, e: usize, k: usize, a: Atom) -> Model
-    requires { (e < 32) × (k < 4) }
-{
-    let mut edge = m.edges[e];
-    edge.guard[k] = a;
-    m.edges[e] = edge;
-    m
-}
-
-// 6 e k update
-fn with_update(mut m: Model, e: usize, k: usize, u: Update) -> Model
-    requires { (e < 32) × (k < 4) }
-{
-    let mut edge = m.edges[e];
-    edge.updates[k] = u;
-    m.edges[e] = edge;
-    m
-}
-
-// 7 e k reset
-fn with_reset(mut m: Model, e: usize, k: usize, u: ClockUpdate) -> Model
-    requires { (e < 32) × (k < 4) }
-{
-    let mut edge = m.edges[e];
-    edge.resets[k] = u;
-    m.edges[e] = edge;
-    m
-}
-
-// 8 e k counter
-fn with_order(mut m: Model, e: usize, k: usize, counter: u8) -> Model
-    requires { (e < 32) × (k < 4) }
-{
-    let mut edge = m.edges[e];
-    edge.order[k] = counter;
-    m.edges[e] = edge;
-    m
-}
-
-// 9 e label
-fn with_label(mut m: Model, e: usize, label: u8) -> Model
-    requires { e < 32 }
-{
-    let mut edge = m.edges[e];
-    edge.label = label;
-    m.edges[e] = edge;
-    m
-}
-
-// The record after one change; `v` holds the numbers of the line.
-pub(crate) fn changed(m: Model, v: [u8; 80]) -> Model {
-    let op = v[0];
+// The record after one change, by its number; `v` holds the numbers of the line.
+pub(crate) fn changed(mut m: Model, v: [u8; 80]) -> Model {
     let i = (v[1] % 32) as usize;
     let k = (v[2] % 4) as usize;
-    match op {
-        0 => base(v[1]),
-        1 => head(m, v[1], v[2]),
-        2 => with_counter(m, i % 4, v[2], v[3]),
-        3 => with_invariant(m, i % 16, k, atom(v[3], v[4], v[5], v[6])),
-        4 => with_ends(m, i, v[2], v[3]),
-        5 => with_guard(m, i, k, atom(v[3], v[4], v[5], v[6])),
-        6 => with_update(m, i, k, update(v[3], v[4], v[5])),
-        7 => with_reset(m, i, k, reset(v[3], v[4])),
-        8 => with_order(m, i, k, v[3]),
-        _ => with_label(m, i, v[2]),
+    match v[0] {
+        0 => m = base(v[1]),
+        1 => m = head(m, v[1], v[2]),
+        // i greatest initial
+        2 => {
+            m.counters[i % 4] = Counter {
+                greatest: v[2],
+                initial: v[3],
+            }
+        }
+        // l k atom
+        3 => m.invariants[i % 16].atoms[k] = atom(v[3], v[4], v[5], v[6]),
+        // e source target
+        4 => {
+            m.edges[i].source = v[2];
+            m.edges[i].target = v[3];
+        }
+        // e k atom
+        5 => m.edges[i].guard[k] = atom(v[3], v[4], v[5], v[6]),
+        // e k update
+        6 => m.edges[i].updates[k] = update(v[3], v[4], v[5]),
+        // e k reset
+        7 => m.edges[i].resets[k] = reset(v[3], v[4]),
+        // e k counter
+        8 => m.edges[i].order[k] = v[3],
+        // e label
+        _ => m.edges[i].label = v[2],
     }
+    m
 }
