@@ -1,17 +1,19 @@
 -- Loops over the bytes of an assignment: the first byte that is not 0 or 1, the place of the true member of a group, the bytes of the run.
-use mathlib.Core.Path.{◌≡◌, refl, sym, ap, ◌∙◌}
+use mathlib.Core.Path.{◌≡◌, refl, sym, ap, ap₂, ◌∙◌}
 use mathlib.Core.Logic.{◌↔◌}
 use mathlib.Core.Bool.{Bool, true, false, cond}
-use mathlib.Core.List.{List, [], ◌∷◌, ◌++◌}
-use Rattle.std.specs.Prelude.{None, Some}
-use Prim.Native.Nat.{ℕ, suc, ◌+◌, ◌*◌, ◌-◌, ◌≤◌, ◌<◌}
+use mathlib.Core.List.{List, [], ◌∷◌}
+use Rattle.std.specs.Prelude.{Option, None, Some}
+use Prim.Native.Nat.{ℕ, zero, suc, ◌+◌, ◌*◌, ◌≤◌, ◌<◌}
 use native.Mathlib.Nat.{mul-le-mul_right, zero-add}
 use native.Mathlib.Numerals.{add-one}
 use native.Mathlib.Omega.{arith}
-use lib.Dec.{ltb}
-use lib.ListN.{length, get_or, take, drop, set, take-append-drop}
-use lib.Seq.{drop-cons, drop-set-lt, drop-drop}
-use borrow.Author.Tests.{ltb-true, ltb-false}
+use lib.Dec.{ltb, eqb}
+use Rattle.std.specs.List.{position_or_len}
+use Rattle.std.specs.Option.{unwrap_or}
+use lib.ListN.{length, get_or, take, drop, length-drop}
+use lib.Seq.{drop-cons, length-take-le}
+use borrow.Author.Tests.{lt-ltb, le-ltb, ltb-true, ltb-false}
 use Rattle.model.specs.declared.Model.{Model}
 use Rattle.model.specs.declared.Totals.{Totals}
 use Rattle.model.specs.Bounds.{KnownTotals}
@@ -25,22 +27,36 @@ use Rattle.list.specs.Items.{state_width}
 use Rattle.list.specs.Clauses.{one_hot_width}
 use Rattle.decode.specs.DecodeCall.{first_wrong_byte}
 
--- ---- the first byte that is not 0 or 1, from index i on
-pub wrong_none : (i : ℕ) → first_wrong_byte i [] ≡ None
+-- ---- the first byte that is not 0 or 1, where the bytes are counted from i
+at_first : (n i : ℕ) → cond {A = Option ℕ} (ltb 0 (suc n)) (Some (i + 0)) None ≡ Some i
+at_first n i = let e : i + 0 ≡ i = omega arith in rw (lt-ltb 0 (suc n) (omega arith)) (ap Some e)
+
+at_next : (p n i : ℕ) → cond {A = Option ℕ} (ltb (1 + p) (suc n)) (Some (i + (1 + p))) None ≡ cond (ltb p n) (Some (i + 1 + p)) None
+at_next p n i = by (ltb p n) refl
+  where
+    by : (b : Bool) → ltb p n ≡ b → cond {A = Option ℕ} (ltb (1 + p) (suc n)) (Some (i + (1 + p))) None ≡ cond b (Some (i + 1 + p)) None
+    by true q = let e : i + (1 + p) ≡ i + 1 + p = omega arith in rw (lt-ltb (1 + p) (suc n) (omega (arith, ltb-true p n q))) (ap Some e)
+    by false q = rw (le-ltb (1 + p) (suc n) (omega (arith, ltb-false p n q)))
+
+found_from : (a : List ℕ) (i : ℕ)
+    → cond (ltb (position_or_len (λ x. ltb 1 x) a) (length a)) (Some (i + position_or_len (λ x. ltb 1 x) a)) None ≡ first_wrong_byte i a
 unfolding first_wrong_byte
-wrong_none i = refl
+found_from [] i = refl
+found_from (x ∷ a) i = go (ltb 1 x) refl (found_from a (i + 1))
+  where
+    at : ℕ
+    at = position_or_len (λ x. ltb 1 x) a
 
-module _ (a : List ℕ) (i : ℕ) (l : i < length a) where
-  left : drop i a ≡ get_or a i 0 ∷ drop (i + 1) a
-  left = drop-cons a i 0 l ∙ ap (λ (n : ℕ). get_or a i 0 ∷ drop n a) (sym (add-one i))
+    go : (b : Bool) → ltb 1 x ≡ b → cond (ltb at (length a)) (Some (i + 1 + at)) None ≡ first_wrong_byte (i + 1) a
+        → cond (ltb (position_or_len (λ x. ltb 1 x) (x ∷ a)) (suc (length a))) (Some (i + position_or_len (λ x. ltb 1 x) (x ∷ a))) None
+        ≡ cond b (Some i) (first_wrong_byte (i + 1) a)
+    go true e ih = rw e (at_first (length a) i)
+    go false e ih = rw e (at_next at (length a) i ∙ ih)
 
-  pub wrong_here : ltb 1 (get_or a i 0) ≡ true → first_wrong_byte i (drop i a) ≡ Some i
-  unfolding first_wrong_byte
-  wrong_here h = ap (first_wrong_byte i) left ∙ rw h
-
-  pub wrong_later : ltb 1 (get_or a i 0) ≡ false → first_wrong_byte i (drop i a) ≡ first_wrong_byte (i + 1) (drop (i + 1) a)
-  unfolding first_wrong_byte
-  wrong_later h = ap (first_wrong_byte i) left ∙ rw h
+pub found_first : (a : List ℕ)
+    → cond (ltb (position_or_len (λ x. ltb 1 x) a) (length a)) (Some (position_or_len (λ x. ltb 1 x) a)) None ≡ first_wrong_byte 0 a
+found_first a =
+    ap (λ (n : ℕ). cond (ltb (position_or_len (λ x. ltb 1 x) a) (length a)) (Some n) None) (sym (zero-add (position_or_len (λ x. ltb 1 x) a))) ∙ found_from a 0
 
 -- there is none exactly if each byte is 0 or 1
 pub wrong_iff : (a : List ℕ) (i : ℕ) → (first_wrong_byte i a ≡ None) ↔ Binary a
@@ -53,31 +69,43 @@ wrong_iff (x ∷ a) i = go (ltb 1 x) refl (wrong_iff a (i + 1))
     go true e ih = ((λ h. absurd (some_none (sym h))), λ h. absurd (omega (arith, ltb-true 1 x e, h.0)))
     go false e ih = ((λ h. (omega (arith, ltb-false 1 x e), ih.0 h)), λ h. ih.1 h.1)
 
--- ---- the place of the true member: v members of the group at b are passed
-module _ (a : List ℕ) (b n v : ℕ) (l : v < n) where
-  one_less : n - v ≡ suc (n - (v + 1))
-  one_less = omega arith
-
-  next : b + v + 1 ≡ b + (v + 1)
-  next = omega arith
-
-  pub place_here : bit a (b + v) ≡ true → place_of_true a (b + v) (n - v) ≡ 0
-  unfolding place_of_true
-  place_here h = ap (place_of_true a (b + v)) one_less ∙ rw h
-
-  pub place_later : bit a (b + v) ≡ false → place_of_true a (b + v) (n - v) ≡ place_of_true a (b + (v + 1)) (n - (v + 1)) + 1
-  unfolding place_of_true
-  place_later h = ap (place_of_true a (b + v)) one_less ∙ rw h (ap (λ (x : ℕ). place_of_true a x (n - (v + 1)) + 1) next)
-
-pub place_none : (a : List ℕ) (b n : ℕ) → n ≡ 0 → place_of_true a b n ≡ 0
+-- ---- the place of the true member of the group of n members at b
+pub place_is : (a : List ℕ) (b n : ℕ) → b + n ≤ length a → position_or_len (λ x. eqb x 1) (take n (drop b a)) ≡ place_of_true a b n
 unfolding place_of_true
-place_none a b n h = ap (place_of_true a b) h
+place_is a b zero h = refl
+place_is a b (suc n) h =
+    let here : b < length a = omega (arith, h) in
+    ap (λ (l : List ℕ). position_or_len (λ x. eqb x 1) (take (suc n) l)) (drop-cons a b 0 here ∙ ap (λ (k : ℕ). get_or a b 0 ∷ drop k a) (sym (add-one b)))
+    ∙ go (bit a b) refl (place_is a (b + 1) n (omega (arith, h)))
+  where
+    go : (x : Bool) → bit a b ≡ x → position_or_len (λ x. eqb x 1) (take n (drop (b + 1) a)) ≡ place_of_true a (b + 1) n
+        → position_or_len (λ x. eqb x 1) (get_or a b 0 ∷ take n (drop (b + 1) a)) ≡ cond x 0 (place_of_true a (b + 1) n + 1)
+    go true e ih = rw e refl
+    go false e ih = rw e (omega (arith, ih))
 
-pub place_start : (a : List ℕ) (b n : ℕ) → place_of_true a b n ≡ 0 + place_of_true a (b + 0) (n - 0)
-place_start a b n =
-    let p : b ≡ b + 0 = omega arith in
-    let q : n ≡ n - 0 = omega arith in
-    ap (λ (x : ℕ). place_of_true a x n) p ∙ ap (place_of_true a (b + 0)) q ∙ sym (zero-add (place_of_true a (b + 0) (n - 0)))
+pub place_most : (a : List ℕ) (b n : ℕ) → place_of_true a b n ≤ n
+unfolding place_of_true
+place_most a b zero = omega arith
+place_most a b (suc n) = go (bit a b) (place_most a (b + 1) n)
+  where
+    go : (x : Bool) → place_of_true a (b + 1) n ≤ n → cond x 0 (place_of_true a (b + 1) n + 1) ≤ suc n
+    go true h = omega arith
+    go false h = omega (arith, h)
+
+pub place_found : (a : List ℕ) (b n k : ℕ) {r : Option ℕ} → b + n ≤ length a → k ≡ n
+    → r ≡ cond (ltb (position_or_len (λ x. eqb x 1) (take k (drop b a))) (length (take k (drop b a)))) (Some (position_or_len (λ x. eqb x 1) (take k (drop b a)))) None
+    → unwrap_or r n ≡ place_of_true a b n
+place_found a b n k {r} h e q =
+    let long : length (take n (drop b a)) ≡ n = length-take-le n (drop b a) (omega (arith, length-drop b a, h)) in
+    ap (λ (o : Option ℕ). unwrap_or o n)
+    (q
+    ∙ ap (λ (j : ℕ). cond {A = Option ℕ} (ltb (position_or_len (λ x. eqb x 1) (take j (drop b a))) (length (take j (drop b a)))) (Some (position_or_len (λ x. eqb x 1) (take j (drop b a)))) None) e
+    ∙ ap₂ (λ (p l : ℕ). cond {A = Option ℕ} (ltb p l) (Some p) None) (place_is a b n h) long)
+    ∙ by (ltb (place_of_true a b n) n) refl
+  where
+    by : (x : Bool) → ltb (place_of_true a b n) n ≡ x → unwrap_or (cond {A = Option ℕ} x (Some (place_of_true a b n)) None) n ≡ place_of_true a b n
+    by true t = refl
+    by false t = omega (arith, ltb-false (place_of_true a b n) n t, place_most a b n)
 
 -- ---- the bytes of the run, where a state block has S bytes and a choice block H
 unfoldable pub step_byte : List ℕ → ℕ → ℕ → ℕ → ℕ
@@ -103,12 +131,3 @@ step_fits m k t n z h l p =
     ∙ ap (λ (x : ℕ). z.state + k * (z.state + x)) (sym H) in
     let q : t + 1 ≤ k = omega arith in
     omega (arith, mul-le-mul_right (z.state + z.choices) q)
-
--- one more byte is stored: what lies beyond is unchanged
-pub beyond : (old new : List ℕ) (t x : ℕ) → drop t new ≡ drop t old → drop (t + 1) (set new t x) ≡ drop (t + 1) old
-beyond old new t x h = drop-set-lt (t + 1) new t x (omega arith) ∙ sym (drop-drop 1 t new) ∙ ap (drop 1) h ∙ drop-drop 1 t old
-
-pub run_written : (m : Model) (k : ℕ) (a old new : List ℕ) (z : Totals) → KnownTotals m z → take k new ≡ list_below (step_byte a z.state z.choices) k
-    → drop k new ≡ drop k old → new ≡ run_of m k a ++ drop k old
-run_written m k a old new z h p q =
-    sym (take-append-drop k new) ∙ ap (λ (l : List ℕ). l ++ drop k new) (p ∙ run_is m k a z h) ∙ ap (λ (l : List ℕ). run_of m k a ++ l) q

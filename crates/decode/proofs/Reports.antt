@@ -1,28 +1,32 @@
 -- The report of the call and what it leaves in the run buffer, by the tests that decide them; which assignments it accepts.
-use mathlib.Core.Path.{◌≡◌, refl, sym, ap, subst, ◌∙◌}
+use mathlib.Core.Path.{◌≡◌, refl, sym, ap, subst}
 use mathlib.Core.Logic.{◌↔◌}
 use mathlib.Core.Bool.{Bool, true, false, not, cond}
 use mathlib.Core.List.{List, ◌++◌}
-use Rattle.std.specs.Prelude.{Option, None, Some}
+use Rattle.std.specs.Prelude.{Option, None, Some, Err}
 use Prim.Native.Nat.{ℕ, ◌≤◌}
 use native.Mathlib.Omega.{arith}
 use lib.Dec.{T, ltb, eqb}
 use lib.ListN.{length, drop}
-use borrow.Author.Tests.{ltb-false, le-ltb, eq-eqb}
+use borrow.Author.Tests.{ltb-false, lt-ltb, le-ltb, eq-eqb}
 use Rattle.model.specs.declared.Model.{Model}
 use Rattle.model.specs.Indexed.{maybe}
 use Rattle.model.specs.Automaton.{variables}
 use Rattle.model.specs.Form.{well_formed}
 use Rattle.model.specs.Refusal.{Refusal, refusal, accepted, is_accepted}
 use Rattle.model.proofs.IndexedLaws.{T_true, eq_T}
+use Rattle.form.specs.declared.ListRefusal.{ListRefusal}
+use Rattle.form.specs.declared.ListRefusal.TheVariants.{NotWellFormed as MalformedRecord, BoundTooLarge as LargeBound}
+use Rattle.form.specs.BoundCheck.{bound_checked}
+use Rattle.form.proofs.BoundLaws.{bound_20, bound_21}
 use Rattle.list.specs.Clauses.{clauses}
 use Rattle.list.specs.Assignments.{first_false, run_of}
 use Rattle.list.specs.Demands.{Satisfies}
 use Rattle.list.proofs.Searching.{first_false_none}
-use Rattle.decode.specs.DecodeCall.{first_wrong_byte, decode_report, decode_left}
+use Rattle.decode.specs.DecodeCall.{first_wrong_byte, decode_report, decode_left, decode_refusal, list_refused}
 use Rattle.decode.proofs.Bytes.{wrong_iff}
 
--- ---- the rows of the table, in their order
+-- ---- rows of the table
 module _ (m : Model) (k : ℕ) (a : List ℕ) (n : ℕ) where
   pub report_20 : well_formed m ≡ false → decode_report m k a n ≡ refusal 20 0
   unfolding decode_report
@@ -33,29 +37,10 @@ module _ (m : Model) (k : ℕ) (a : List ℕ) (n : ℕ) where
     unfolding decode_report
     report_21 b = rw (w, b)
 
-    module _ (b : ltb 64 k ≡ false) where
-      pub report_23 : eqb (length a) (variables m k) ≡ false → decode_report m k a n ≡ refusal 23 0
-      unfolding decode_report
-      report_23 l = rw (w, b, l)
-
-      module _ (l : eqb (length a) (variables m k) ≡ true) where
-        pub report_24 : {i : ℕ} → first_wrong_byte 0 a ≡ Some i → decode_report m k a n ≡ refusal 24 i
-        unfolding decode_report
-        report_24 h = rw (w, b, l, h)
-
-        module _ (h : first_wrong_byte 0 a ≡ None) where
-          pub report_25 : ltb n k ≡ true → decode_report m k a n ≡ refusal 25 0
-          unfolding decode_report
-          report_25 s = rw (w, b, l, h, s)
-
-          module _ (s : ltb n k ≡ false) where
-            pub report_26 : {i : ℕ} → first_false a (clauses m k) ≡ Some i → decode_report m k a n ≡ refusal 26 i
-            unfolding decode_report
-            report_26 f = rw (w, b, l, h, s, f)
-
-            pub report_0 : first_false a (clauses m k) ≡ None → decode_report m k a n ≡ accepted
-            unfolding decode_report
-            report_0 f = rw (w, b, l, h, s, f)
+  pub report_0 : well_formed m ≡ true → ltb 64 k ≡ false → eqb (length a) (variables m k) ≡ true → first_wrong_byte 0 a ≡ None → ltb n k ≡ false
+      → first_false a (clauses m k) ≡ None → decode_report m k a n ≡ accepted
+  unfolding decode_report
+  report_0 w b l h s f = rw (w, b, l, h, s, f)
 
 -- ---- the report, and what is left in the run buffer
 module _ (m : Model) (k : ℕ) (a old : List ℕ) where
@@ -64,7 +49,7 @@ module _ (m : Model) (k : ℕ) (a old : List ℕ) where
   unfolding decode_left
   left_refused h f = rw (h, f)
 
-  pub refused :
+  refused :
       {x : Refusal} → decode_report m k a (length old) ≡ x → is_accepted x ≡ false → (x ≡ decode_report m k a (length old)) × (old ≡ decode_left m k a old)
   refused h f = (sym h, left_refused h f)
 
@@ -73,9 +58,10 @@ module _ (m : Model) (k : ℕ) (a old : List ℕ) where
   unfolding decode_left
   left_accepted h = rw h
 
-  pub written : {new : List ℕ} → decode_report m k a (length old) ≡ accepted → new ≡ run_of m k a ++ drop k old
-      → (accepted ≡ decode_report m k a (length old)) × (new ≡ decode_left m k a old)
-  written h e = (sym h, e ∙ sym (left_accepted h))
+  -- a record or a bound that is refused
+  pub refused_list : (r : ListRefusal) → Err r ≡ bound_checked m k → (decode_refusal (list_refused r) ≡ decode_report m k a (length old)) × (old ≡ decode_left m k a old)
+  refused_list MalformedRecord e = refused (report_20 m k a (length old) (bound_20 m k e)) refl
+  refused_list LargeBound e = let w = bound_21 m k e in refused (report_21 m k a (length old) w.0 (lt-ltb 64 k w.1)) refl
 
 -- ---- accepted: the model is well formed, the bound is at most 64, the run buffer has room for k bytes, and the assignment satisfies the list for k
 abbrev numbered : Refusal → ℕ

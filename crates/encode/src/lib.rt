@@ -52,7 +52,7 @@ impl From<RunRefusal> for EncodeRefusal {
 }
 
 // A group of `size` members that shows `value`.
-#[derive(Clone, Copy)]
+#[derive(Clone, Copy, Debug, PartialEq, Eq)]
 struct Shown {
     size: usize,
     value: usize,

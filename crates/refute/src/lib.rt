@@ -26,9 +26,11 @@ pub fn refute(
     ensures result_value { refute_told result ≡ refute_report m bound words.old hints.now }
     ensures words_after { words.new ≡ emit_left m bound (length words.old) words.old }
 {
-    let list = emit(m, bound, words)?;
-    Ok(Refutation {
-        refuted: refuted(words, list.words, hints),
-        words: list.words,
-    })
+    match emit(m, bound, words) {
+        Ok(list) => Ok(Refutation {
+            refuted: refuted(words, list.words, hints),
+            words: list.words,
+        }),
+        Err(refusal) => Err(refusal),
+    }
 }

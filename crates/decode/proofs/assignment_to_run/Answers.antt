@@ -1,121 +1,88 @@
--- `assignment_to_run`: the refusals 20, 21, 23, 24, 25, 26 in the report's order, each where its test fails first; then the run.
-use mathlib.Core.Path.{refl, sym, ◌∙◌, ap}
-use lib.ListN.{length}
-use lib.Dec.{eqb}
+-- `assignment_to_run`: the refusals in the report's order, each where its test fails first; then the run.
+use Rattle.std.proofs.Common.{arith, ◌∙◌}
+use Rattle.std.proofs.lemmas.Grind.{common_steps}
+use Rattle.std.proofs.lemmas.Result.{err_from_is_err_and}
+use Rattle.form.proofs.BoundLaws.{bound_accepted}
 use Rattle.model.proofs.IndexedLaws.{T_true}
-use borrow.Author.Tests.{lt-ltb, le-ltb, eq-eqb, ne_eqb}
-use Rattle.search.specs.Answer.{found}
-use Rattle.decode.proofs.Reports.{report_20, report_21, report_23, report_24, report_25, report_26, report_0, refused, written}
+use Rattle.decode.specs.DecodeCall.{decode_report, decode_left}
+use Rattle.decode.proofs.Reports.{refused_list}
 use Rattle.decode.proofs.assignment_to_run.Goals as goal
 
-pub returns-then-not-well_formed : goal.returns-then-not-well_formed
-returns-then-not-well_formed c =
-    let args = c.args in
-    let m = args.m in
-    let bound = args.bound in
-    let a-now = args.a.now in
-    let run-now = args.run.now in
-    let e = refused m bound a-now run-now (report_20 m bound a-now (length run-now) (sym c.well_formed-2.ensures ∙ c.if-not-well_formed.true)) refl in
-    record { result_value = e.0; run_after = e.1 }
+pub returns-in_err-check_bound : goal.returns-in_err-check_bound
+returns-in_err-check_bound c =
+    let p = err_from_is_err_and c.from_residual.result c.from_residual.ensures.1 in
+    let e = refused_list c.args.m c.args.bound c.args.a.now c.args.run.now c.in_err-check_bound.field-0.0 c.in_err-check_bound.ensures in
+    record { result_value = rw (p.1, p.2) e.0; run_after = e.1 }
 
-pub returns-then-bound-gt-STEPS : goal.returns-then-bound-gt-STEPS
-returns-then-bound-gt-STEPS c =
-    let args = c.args in
-    let bound = args.bound in
-    let m = args.m in
-    let a-now = args.a.now in
-    let run-now = args.run.now in
-    let e = refused m bound a-now run-now (report_21 m bound a-now (length run-now) (sym c.well_formed-2.ensures ∙ c.if-not-well_formed.false)
-    (lt-ltb 64 bound c.if-bound-gt-STEPS.true)) refl in
-    record { result_value = e.0; run_after = e.1 }
+pub overflow_cast-bound : goal.overflow_cast-bound
+overflow_cast-bound c = record { fits = omega (arith, (bound_accepted c.args.m c.args.bound c.in_ok-check_bound.ensures).1) }
 
-pub returns-then-a-variables : goal.returns-then-a-variables
-returns-then-a-variables c =
-    let well_formed = c.well_formed-2 in
-    let args = c.args in
-    let bound = args.bound in
-    let m = args.m in
-    let a-now = args.a.now in
-    let run-now = args.run.now in
-    let e = refused m bound a-now run-now (report_23 m bound a-now (length run-now) (sym well_formed.ensures ∙ c.if-not-well_formed.false)
-    (le-ltb 64 bound c.if-bound-gt-STEPS.false) (ap (eqb (length a-now)) (sym c.variables.ensures) ∙ ne_eqb _ _ c.if-a-variables.true)) refl in
-    record { result_value = e.0; run_after = e.1 }
+pub returns-then-a-variables-clause-result_value : goal.returns-then-a-variables-clause-result_value
+unfolding decode_report
+returns-then-a-variables-clause-result_value c =
+    let w = bound_accepted c.args.m c.args.bound c.in_ok-check_bound.ensures in
+    grind (arith, common_steps, w.0, w.1)
 
-pub returns-in-At : goal.returns-in-At
-returns-in-At c =
-    let well_formed = c.well_formed-2 in
-    let args = c.args in
-    let bound = args.bound in
-    let m = args.m in
-    let a-now = args.a.now in
-    let run-now = args.run.now in
-    let e = refused m bound a-now run-now (report_24 m bound a-now (length run-now) (sym well_formed.ensures ∙ c.if-not-well_formed.false)
-    (le-ltb 64 bound c.if-bound-gt-STEPS.false)
-    (ap (eqb (length a-now)) (sym c.variables.ensures) ∙ eq-eqb _ _ c.if-a-variables.false)
-    (sym c.first_wrong_byte-wrong.ensures ∙ ap found c.in-At.is)) refl in
-    record { result_value = e.0; run_after = e.1 }
+pub returns-then-a-variables-clause-run_after : goal.returns-then-a-variables-clause-run_after
+unfolding decode_report decode_left
+returns-then-a-variables-clause-run_after c =
+    let w = bound_accepted c.args.m c.args.bound c.in_ok-check_bound.ensures in
+    grind (arith, common_steps, w.0, w.1)
 
-pub returns-then-run-bound : goal.returns-then-run-bound
-returns-then-run-bound c =
-    let well_formed = c.well_formed-2 in
-    let args = c.args in
-    let bound = args.bound in
-    let m = args.m in
-    let a-now = args.a.now in
-    let run-now = args.run.now in
-    let e = refused m bound a-now run-now (report_25 m bound a-now (length run-now) (sym well_formed.ensures ∙ c.if-not-well_formed.false)
-    (le-ltb 64 bound c.if-bound-gt-STEPS.false)
-    (ap (eqb (length a-now)) (sym c.variables.ensures) ∙ eq-eqb _ _ c.if-a-variables.false)
-    (sym c.first_wrong_byte-wrong.ensures ∙ ap found c.in_default.is)
-    (lt-ltb (length run-now) bound c.if-run-bound.true)) refl in
-    record { result_value = e.0; run_after = e.1 }
+pub returns-in-Some-clause-result_value : goal.returns-in-Some-clause-result_value
+unfolding decode_report
+returns-in-Some-clause-result_value c =
+    let w = bound_accepted c.args.m c.args.bound c.in_ok-check_bound.ensures in
+    grind (arith, common_steps, w.0, w.1)
 
-pub first_false-failing-requires : goal.first_false-failing-requires
-first_false-failing-requires c =
-    let well_formed = c.well_formed-2 in (
-      (T_true _).1 (sym well_formed.ensures ∙ c.if-not-well_formed.false),
-      c.if-bound-gt-STEPS.false,
-      c.if-a-variables.false ∙ c.variables.ensures,
-    )
+pub returns-in-Some-clause-run_after : goal.returns-in-Some-clause-run_after
+unfolding decode_report decode_left
+returns-in-Some-clause-run_after c =
+    let w = bound_accepted c.args.m c.args.bound c.in_ok-check_bound.ensures in
+    grind (arith, common_steps, w.0, w.1)
 
-pub returns-in-At-failing : goal.returns-in-At-failing
-returns-in-At-failing c =
-    let well_formed = c.well_formed-2 in
-    let args = c.args in
-    let bound = args.bound in
-    let m = args.m in
-    let a-now = args.a.now in
-    let run-now = args.run.now in
-    let e = refused m bound a-now run-now (report_26 m bound a-now (length run-now) (sym well_formed.ensures ∙ c.if-not-well_formed.false)
-    (le-ltb 64 bound c.if-bound-gt-STEPS.false)
-    (ap (eqb (length a-now)) (sym c.variables.ensures) ∙ eq-eqb _ _ c.if-a-variables.false)
-    (sym c.first_wrong_byte-wrong.ensures ∙ ap found c.in_default.is)
-    (le-ltb (length run-now) bound c.if-run-bound.false)
-    (sym c.first_false-failing.ensures ∙ ap found c.in-At-failing.is)) refl in
-    record { result_value = e.0; run_after = e.1 }
+pub returns-then-run-bound-clause-result_value : goal.returns-then-run-bound-clause-result_value
+unfolding decode_report
+returns-then-run-bound-clause-result_value c =
+    let w = bound_accepted c.args.m c.args.bound c.in_ok-check_bound.ensures in
+    grind (arith, common_steps, w.0, w.1)
+
+pub returns-then-run-bound-clause-run_after : goal.returns-then-run-bound-clause-run_after
+unfolding decode_report decode_left
+returns-then-run-bound-clause-run_after c =
+    let w = bound_accepted c.args.m c.args.bound c.in_ok-check_bound.ensures in
+    grind (arith, common_steps, w.0, w.1)
+
+pub returns-in-Some-first_false-clause-result_value : goal.returns-in-Some-first_false-clause-result_value
+unfolding decode_report
+returns-in-Some-first_false-clause-result_value c =
+    let w = bound_accepted c.args.m c.args.bound c.in_ok-check_bound.ensures in
+    grind (arith, common_steps, w.0, w.1)
+
+pub returns-in-Some-first_false-clause-run_after : goal.returns-in-Some-first_false-clause-run_after
+unfolding decode_report decode_left
+returns-in-Some-first_false-clause-run_after c =
+    let w = bound_accepted c.args.m c.args.bound c.in_ok-check_bound.ensures in
+    grind (arith, common_steps, w.0, w.1)
+
+pub first_false-requires : goal.first_false-requires
+first_false-requires c =
+    let w = bound_accepted c.args.m c.args.bound c.in_ok-check_bound.ensures in
+    ((T_true _).1 w.0, w.1, c.if-a-variables.false ∙ c.variables.ensures)
 
 pub put_run-requires : goal.put_run-requires
 put_run-requires c =
-    let well_formed = c.well_formed-2 in (
-      (T_true _).1 (sym well_formed.ensures ∙ c.if-not-well_formed.false),
-      c.if-bound-gt-STEPS.false,
-      c.if-a-variables.false ∙ c.variables.ensures,
-      c.if-run-bound.false,
-    )
+    let w = bound_accepted c.args.m c.args.bound c.in_ok-check_bound.ensures in
+    ((T_true _).1 w.0, w.1, c.if-a-variables.false ∙ c.variables.ensures, c.if-run-bound.false)
 
-pub returns : goal.returns
-returns c =
-    let first-false = c.first_false-failing in
-    let well_formed = c.well_formed-2 in
-    let args = c.args in
-    let bound = args.bound in
-    let m = args.m in
-    let a-now = args.a.now in
-    let run-now = args.run.now in
-    let e = written m bound a-now run-now (report_0 m bound a-now (length run-now) (sym well_formed.ensures ∙ c.if-not-well_formed.false)
-    (le-ltb 64 bound c.if-bound-gt-STEPS.false)
-    (ap (eqb (length a-now)) (sym c.variables.ensures) ∙ eq-eqb _ _ c.if-a-variables.false)
-    (sym c.first_wrong_byte-wrong.ensures ∙ ap found c.in_default.is)
-    (le-ltb (length run-now) bound c.if-run-bound.false) (sym first-false.ensures ∙ ap found c.in_default-failing.is))
-    c.put_run.ensures in
-    record { result_value = e.0; run_after = e.1 }
+pub returns-clause-result_value : goal.returns-clause-result_value
+unfolding decode_report
+returns-clause-result_value c =
+    let w = bound_accepted c.args.m c.args.bound c.in_ok-check_bound.ensures in
+    grind (arith, common_steps, w.0, w.1)
+
+pub returns-clause-run_after : goal.returns-clause-run_after
+unfolding decode_report decode_left
+returns-clause-run_after c =
+    let w = bound_accepted c.args.m c.args.bound c.in_ok-check_bound.ensures in
+    grind (arith, common_steps, w.0, w.1)
