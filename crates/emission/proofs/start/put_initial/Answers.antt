@@ -20,7 +20,8 @@ pub overflow_add-first : goal.overflow_add-first
 overflow_add-first c =
     let l = c.args.layout.now in
     let k = known_of_layout l in
-    omega (arith, ap (λ (x : Group). x.first) c.group-first.ensures, c.initial_value-v.ensures, known_initial k c.loop-g.g c.loop-g-test.true, state_size_le l.model (wf k))
+    let first = ap (λ (x : Group). x.first) c.group-first.ensures in
+    omega (arith, first, c.initial_value-v.ensures, known_initial k c.loop-g.g c.loop-g-test.true, state_size_le l.model (wf k))
 
 pub put_unit-end-requires : goal.put_unit-end-requires
 put_unit-end-requires c =

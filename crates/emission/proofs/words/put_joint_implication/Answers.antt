@@ -9,7 +9,10 @@ put_word-rest-requires c = room_word (negated c.args.a) c.negative.ensures (sear
 
 pub put_implication-requires : goal.put_implication-requires
 put_implication-requires c =
-    (c.requires.1, c.requires.2, room_rest (negated c.args.a) c.negative.ensures (search rules) (negated c.args.b ∷ bare c.args.c ∷ []) c.put_word-rest.ensures c.requires.3)
+    let rest = negated c.args.b ∷ bare c.args.c ∷ [] in
+    (c.requires.1, c.requires.2, room_rest (negated c.args.a) c.negative.ensures (search rules) rest c.put_word-rest.ensures c.requires.3)
 
 pub returns : goal.returns
-returns c = wrote_rest (negated c.args.a) c.negative.ensures (search rules) (negated c.args.b ∷ bare c.args.c ∷ []) c.put_word-rest.ensures c.put_implication.ensures
+returns c =
+    let rest = negated c.args.b ∷ bare c.args.c ∷ [] in
+    wrote_rest (negated c.args.a) c.negative.ensures (search rules) rest c.put_word-rest.ensures c.put_implication.ensures

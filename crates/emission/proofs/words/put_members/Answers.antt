@@ -34,7 +34,9 @@ pub slice_bounds-member-items-end : goal.slice_bounds-member-items-end
 slice_bounds-member-items-end c = omega (arith, members_room _ _ c.requires.1)
 
 pub loop-v-init : goal.loop-v-init
-loop-v-init c = record { long = part_long c.args.out.now c.args.at c.args.n _ (omega (arith, members_room _ _ c.requires.1)) (omega arith); so_far = sym (list_none _) }
+loop-v-init c =
+    let a = c.args in
+    record { long = part_long a.out.now a.at a.n _ (omega (arith, members_room _ _ c.requires.1)) (omega arith); so_far = sym (list_none _) }
 
 pub loop-v-preserved : goal.loop-v-preserved
 loop-v-preserved c =
