@@ -92,26 +92,38 @@ module _ (f : ℕ → List Clause) where
   pub room_each : (i n : ℕ) {old mid : List ℤ} {a b : ℕ} → WroteClauses (each i f) old mid a b → i < n → RoomFor (each n f) old a → RoomFor (f i) mid b
   room_each i n p h r = record { words = buffer.room_each F i n (turns i p) h (buffer.room_as (words_each f n) r.words) }
 
--- ---- a clause by the words of its literals
-pub wrote_clause : (c : Clause) {literals old new : List ℤ} {a e : ℕ} → literals ≡ map word c → Wrote (literals ++ (pos 0 ∷ [])) old new a e
-    → WroteClauses (one c) old new a e
-wrote_clause c h w = record { words = buffer.wrote_as (one_words c) (rw h at w) }
-
-pub room_clause : (c : Clause) {literals l : List ℤ} {a : ℕ} → literals ≡ map word c → RoomFor (one c) l a → Room (literals ++ (pos 0 ∷ [])) l a
-room_clause c h r = rw h (buffer.room_as (one_words c) r.words)
+-- ---- a clause word by word
+-- its first word, and those of the clause that is left
+first_word : (p : Literal) (c : Clause) → words_of (one (p ∷ c)) ≡ (word p ∷ []) ++ words_of (one c)
+first_word p c = one_words (p ∷ c) ∙ ap (λ (l : List ℤ). word p ∷ l) (sym (one_words c))
 
 -- a word as it is stored
 pub stored : (x : ℤ) {w : ℤ} → x ≡ w → SFits w32 x → to_z w32 (of_z w32 x) ≡ w
 stored x e f = to_z-of_z w32 x f ∙ e
 
-pub literals_1 : {x : ℤ} (p : Literal) → x ≡ word p → x ∷ [] ≡ map word (p ∷ [])
-literals_1 p e = λ k. e k ∷ []
+module _ (p : Literal) {x : ℤ} (e : x ≡ word p) (f : SFits w32 x) {old : List ℤ} {at : ℕ} where
+  pub room_word : (c : Clause) → RoomFor (one (p ∷ c)) old at → Room (to_z w32 (of_z w32 x) ∷ []) old at
+  room_word c r = rw (stored x e f) (buffer.room_first (words_of (one c)) (buffer.room_as (first_word p c) r.words))
 
-pub literals_2 : {x y : ℤ} (p q : Literal) → x ≡ word p → y ≡ word q → x ∷ y ∷ [] ≡ map word (p ∷ q ∷ [])
-literals_2 p q e f = λ k. e k ∷ f k ∷ []
+  -- what is left goes behind the first word
+  pub room_rest : (c : Clause) {mid : List ℤ} {b : ℕ} → Wrote (to_z w32 (of_z w32 x) ∷ []) old mid at b → RoomFor (one (p ∷ c)) old at → RoomFor (one c) mid b
+  room_rest c w r = record { words = buffer.room_then (rw (stored x e f) at w) (buffer.room_as (first_word p c) r.words) }
 
-pub literals_3 : {x y z : ℤ} (p q r : Literal) → x ≡ word p → y ≡ word q → z ≡ word r → x ∷ y ∷ z ∷ [] ≡ map word (p ∷ q ∷ r ∷ [])
-literals_3 p q r e f g = λ k. e k ∷ f k ∷ g k ∷ []
+  pub wrote_rest : (c : Clause) {mid new : List ℤ} {b e : ℕ} → Wrote (to_z w32 (of_z w32 x) ∷ []) old mid at b → WroteClauses (one c) mid new b e
+      → WroteClauses (one (p ∷ c)) old new at e
+  wrote_rest c w v = record { words = buffer.wrote_as (first_word p c) (buffer.wrote_then (rw (stored x e f) at w) v.words) }
+
+-- the clause that has no literal left is its 0
+pub room_zero : {l : List ℤ} {a : ℕ} → RoomFor (one []) l a → Room (pos 0 ∷ []) l a
+room_zero r = buffer.room_as (one_words []) r.words
+
+pub wrote_zero : {old new : List ℤ} {a e : ℕ} → Wrote (pos 0 ∷ []) old new a e → WroteClauses (one []) old new a e
+wrote_zero w = record { words = buffer.wrote_as (one_words []) w }
+
+-- the clause of literals that have these words, and a 0
+pub wrote_clause : (c : Clause) {literals old new : List ℤ} {a e : ℕ} → literals ≡ map word c → Wrote (literals ++ (pos 0 ∷ [])) old new a e
+    → WroteClauses (one c) old new a e
+wrote_clause c h w = record { words = buffer.wrote_as (one_words c) (rw h at w) }
 
 -- words that take the place of as many, up to e
 pub wrote_part : {p new l : List ℤ} {at n e : ℕ} → n ≡ length p → e ≡ at + length p → new ≡ p → at + length p ≤ length l

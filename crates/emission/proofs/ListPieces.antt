@@ -3,11 +3,11 @@ use Rattle.std.proofs.Common.{ℕ, ◌+◌, ◌-◌, ◌≤◌, ◌<◌, ◌≡�
 use native.Mathlib.Nat.{suc-mul}
 use Rattle.model.specs.declared.Model.{Model}
 use Rattle.model.specs.Indexed.{each}
-use Rattle.model.specs.Record.{atom_at, invariant_at, update_at, reset_at, edge_at}
-use Rattle.model.specs.Automaton.{ceiling, initial_value, group_size, state_size, choices}
+use Rattle.model.specs.Record.{atom_at, update_at, reset_at, edge_at}
+use Rattle.model.specs.Automaton.{ceiling, state_size, choices}
 use Rattle.model.specs.Form.{well_formed}
 use Rattle.model.proofs.FormLaws.{formed, state_size_le, choices_is}
-use Rattle.list.specs.Items.{offset, block_at, next_block, start_items, initial_items, state_items, group_items, invariant_items, invariant_of}
+use Rattle.list.specs.Items.{block_at, start_items, state_items, invariant_of}
 use Rattle.list.specs.Items.{end_items, choice_items, delay_items, delays_items, edges_items, edge_of}
 use Rattle.list.specs.Clauses.{Clause, bare, negated, one, one_hot_width, group_clauses, clauses_of}
 use Rattle.list.proofs.ListLaws.{each_cong}
@@ -15,18 +15,16 @@ use Rattle.list.proofs.PieceClauses.{end_piece, edges_piece, delays_piece, step_
 use Rattle.list.proofs.PieceClauses.{next_block_lem as next_is}
 use Rattle.list.proofs.OneHot.{block_is}
 use Rattle.parts.specs.declared.GroupTable.{GroupTable}
-use Rattle.parts.specs.declared.layout.Layout.{Layout}
-use Rattle.parts.specs.StateBlock.{component_at, first_at, size_at}
+use Rattle.parts.specs.StateBlock.{first_at, size_at}
 use Rattle.parts.specs.Numbering.{variable_number, most_variables}
 use Rattle.parts.specs.Rules.{Fits}
 use Rattle.parts.specs.PartsOf.{next_at, atom_part, update_part, reset_part, edge_part}
-use Rattle.parts.specs.Pieces.{Known, group_piece, atom_piece, edge_piece, edge_clauses, step_clauses}
+use Rattle.parts.specs.Pieces.{Known, group_piece, atom_piece, edge_clauses, step_clauses}
 use Rattle.parts.proofs.NumberingLaws.{variable_number_lem, block_most}
-use Rattle.parts.proofs.PartFits.{locations_in}
 use Rattle.parts.proofs.GroupLaws.{first_is, size_is}
 use Rattle.parts.proofs.EdgeParts.{source_part, target_part, guard_part, counter_part, clock_part}
 use Rattle.parts.proofs.EdgeKinds.{edge_kinds, update_piece, reset_piece}
-use Rattle.parts.proofs.KnownLaws.{wf, known_bounded, known_vars, known_groups, known_state, known_choices, known_top, at_most_nine}
+use Rattle.parts.proofs.KnownLaws.{wf, known_bounded, known_groups, known_state, known_choices, known_top, at_most_nine}
 use Rattle.parts.proofs.KnownLaws.{edge_fits_of, edge_piece_of}
 use Rattle.emission.specs.Writable.{StateFits, StepFits}
 use Rattle.emission.specs.Written.{RoomFor}

@@ -6,8 +6,8 @@ use native.Mathlib.Omega.{arith}
 use lib.IntN.{ℤ, pos}
 use lib.ListN.{length, length-append}
 use Rattle.model.specs.Indexed.{each, list_below}
-use Rattle.model.proofs.IndexedLaws.{each_zero, each_suc, list_none, list_more, length_list}
-use Rattle.list.specs.Clauses.{Literal, bare, word, words_of, one, members}
+use Rattle.model.proofs.IndexedLaws.{length_list}
+use Rattle.list.specs.Clauses.{bare, word, words_of, one, members}
 use Rattle.emission.specs.Written.{RoomFor}
 use Rattle.emission.proofs.ClauseLaws.{one_words}
 

@@ -1,5 +1,5 @@
 -- The part of an atom, an update, a reset or a delay as a row, case by case, by the groups that are read of the table.
-use Rattle.std.proofs.Common.{ℕ, ◌+◌, ◌≤◌, ◌<◌, ◌≡◌, List, Bool, cond, leb, ltb, [], Option, Some, None, arith, refl, sym, ap, subst, ◌∙◌, get_or, ℤ}
+use Rattle.std.proofs.Common.{ℕ, ◌+◌, ◌≤◌, ◌<◌, ◌≡◌, List, cond, leb, ltb, [], Some, None, arith, sym, ap, subst, ◌∙◌, get_or, ℤ}
 use borrow.Author.Tests.{lt-ltb, le-ltb, le-leb, lt-leb}
 use Rattle.model.specs.declared.Relation.{Relation}
 use Rattle.model.specs.declared.Atom.{Atom}

@@ -1,7 +1,7 @@
 // Words of literals, and a writer for each kind of clause. A variable is counted from 0, as in the list's definitions; variable `a` has the
 // number a + 1. Here and in the other writers a variable is summed in 16 bits and widened for the next call; indexes of the buffer are not. Each
 // writer stores its clauses from index `at` on and returns the index after them.
-ghost use Rattle.std.specs.Prelude.{◌≡◌, List, [], ◌∷◌, ◌++◌, ℕ, ◌+◌, ◌<◌, ◌≤◌, pos};
+ghost use Rattle.std.specs.Prelude.{◌≡◌, List, [], ◌∷◌, ℕ, ◌+◌, ◌<◌, ◌≤◌};
 ghost use Rattle.buffer.specs.Buffers.{Room, Wrote};
 ghost use Rattle.list.specs.Clauses.{bare, negated, word, one, members, group_clauses};
 ghost use Rattle.parts.specs.Numbering.{most_variables};
@@ -24,16 +24,13 @@ fn negative(a: usize) -> i32
     -((a as u16 + 1) as i32)
 }
 
-// The words of a clause's literals, and the 0 that ends it.
-#[inline(always)]
-fn put_clause(literals: &[i32], out: &mut [i32], at: usize) -> usize
-    requires { Room (literals.now ++ (pos 0 ∷ [])) out.old at }
-    ensures { Wrote (literals.now ++ (pos 0 ∷ [])) out.old out.new at result }
+// One word.
+fn put_word(word: i32, out: &mut [i32], at: usize) -> usize
+    requires { Room (word ∷ []) out.old at }
+    ensures { Wrote (word ∷ []) out.old out.new at result }
 {
-    let end = at + literals.len();
-    out[at..end].copy_from_slice(literals);
-    out[end] = 0;
-    end + 1
+    out[at] = word;
+    at + 1
 }
 
 // The clause `a`.
@@ -41,7 +38,8 @@ pub fn put_unit(a: usize, out: &mut [i32], at: usize) -> usize
     requires { (a < most_variables) × RoomFor (one (bare a ∷ [])) out.old at }
     ensures { WroteClauses (one (bare a ∷ [])) out.old out.new at result }
 {
-    put_clause(&[positive(a)], out, at)
+    let end = put_word(positive(a), out, at);
+    put_word(0, out, end)
 }
 
 // The clause not `a`.
@@ -49,7 +47,8 @@ pub fn put_negated_unit(a: usize, out: &mut [i32], at: usize) -> usize
     requires { (a < most_variables) × RoomFor (one (negated a ∷ [])) out.old at }
     ensures { WroteClauses (one (negated a ∷ [])) out.old out.new at result }
 {
-    put_clause(&[negative(a)], out, at)
+    let last = put_word(negative(a), out, at);
+    put_word(0, out, last)
 }
 
 // The clause not `a`, `b`.
@@ -57,7 +56,8 @@ pub fn put_implication(a: usize, b: usize, out: &mut [i32], at: usize) -> usize
     requires { (a < most_variables) × (b < most_variables) × RoomFor (one (negated a ∷ bare b ∷ [])) out.old at }
     ensures { WroteClauses (one (negated a ∷ bare b ∷ [])) out.old out.new at result }
 {
-    put_clause(&[negative(a), positive(b)], out, at)
+    let rest = put_word(negative(a), out, at);
+    put_unit(b, out, rest)
 }
 
 // The clause not `a`, not `b`.
@@ -65,7 +65,8 @@ pub fn put_exclusion(a: usize, b: usize, out: &mut [i32], at: usize) -> usize
     requires { (a < most_variables) × (b < most_variables) × RoomFor (one (negated a ∷ negated b ∷ [])) out.old at }
     ensures { WroteClauses (one (negated a ∷ negated b ∷ [])) out.old out.new at result }
 {
-    put_clause(&[negative(a), negative(b)], out, at)
+    let second = put_word(negative(a), out, at);
+    put_negated_unit(b, out, second)
 }
 
 // The clause not `a`, not `b`, `c`.
@@ -73,7 +74,8 @@ pub fn put_joint_implication(a: usize, b: usize, c: usize, out: &mut [i32], at: 
     requires { (a < most_variables) × (b < most_variables) × (c < most_variables) × RoomFor (one (negated a ∷ negated b ∷ bare c ∷ [])) out.old at }
     ensures { WroteClauses (one (negated a ∷ negated b ∷ bare c ∷ [])) out.old out.new at result }
 {
-    put_clause(&[negative(a), negative(b), positive(c)], out, at)
+    let rest = put_word(negative(a), out, at);
+    put_implication(b, c, out, rest)
 }
 
 // The clause of all members of the group of `n` members whose variables begin at `b`.

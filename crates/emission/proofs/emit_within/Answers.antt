@@ -1,5 +1,5 @@
 -- The refusals of the tests, then the list by `put_list`; the counts say whether it fits.
-use Rattle.std.proofs.Common.{arith, rules, sym, ap, subst, ◌∙◌, ◌≡◌, ◌≤◌, min, length, Err}
+use Rattle.std.proofs.Common.{arith, rules, ◌≡◌, min, length, Err}
 use Rattle.model.proofs.IndexedLaws.{T_true}
 use Rattle.form.proofs.BoundLaws.{bound_accepted}
 use Rattle.emission.specs.EmitCall.{emit_refusal}

@@ -18,17 +18,20 @@ put_delays-edges-requires c =
     let a = c.args in
     let m = a.layout.now.model in
     let k = known_of_layout a.layout.now in
+    let fit = step_below k a.t c.block_start-o.result c.requires.0 c.block_start-o.ensures in
     let whole = step_is m a.t _ _ c.block_start-o.ensures c.block_start-next.ensures in
-    (step_below k a.t c.block_start-o.result c.requires.0 c.block_start-o.ensures, room_then c.put_choice-delays.ensures (room_first _ (room_first _ (room_as whole c.requires.1))))
+    (fit, room_then c.put_choice-delays.ensures (room_first _ (room_first _ (room_as whole c.requires.1))))
 
 pub put_edges-state-requires : goal.put_edges-state-requires
 put_edges-state-requires c =
     let a = c.args in
     let m = a.layout.now.model in
     let k = known_of_layout a.layout.now in
+    let fit = step_below k a.t c.block_start-o.result c.requires.0 c.block_start-o.ensures in
     let whole = step_is m a.t _ _ c.block_start-o.ensures c.block_start-next.ensures in
     let front = wrote_then c.put_choice-delays.ensures c.put_delays-edges.ensures in
-    (step_below k a.t c.block_start-o.result c.requires.0 c.block_start-o.ensures, omega arith, room_as (edges_are m c.block_start-o.result) (room_then front (room_first _ (room_as whole c.requires.1))))
+    let room = room_then front (room_first _ (room_as whole c.requires.1)) in
+    (fit, omega arith, room_as (edges_are m c.block_start-o.result) room)
 
 pub put_state-requires : goal.put_state-requires
 put_state-requires c =

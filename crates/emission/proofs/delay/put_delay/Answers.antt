@@ -8,23 +8,27 @@ use Rattle.emission.proofs.delay.put_delay.Goals as goal
 
 pub overflow_cast-x-2 : goal.overflow_cast-x-2
 overflow_cast-x-2 c =
-    let k = known_of_layout c.args.layout.now in
-    omega (arith, (step_in k c.args.o most_variables c.requires.0).choice_in, (known_bounded k).state_le, (known_bounded k).top_le, (step_in k c.args.o most_variables c.requires.0).delay_is_choice)
+    let a = c.args in
+    let s = step_in (known_of_layout a.layout.now) a.o most_variables c.requires.0 in
+    omega (arith, s.choice_in, s.delay_is_choice)
 
 pub overflow_add-x : goal.overflow_add-x
 overflow_add-x c =
-    let k = known_of_layout c.args.layout.now in
-    omega (arith, (step_in k c.args.o most_variables c.requires.0).choice_in, (known_bounded k).state_le, (known_bounded k).top_le, (step_in k c.args.o most_variables c.requires.0).delay_is_choice)
+    let a = c.args in
+    let s = step_in (known_of_layout a.layout.now) a.o most_variables c.requires.0 in
+    omega (arith, s.choice_in, s.delay_is_choice)
 
 pub overflow_cast-x-3 : goal.overflow_cast-x-3
 overflow_cast-x-3 c =
-    let k = known_of_layout c.args.layout.now in
-    omega (arith, (step_in k c.args.o most_variables c.requires.0).choice_in, (known_bounded k).state_le, (known_bounded k).top_le, (step_in k c.args.o most_variables c.requires.0).delay_is_choice)
+    let a = c.args in
+    let s = step_in (known_of_layout a.layout.now) a.o most_variables c.requires.0 in
+    omega (arith, s.choice_in, s.delay_is_choice)
 
 pub overflow_add-x-2 : goal.overflow_add-x-2
 overflow_add-x-2 c =
-    let k = known_of_layout c.args.layout.now in
-    omega (arith, (step_in k c.args.o most_variables c.requires.0).choice_in, (known_bounded k).state_le, (known_bounded k).top_le, (step_in k c.args.o most_variables c.requires.0).delay_is_choice)
+    let a = c.args in
+    let s = step_in (known_of_layout a.layout.now) a.o most_variables c.requires.0 in
+    omega (arith, s.choice_in, s.delay_is_choice)
 
 pub loop-g-init : goal.loop-g-init
 loop-g-init c = wrote_each_none _ _ _ (omega (arith, c.requires.2.words.room))

@@ -69,51 +69,57 @@ overflow_add-goal c =
 pub put_implication-target-requires : goal.put_implication-target-requires
 put_implication-target-requires c =
     let a = c.args in
-    let k = known_of_layout a.layout.now in (
+    let k = known_of_layout a.layout.now in
+    let whole = room_as (edge_is k a.o a.e c.requires.1) c.requires.2 in (
       choice_below k a.o c.requires.0 a.e c.requires.1,
       source_in k a.o c.requires.0 a.e c.requires.1,
-      room_first _ (room_first _ (room_first _ (room_first _ (room_as (edge_is k a.o a.e c.requires.1) c.requires.2)))),
+      room_first _ (room_first _ (room_first _ (room_first _ whole))),
     )
 
 pub put_implication-guarded-requires : goal.put_implication-guarded-requires
 put_implication-guarded-requires c =
     let a = c.args in
-    let k = known_of_layout a.layout.now in (
+    let k = known_of_layout a.layout.now in
+    let whole = room_as (edge_is k a.o a.e c.requires.1) c.requires.2 in (
       choice_below k a.o c.requires.0 a.e c.requires.1,
       target_in k a.o c.requires.0 a.e c.requires.1,
-      room_then c.put_implication-target.ensures (room_first _ (room_first _ (room_first _ (room_as (edge_is k a.o a.e c.requires.1) c.requires.2)))),
+      room_then c.put_implication-target.ensures (room_first _ (room_first _ (room_first _ whole))),
     )
 
 pub put_atoms-counters-requires : goal.put_atoms-counters-requires
 put_atoms-counters-requires c =
     let a = c.args in
-    let k = known_of_layout a.layout.now in (
+    let k = known_of_layout a.layout.now in
+    let ends = wrote_then c.put_implication-target.ensures c.put_implication-guarded.ensures in
+    let whole = room_as (edge_is k a.o a.e c.requires.1) c.requires.2 in (
       (known_bounded k).vars_le,
       choice_below k a.o c.requires.0 a.e c.requires.1,
       guard_fits k a.o c.requires.0 a.e c.requires.1,
-      room_then (wrote_then c.put_implication-target.ensures c.put_implication-guarded.ensures) (room_first _ (room_first _ (room_as (edge_is k a.o a.e c.requires.1) c.requires.2))),
+      room_then ends (room_first _ (room_first _ whole)),
     )
 
 pub put_updates-clocks-requires : goal.put_updates-clocks-requires
 put_updates-clocks-requires c =
     let a = c.args in
     let k = known_of_layout a.layout.now in
+    let whole = room_as (edge_is k a.o a.e c.requires.1) c.requires.2 in
     let guard = wrote_then (wrote_then c.put_implication-target.ensures c.put_implication-guarded.ensures) c.put_atoms-counters.ensures in (
       choice_below k a.o c.requires.0 a.e c.requires.1,
       (known_bounded k).vars_le,
       updates_fit k a.o c.requires.0 a.e c.requires.1,
-      room_then guard (room_first _ (room_as (edge_is k a.o a.e c.requires.1) c.requires.2)),
+      room_then guard (room_first _ whole),
     )
 
 pub put_resets-requires : goal.put_resets-requires
 put_resets-requires c =
     let a = c.args in
     let k = known_of_layout a.layout.now in
+    let whole = room_as (edge_is k a.o a.e c.requires.1) c.requires.2 in
     let guard = wrote_then (wrote_then c.put_implication-target.ensures c.put_implication-guarded.ensures) c.put_atoms-counters.ensures in (
       choice_below k a.o c.requires.0 a.e c.requires.1,
       known_bounded k,
       resets_fit k a.o c.requires.0 a.e c.requires.1,
-      room_then (wrote_then guard c.put_updates-clocks.ensures) (room_as (edge_is k a.o a.e c.requires.1) c.requires.2),
+      room_then (wrote_then guard c.put_updates-clocks.ensures) whole,
     )
 
 pub returns : goal.returns

@@ -21,7 +21,8 @@ pub put_step-requires : goal.put_step-requires
 put_step-requires c =
     let a = c.args in
     let m = a.layout.now.model in
-    (omega (arith, c.requires.0, c.if-row-eq0.false, c.if-bound-row.false), room_as (step_row m a.bound a.row c.if-row-eq0.false c.if-bound-row.false) c.requires.2)
+    let whole = step_row m a.bound a.row c.if-row-eq0.false c.if-bound-row.false in
+    (omega (arith, c.requires.0, c.if-row-eq0.false, c.if-bound-row.false), room_as whole c.requires.2)
 
 pub returns-else-bound-row : goal.returns-else-bound-row
 returns-else-bound-row c =

@@ -19,7 +19,8 @@ pub put_invariant-requires : goal.put_invariant-requires
 put_invariant-requires c =
     let a = c.args in
     let k = known_of_layout a.layout.now in
-    (c.requires.0, omega (arith, known_groups k, c.if-piece-layout.false, c.requires.1), room_as (invariant_is k a.o a.piece c.if-piece-layout.false) c.requires.2)
+    let h = c.if-piece-layout.false in
+    (c.requires.0, omega (arith, known_groups k, h, c.requires.1), room_as (invariant_is k a.o a.piece h) c.requires.2)
 
 pub returns-else-piece-layout : goal.returns-else-piece-layout
 returns-else-piece-layout c = wrote_as (invariant_is (known_of_layout c.args.layout.now) c.args.o c.args.piece c.if-piece-layout.false) c.put_invariant.ensures

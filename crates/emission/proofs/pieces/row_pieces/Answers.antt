@@ -20,7 +20,8 @@ pub overflow_add-result-else-row-bound-2 : goal.overflow_add-result-else-row-bou
 overflow_add-result-else-row-bound-2 c =
     let l = c.args.layout.now in
     let k = known_of_layout l in
-    omega (arith, known_choices k, c.state_pieces-else-row-bound.ensures, row_pieces_most l.model l.formed 1 1, row_step l.model 1 1 (λ q. omega arith) (omega arith))
+    let most = row_pieces_most l.model l.formed 1 1 in
+    omega (arith, known_choices k, c.state_pieces-else-row-bound.ensures, most, row_step l.model 1 1 (λ q. omega arith) (omega arith))
 
 pub returns-then-row-eq0 : goal.returns-then-row-eq0
 returns-then-row-eq0 c =

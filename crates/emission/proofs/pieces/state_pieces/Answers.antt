@@ -1,6 +1,6 @@
 -- The groups and the locations.
 use Rattle.std.proofs.Common.{arith}
-use Rattle.parts.proofs.KnownLaws.{wf, known_groups, at_most_nine}
+use Rattle.parts.proofs.KnownLaws.{known_groups, at_most_nine}
 use Rattle.parts.proofs.LayoutLaws.{known_of_layout}
 use Rattle.emission.proofs.pieces.state_pieces.Goals as goal
 

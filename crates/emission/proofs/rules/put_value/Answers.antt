@@ -1,7 +1,6 @@
 -- The clauses of a rule for a value, rule by rule.
-use Rattle.std.proofs.Common.{arith, sym, ap, ◌∙◌, ◌≡◌, List, [], ◌∷◌, Bool, cond}
-use Rattle.list.specs.Clauses.{Clause, negated, one}
-use Rattle.parts.specs.declared.Rule.{Rule}
+use Rattle.std.proofs.Common.{arith, sym, ap, ◌∙◌, ◌≡◌, [], ◌∷◌, Bool, cond}
+use Rattle.list.specs.Clauses.{negated, one}
 use Rattle.parts.specs.Rules.{rule_clauses}
 use Rattle.emission.proofs.ClauseLaws.{wrote_none, wrote_as}
 use Rattle.emission.proofs.rules.put_value.Goals as goal

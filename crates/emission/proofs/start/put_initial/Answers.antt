@@ -1,11 +1,10 @@
 -- The initial value of each group, a group a turn.
-use Rattle.std.proofs.Common.{arith, sym, ap, ◌≡◌, ℕ, ◌+◌, ◌<◌, [], ◌∷◌}
-use Rattle.model.specs.Automaton.{initial_value, state_size}
+use Rattle.std.proofs.Common.{arith, sym, ap, ◌≡◌, ℕ, ◌+◌, [], ◌∷◌}
+use Rattle.model.specs.Automaton.{initial_value}
 use Rattle.model.proofs.FormLaws.{state_size_le}
 use Rattle.list.specs.Clauses.{bare, one}
 use Rattle.parts.specs.declared.Group.{Group}
 use Rattle.parts.specs.StateBlock.{component_at, first_at}
-use Rattle.parts.specs.Pieces.{initial_piece}
 use Rattle.parts.proofs.KnownLaws.{wf, known_initial, initial_piece_of}
 use Rattle.parts.proofs.LayoutLaws.{known_of_layout}
 use Rattle.emission.proofs.ClauseLaws.{wrote_each, wrote_each_none, room_each, wrote_as, room_as}
@@ -21,7 +20,8 @@ pub overflow_add-first : goal.overflow_add-first
 overflow_add-first c =
     let l = c.args.layout.now in
     let k = known_of_layout l in
-    omega (arith, ap (λ (x : Group). x.first) c.group-first.ensures, c.initial_value-v.ensures, known_initial k c.loop-g.g c.loop-g-test.true, state_size_le l.model (wf k))
+    let first = ap (λ (x : Group). x.first) c.group-first.ensures in
+    omega (arith, first, c.initial_value-v.ensures, known_initial k c.loop-g.g c.loop-g-test.true, state_size_le l.model (wf k))
 
 pub put_unit-end-requires : goal.put_unit-end-requires
 put_unit-end-requires c =

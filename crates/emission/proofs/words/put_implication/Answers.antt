@@ -1,11 +1,15 @@
--- The clause, by the words of its literals.
+-- The word of the first literal, then the clause that is left.
 use Rattle.std.proofs.Common.{rules, [], ◌∷◌}
 use Rattle.list.specs.Clauses.{bare, negated}
-use Rattle.emission.proofs.ClauseLaws.{wrote_clause, room_clause, stored, literals_2}
+use Rattle.emission.proofs.ClauseLaws.{room_word, room_rest, wrote_rest}
 use Rattle.emission.proofs.words.put_implication.Goals as goal
 
-pub put_clause-requires : goal.put_clause-requires
-put_clause-requires c = room_clause (negated c.args.a ∷ bare c.args.b ∷ []) (literals_2 (negated c.args.a) (bare c.args.b) (stored c.negative.result c.negative.ensures (search rules)) (stored c.positive.result c.positive.ensures (search rules))) c.requires.2
+pub put_word-rest-requires : goal.put_word-rest-requires
+put_word-rest-requires c = room_word (negated c.args.a) c.negative.ensures (search rules) (bare c.args.b ∷ []) c.requires.2
+
+pub put_unit-requires : goal.put_unit-requires
+put_unit-requires c =
+    (c.requires.1, room_rest (negated c.args.a) c.negative.ensures (search rules) (bare c.args.b ∷ []) c.put_word-rest.ensures c.requires.2)
 
 pub returns : goal.returns
-returns c = wrote_clause (negated c.args.a ∷ bare c.args.b ∷ []) (literals_2 (negated c.args.a) (bare c.args.b) (stored c.negative.result c.negative.ensures (search rules)) (stored c.positive.result c.positive.ensures (search rules))) c.put_clause.ensures
+returns c = wrote_rest (negated c.args.a) c.negative.ensures (search rules) (bare c.args.b ∷ []) c.put_word-rest.ensures c.put_unit.ensures

@@ -1,5 +1,5 @@
 -- The clause of all members: the words of the members so far, in the part of the buffer that is for them.
-use Rattle.std.proofs.Common.{arith, rules, sym, ap, ◌∙◌, ◌≡◌, ◌≤◌, ◌<◌, ℕ, ◌+◌, ◌-◌, length, take, drop, List}
+use Rattle.std.proofs.Common.{arith, rules, sym, ◌∙◌, ◌≡◌, ◌≤◌, ◌<◌, ℕ, ◌+◌, ◌-◌, length, take, drop, List}
 use borrow.Rule.Slice.PartMut.{put_mid}
 use lib.IntN.{ℤ}
 use lib.ListN.{length-take, length-drop}
@@ -34,7 +34,9 @@ pub slice_bounds-member-items-end : goal.slice_bounds-member-items-end
 slice_bounds-member-items-end c = omega (arith, members_room _ _ c.requires.1)
 
 pub loop-v-init : goal.loop-v-init
-loop-v-init c = record { long = part_long c.args.out.now c.args.at c.args.n _ (omega (arith, members_room _ _ c.requires.1)) (omega arith); so_far = sym (list_none _) }
+loop-v-init c =
+    let a = c.args in
+    record { long = part_long a.out.now a.at a.n _ (omega (arith, members_room _ _ c.requires.1)) (omega arith); so_far = sym (list_none _) }
 
 pub loop-v-preserved : goal.loop-v-preserved
 loop-v-preserved c =
