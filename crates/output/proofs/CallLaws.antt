@@ -1,5 +1,5 @@
 -- What the call answers and leaves, from the reading of the text and from the bytes placed.
-use Rattle.std.specs.Prelude.{Option, Some, None, Ok, Err}
+use Rattle.std.specs.Prelude.{Option, Some, None, Result, Ok, Err}
 use Prim.Native.Nat.{ℕ, ◌≤◌}
 use mathlib.Core.Path.{◌≡◌, refl, sym, ap, ◌∙◌}
 use mathlib.Core.List.{List, foldl}
@@ -29,15 +29,13 @@ pub report_is : (n : ℕ) (t : List ℕ) {r : Reading} → r ≡ counted_from (j
 unfolding output_report
 report_is n t e = ap (λ (r : Reading). report_of r.fault r.line r.stage) e
 
--- a refusal has another outcome than 10, and so has what is not satisfiable
-pub refused_other : (e : OutputRefusal) → (output_told (Err e)).outcome ≡ 10 → ⊥
-refused_other (refusal.OutOfFormOrPlace l) h = absurd (omega (arith, h))
-refused_other (refusal.AboveOrNamedBefore l) h = absurd (omega (arith, h))
-refused_other (refusal.Incomplete l) h = absurd (omega (arith, h))
-
-pub unsatisfiable_other : (o : Outcome) → (o ≡ outcome.Satisfiable → ⊥) → (output_told (Ok o)).outcome ≡ 10 → ⊥
-unsatisfiable_other outcome.Satisfiable other h = other refl
-unsatisfiable_other outcome.Unsatisfiable other h = absurd (omega (arith, h))
+-- no other answer has the outcome 10
+pub other_outcome : (a : Result Outcome OutputRefusal) → (a ≡ Ok outcome.Satisfiable → ⊥) → (output_told a).outcome ≡ 10 → ⊥
+other_outcome (Ok outcome.Satisfiable) other h = other refl
+other_outcome (Ok outcome.Unsatisfiable) other h = absurd (omega (arith, h))
+other_outcome (Err (refusal.OutOfFormOrPlace l)) other h = absurd (omega (arith, h))
+other_outcome (Err (refusal.AboveOrNamedBefore l)) other h = absurd (omega (arith, h))
+other_outcome (Err (refusal.Incomplete l)) other h = absurd (omega (arith, h))
 
 -- only a text whose closing 0 was read is satisfiable
 satisfiable_closed : (f : Option Fault) (l : ℕ) (s : Stage) → (report_of f l s).outcome ≡ 10 → s ≡ Closed

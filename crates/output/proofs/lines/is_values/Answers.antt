@@ -18,7 +18,7 @@ use Rattle.output.proofs.lines.is_values.Goals as goal
 -- the answer b, from what `strip_prefix` gave
 tested : (l : List ℕ) (r : Option (Bor (List ℕ))) (b : Bool)
     → MatchOption r (pointwise eqb (take 2 l) (ascii "v ") ≡ false)
-      (λ x. (pointwise eqb (take 2 l) (ascii "v ") ≡ true) × (x.now ≡ drop 2 l) × (length x.now + 2 ≡ length l))
+    (λ x. (pointwise eqb (take 2 l) (ascii "v ") ≡ true) × (x.now ≡ drop 2 l) × (length x.now + 2 ≡ length l))
     → MatchOption r (b ≡ false) (λ x. b ≡ are_literals (split_on 32 x.now)) → b ≡ is_values l
 unfolding is_values words_of
 tested l None b e h = rw (stripped (ascii "v ") l e) h
