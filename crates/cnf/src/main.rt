@@ -30,7 +30,7 @@ fn print_row(
 
 // Each row.
 fn print_file(rt: &impl Print, m: Model, bound: usize) -> io::Result<()> {
-    let mut page = [0u8; 65536];
+    let mut page = [0u8; dimacs::PAGE];
     let space: &mut [u8] = &mut page;
     for row in 0..dimacs::rows_to_print(m, bound) {
         print_row(rt, m, bound, row, space)?;
@@ -42,11 +42,11 @@ fn main(rt: HostRuntime) -> io::Result<()> {
     let mut stdin = rt.stdin();
     let mut input = [0u8; LONGEST];
     let n = read_full(&mut stdin, &mut input)?;
-    let asked = dimacs::requested(&input[..n]);
-    if asked.number != 0 {
-        line(&rt, "refusal", asked.number as u64)?;
-        return line(&rt, "line", asked.line as u64);
+    match dimacs::requested(&input[..n]) {
+        Ok(asked) => print_file(&rt, asked.model, asked.bound),
+        Err(refusal) => {
+            line(&rt, "refusal", refusal.number() as u64)?;
+            line(&rt, "line", refusal.line() as u64)
+        }
     }
-    let model = asked.model;
-    print_file(&rt, model, asked.bound)
 }

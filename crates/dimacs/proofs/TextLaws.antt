@@ -1,15 +1,15 @@
--- The table of texts: the place of a word, the bytes of an entry, words by the table, and texts that are stored eight bytes at a time.
+-- The table of texts: the bytes of an entry, words by the table, and texts that are stored eight bytes at a time.
 use mathlib.Core.Path.{◌≡◌, refl, sym, ap, ◌∙◌}
 use mathlib.Core.Logic.{◌≢◌, ⊎_elim}
 use mathlib.Core.List.{List, [], ◌∷◌, ◌++◌, flat_map, append_assoc, append-nil}
 use Prim.Native.Nat.{ℕ, zero, suc, ◌+◌, ◌*◌, ◌-◌, ◌/◌, ◌%◌, ◌^◌, ◌≤◌, ◌<◌}
-use native.Mathlib.Nat.{mul_assoc, mul_comm, pow-succ', pow-le-pow_right, mod-eq_of_lt, div-div-eq-div-mul}
+use native.Mathlib.Nat.{mul_assoc, pow-succ', pow-le-pow_right, mod-eq_of_lt, div-div-eq-div-mul}
 use native.Mathlib.Numerals.{add-one}
 use native.Mathlib.Omega.{arith}
-use lib.IntN.{ℤ, pos, negsuc, neg_ℤ, nat_abs, ◌+ℤ◌}
+use lib.IntN.{ℤ, pos, negsuc, neg_ℤ, nat_abs}
 use lib.ListN.{length, take, drop, get_or, set, length-append, length-drop, length-set, take-append-drop}
-use lib.Seq.{take-suc, take-append-le, take-append-add, drop_at, drop-drop, take-add, get_or-take, get_or-set_same, get_or-set_other, length-take-le}
-use borrow.Author.Tests.{le-ltb, eq-eqb, ne_eqb}
+use lib.Seq.{take-suc, take-append-le, take-append-add, drop_at, drop-drop, get_or-set_same, get_or-set_other, length-take-le}
+use borrow.Author.Tests.{eq-eqb, ne_eqb}
 use borrow.Rule.Slice.PartMut.{put_mid, Post-is}
 use mir.Syntax.{w32, w64}
 use mir.Val.{SFits, to_z, of_z}
@@ -27,31 +27,7 @@ use Rattle.dimacs.specs.Texts.{most_near, entry_count, slot, entry_text, entries
 use Rattle.dimacs.specs.Written.{sign_text, word_text}
 use Rattle.dimacs.proofs.LineLaws.{text_zero, text_other}
 
--- ---- the place of a word
--- the place is 608 and the word, added
-place_is : (z : ℤ) → nat_abs z ≤ most_near → pos 608 +ℤ z ≡ pos (slot z)
-place_is (pos n) h = refl
-place_is (negsuc n) h = rw (le-ltb 608 (suc n) h)
-
--- the place is within the table
-pub slot_below : (z : ℤ) → nat_abs z ≤ most_near → slot z < entry_count
-slot_below (pos n) h = omega arith
-slot_below (negsuc n) h = omega arith
-
--- the sum as the code has it is the place
-pub sum_is : (z : ℤ) → SFits w32 z → nat_abs z ≤ most_near → pos 608 +ℤ to_z w32 (of_z w32 z) ≡ pos (slot z)
-sum_is z f h = ap (λ (y : ℤ). pos 608 +ℤ y) (to_z-of_z f) ∙ place_is z h
-
--- the place fits a word
-pub slot_fits : (z : ℤ) → nat_abs z ≤ most_near → SFits w32 (pos (slot z))
-slot_fits z h = record { sfits = omega (arith, slot_below z h) }
-
 -- ---- the bytes of a number
--- none of them
-pub bytes_none : (x : ℕ) → bytes_of 0 x ≡ []
-unfolding bytes_of
-bytes_none x = refl
-
 -- there are as many as asked for
 pub bytes_long : (k x : ℕ) → length (bytes_of k x) ≡ k
 unfolding bytes_of
@@ -68,24 +44,6 @@ bytes_low (suc k) (suc m) x a h =
     let low : (x + 256 ^ suc m * a) % 256 ≡ x % 256 = omega (arith, up) in
     let rest : (x + 256 ^ suc m * a) / 256 ≡ x / 256 + 256 ^ m * a = omega (arith, up) in
     rw (low, rest, bytes_low k m (x / 256) a (omega arith))
-
--- one more, counted by suc
-bytes_suc : (k x : ℕ) → bytes_of (suc k) x ≡ bytes_of k x ++ (x / 256 ^ k % 256 ∷ [])
-unfolding bytes_of
-bytes_suc zero x = ap (λ (n : ℕ). n % 256 ∷ []) (omega arith)
-bytes_suc (suc k) x =
-    let down : x / 256 / 256 ^ k ≡ x / 256 ^ suc k = div-div-eq-div-mul x 256 (256 ^ k) ∙ ap (λ (n : ℕ). x / n) (sym (pow-succ' 256 k)) in
-    ap (λ (l : List ℕ). x % 256 ∷ l) (bytes_suc k (x / 256)) ∙ ap (λ (n : ℕ). x % 256 ∷ (bytes_of k (x / 256) ++ (n % 256 ∷ []))) down
-
--- the same, counted as the code does
-pub bytes_more : (k x : ℕ) → bytes_of (k + 1) x ≡ bytes_of k x ++ (x / 256 ^ k % 256 ∷ [])
-bytes_more k x = ap (λ (n : ℕ). bytes_of n x) (add-one k) ∙ bytes_suc k x
-
--- what is above one more of them
-pub rest_more : (k x : ℕ) → x / 256 ^ k / 256 ≡ x / 256 ^ (k + 1)
-rest_more k x =
-    div-div-eq-div-mul x (256 ^ k) 256
-    ∙ ap (λ (n : ℕ). x / n) (mul_comm (256 ^ k) 256 ∙ sym (pow-succ' 256 k) ∙ ap (λ (n : ℕ). 256 ^ n) (sym (add-one k)))
 
 -- the first of them
 pub bytes_take : (k m x : ℕ) → k ≤ m → take k (bytes_of m x) ≡ bytes_of k x
@@ -324,10 +282,6 @@ all_at texts [] i h a = absurd (omega arith)
 all_at texts (z ∷ ws) zero h a = a.0
 all_at texts (z ∷ ws) (suc i) h a = all_at texts ws i (omega arith) a.1
 
--- the same where the first n have
-pub first_at_lem : (texts : List ℕ) (ws : List ℤ) (n i : ℕ) → n ≤ length ws → i < n → All (HasText texts) (take n ws) → HasText texts (get_or ws i (pos 0))
-first_at_lem texts ws n i h l a = rw (get_or-take n ws i (pos 0) l) at (all_at texts (take n ws) i (omega (arith, length-take-le n ws h)) a)
-
 -- the first words and the one after them take no more than all of them
 pub entries_room : (texts : List ℕ) (ws : List ℤ) (i : ℕ) → i < length ws
     → length (entries_text texts (take i ws)) + length (entry_text texts (get_or ws i (pos 0))) ≤ length (entries_text texts ws)
@@ -339,10 +293,6 @@ entries_room texts ws i h =
       ap length (entries_more texts ws i h),
       length-append (entries_text texts (take i ws)) (entry_text texts (get_or ws i (pos 0))),
     )
-
--- a word with a text, as the code passes it on, is near enough to have an entry
-pub word_near : {texts : List ℕ} {z : ℤ} → HasText texts z → SFits w32 z → nat_abs (to_z w32 (of_z w32 z)) ≤ most_near
-word_near has f = rw (to_z-of_z f) has.near
 
 -- what is known of the entry that was read for it: its text, of 2 to 7 bytes
 pub entry_known : {x : ℕ} {z : ℤ} (texts : List ℕ) → HasText texts z → SFits w32 z → x ≡ get_or texts (slot (to_z w32 (of_z w32 z))) 0

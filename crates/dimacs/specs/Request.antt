@@ -4,6 +4,7 @@ use Rattle.model.specs.declared.Model.{Model}
 use Rattle.model.specs.Record.{blank_model}
 use Rattle.text.specs.Bound.{bound_report, if_bound}
 use Rattle.text.specs.Text.{ReadReport, read_report, if_read, outcome_number, outcome_line}
+use Rattle.text.specs.declared.ReadRefusal.{ReadRefusal}
 use Rattle.dimacs.specs.declared.Request.{Request}
 use Rattle.dimacs.specs.declared.RequestRefusal.{RequestRefusal}
 use Rattle.dimacs.specs.declared.RequestRefusal.TheVariants.{NotABound, Text, BoundTooLarge}
@@ -34,6 +35,10 @@ abbrev pub request_refusal : RequestRefusal → RequestReport
 request_refusal NotABound = request_refused 9 0
 request_refusal (Text e) = request_refused (outcome_number e) (outcome_line e)
 request_refusal BoundTooLarge = request_refused 21 0
+
+-- a refusal of the text
+abbrev pub as_request_refusal : ReadRefusal → RequestRefusal
+as_request_refusal e = Text e
 
 -- the numbers of the answer
 abbrev pub request_told : Result Request RequestRefusal → RequestReport

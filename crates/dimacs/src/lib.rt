@@ -9,7 +9,7 @@ ghost use Rattle.dimacs.specs.Texts.{entry_count};
 ghost use Rattle.counts.specs.KnownCounts.{KnownCounts};
 ghost use Rattle.emission.specs.Cut.{most_piece_words};
 ghost use Rattle.dimacs.specs.Pages.{most_page_bytes, most_rows, most_pages, row_count, pages_in, page_of, has_file, rows_to_print, pages_to_print, page_text};
-ghost use Rattle.dimacs.specs.Request.{request_report, request_refusal, request_told};
+ghost use Rattle.dimacs.specs.Request.{request_report, request_refusal, as_request_refusal, request_told};
 
 use counts::{ListCounts, list_counts};
 use form::{ListRefusal, check_bound};
@@ -186,6 +186,14 @@ pub enum RequestRefusal {
     BoundTooLarge,
 }
 
+impl From<ReadRefusal> for RequestRefusal {
+    ghost from_gives = { λ e r. r ≡ as_request_refusal e };
+
+    fn from(refusal: ReadRefusal) -> RequestRefusal {
+        RequestRefusal::Text(refusal)
+    }
+}
+
 impl RequestRefusal {
     pub fn number(self) -> u8
         ensures { result ≡ (request_refusal self).number }
@@ -215,10 +223,7 @@ pub fn requested(input: &[u8]) -> Result<Request, RequestRefusal>
     let Some(line) = item.bound else {
         return Err(RequestRefusal::NotABound);
     };
-    let model = match item.text {
-        Ok(model) => model,
-        Err(refusal) => return Err(RequestRefusal::Text(refusal)),
-    };
+    let model = item.text?;
     let bound = line.bound as usize;
     if bound > Model::STEPS {
         return Err(RequestRefusal::BoundTooLarge);

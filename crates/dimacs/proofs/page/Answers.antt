@@ -1,5 +1,5 @@
 -- page: nothing without such a row, such a page or room for it; else written_page.
-use Rattle.std.proofs.Common.{arith, sym, ◌<◌, ◌≤◌, length}
+use Rattle.std.proofs.Common.{arith, ◌<◌, ◌≤◌, length}
 use Rattle.dimacs.specs.Pages.{rows_to_print, pages_to_print}
 use Rattle.dimacs.proofs.PrintLaws.{row_of_file, file_formed, file_small, rows_are, pages_are, no_row, no_page, no_room, some_page}
 use Rattle.dimacs.proofs.PrintLaws.{printed_none, printed_as}

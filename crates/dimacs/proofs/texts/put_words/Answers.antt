@@ -10,7 +10,7 @@ use Rattle.dimacs.proofs.texts.put_words.Goals.{After-split_at}
 -- the last three words have six bytes at least
 least : (c : After-split_at) → 6 ≤ length (entries_text c.args.texts.now c.split_at.result.1.now)
 least c =
-    let all = parts_all c.args.texts.now _ _ c.split_at.ensures.by_index.0 c.requires.1 in
+    let all = parts_all c.args.texts.now c.split_at.result.0.now c.split_at.result.1.now c.split_at.ensures.by_index.0 c.requires.1 in
     omega (arith, c.split_at.ensures.back_len, entries_least c.args.texts.now c.split_at.result.1.now all.1)
 
 pub put_ahead-end-requires : goal.put_ahead-end-requires
