@@ -1,5 +1,5 @@
 // The literals of a line.
-ghost use Rattle.std.specs.Prelude.{◌≡◌, [], ◌∷◌, ◌+◌, ◌-◌, ◌*◌, ◌<◌, length, take, drop, List, ℕ, Some};
+ghost use Rattle.std.specs.Prelude.{◌≡◌, [], ◌∷◌, ◌+◌, ◌-◌, ◌*◌, List, ℕ};
 ghost use Rattle.std.specs.Iterator.{YieldsFirst, item_count};
 ghost use Rattle.text.specs.bytes.Bytes.{split_on};
 ghost use Rattle.output.specs.Literals.{unsigned, is_positive, names_variable, are_literals, number_after};
