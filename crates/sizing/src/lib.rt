@@ -55,8 +55,11 @@ pub fn emitted(e: Result<ListCounts, EmitRefusal>) -> SizeAnswer
             words: n.words,
         },
         Err(refusal) => SizeAnswer {
+            number: refusal.number(),
+            line: 0,
+            variables: 0,
+            clauses: 0,
             words: refusal.words(),
-            ..refused(refusal.number(), 0)
         },
     }
 }
