@@ -132,7 +132,13 @@ fn put_cut_rows(
 }
 
 // The words of row `row`, as at the first block. Of a step after a step they are there: the first `held` ones.
-fn put_row_words(layout: &Layout, bound: usize, row: usize, held: usize, words: &mut [i32; WORDS]) -> usize
+fn put_row_words(
+    layout: &Layout,
+    bound: usize,
+    row: usize,
+    held: usize,
+    words: &mut [i32; WORDS],
+) -> usize
     requires { (row ≤ bound + 1) × FewWords layout.now.model × (follows_step bound row ≡ true → Holds (row_of layout.now.model 1 1) words.old held) }
     ensures { Holds (row_of layout.now.model (base_bound bound row) (base_row row)) words.new result }
 {
