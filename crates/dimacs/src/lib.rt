@@ -7,7 +7,6 @@ ghost use Rattle.dimacs.specs.File.{file};
 ghost use Rattle.dimacs.specs.Written.{Needed, Printed};
 ghost use Rattle.dimacs.specs.Texts.{entry_count};
 ghost use Rattle.counts.specs.KnownCounts.{KnownCounts};
-ghost use Rattle.emission.specs.Cut.{most_piece_words};
 ghost use Rattle.dimacs.specs.Pages.{most_page_bytes, most_rows, most_pages, row_count, pages_in, page_of, has_file, rows_to_print, pages_to_print, page_text};
 ghost use Rattle.dimacs.specs.Request.{request_report, request_refusal, as_request_refusal, request_told};
 
@@ -78,12 +77,12 @@ fn bytes_needed(
     n: ListCounts,
     one: ListCounts,
     bound: usize,
-    words: &mut [i32],
+    words: &mut [i32; WORDS],
     texts: &mut [u64],
     room: usize,
 ) -> usize
-    requires { KnownCounts layout.now.model bound n × KnownCounts layout.now.model 1 one × (bound ≤ 64) × (most_piece_words ≤ length words.old) × (length texts.old ≡ entry_count) }
-    ensures { Needed (file layout.now.model bound) room result × (length words.new ≡ length words.old) × (length texts.new ≡ entry_count) }
+    requires { KnownCounts layout.now.model bound n × KnownCounts layout.now.model 1 one × (bound ≤ 64) × (length texts.old ≡ entry_count) }
+    ensures { Needed (file layout.now.model bound) room result × (length texts.new ≡ entry_count) }
 {
     if 7 * n.words + 48 <= room {
         return 0;

@@ -2,10 +2,10 @@
 ghost use Rattle.std.specs.Prelude.{◌≡◌, ◌<◌, ◌≤◌, length};
 ghost use Rattle.buffer.specs.Buffers.{Room, Wrote};
 ghost use Rattle.counts.specs.KnownCounts.{KnownCounts};
-ghost use Rattle.emission.specs.Cut.{most_piece_words};
 ghost use Rattle.dimacs.specs.Texts.{entry_count};
 ghost use Rattle.dimacs.specs.Pages.{most_pages, row_count, pages_in, page_of};
 
+use crate::WORDS;
 use crate::lines::put_first_line;
 use crate::rows::{fill_row, put_base_piece};
 use crate::texts::put_words;
@@ -31,11 +31,11 @@ pub fn put_page(
     bound: usize,
     row: usize,
     p: usize,
-    words: &mut [i32],
+    words: &mut [i32; WORDS],
     texts: &mut [u64],
     out: &mut [u8],
 ) -> usize
-    requires { KnownCounts layout.now.model bound n × (bound ≤ 64) × (row < row_count bound) × (p < pages_in layout.now.model bound row) × (most_piece_words ≤ length words.old) × (length texts.old ≡ entry_count) × Room (page_of layout.now.model bound row p) out.old 0 }
+    requires { KnownCounts layout.now.model bound n × (bound ≤ 64) × (row < row_count bound) × (p < pages_in layout.now.model bound row) × (length texts.old ≡ entry_count) × Room (page_of layout.now.model bound row p) out.old 0 }
     ensures { Wrote (page_of layout.now.model bound row p) out.old out.new 0 result }
 {
     if row == 0 {

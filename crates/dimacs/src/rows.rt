@@ -1,6 +1,6 @@
 // The clause list as text, row after row: row 0 is the start, then the steps, then the end. A row is written from the words of the row of its kind
 // that begins at the first state block, with a table of the texts of its own numbers. A row of few enough words is written at once, and the words of
-// one step are those of all; else piece after piece. What `words` and `texts` hold afterwards is free, but for how long they are.
+// one step are those of all; else piece after piece. What `words` and `texts` hold afterwards is free, but for the length of `texts`.
 ghost use Rattle.std.specs.Prelude.{◌≡◌, true, ◌+◌, ◌-◌, ◌<◌, ◌≤◌, length};
 ghost use Rattle.model.specs.Indexed.{each};
 ghost use Rattle.model.specs.Automaton.{variables};
@@ -8,7 +8,7 @@ ghost use Rattle.list.specs.Items.{block_at};
 ghost use Rattle.list.specs.Clauses.{one_hot_width, clauses};
 ghost use Rattle.buffer.specs.Buffers.{Room, Wrote};
 ghost use Rattle.counts.specs.KnownCounts.{KnownCounts};
-ghost use Rattle.emission.specs.Cut.{most_piece_words, row_pieces, piece_of, row_of, base_row, base_bound};
+ghost use Rattle.emission.specs.Cut.{row_pieces, piece_of, row_of, base_row, base_bound};
 ghost use Rattle.dimacs.specs.File.{lines_of, file};
 ghost use Rattle.dimacs.specs.Texts.{entry_count, TextsOf};
 ghost use Rattle.dimacs.specs.Rows.{follows_step, repeats_row, FewWords, Holds};
@@ -41,18 +41,18 @@ pub fn put_base_piece(
     bound: usize,
     row: usize,
     p: usize,
-    words: &mut [i32],
+    words: &mut [i32; WORDS],
 ) -> usize
-    requires { (row ≤ bound + 1) × (p < row_pieces layout.now.model bound row) × (most_piece_words ≤ length words.old) }
-    ensures { Holds (piece_of layout.now.model (base_bound bound row) (base_row row) p) words.new result × (length words.new ≡ length words.old) }
+    requires { (row ≤ bound + 1) × (p < row_pieces layout.now.model bound row) }
+    ensures { Holds (piece_of layout.now.model (base_bound bound row) (base_row row) p) words.new result }
 {
     put_piece(layout, base_bound(bound, row), base_row(row), p, words)
 }
 
 // The words of row `row`, as at the first block.
-fn put_base_row(layout: &Layout, bound: usize, row: usize, words: &mut [i32]) -> usize
-    requires { (row ≤ bound + 1) × FewWords layout.now.model × (most_piece_words ≤ length words.old) }
-    ensures { Holds (row_of layout.now.model (base_bound bound row) (base_row row)) words.new result × (length words.new ≡ length words.old) }
+fn put_base_row(layout: &Layout, bound: usize, row: usize, words: &mut [i32; WORDS]) -> usize
+    requires { (row ≤ bound + 1) × FewWords layout.now.model }
+    ensures { Holds (row_of layout.now.model (base_bound bound row) (base_row row)) words.new result }
 {
     put_rows(layout, base_bound(bound, row), base_row(row), 1, words)
 }
@@ -95,13 +95,13 @@ fn put_cut_row(
     layout: &Layout,
     bound: usize,
     row: usize,
-    words: &mut [i32],
+    words: &mut [i32; WORDS],
     texts: &[u64],
     out: &mut [u8],
     at: usize,
 ) -> usize
-    requires { (bound ≤ 64) × (row ≤ bound + 1) × (most_piece_words ≤ length words.old) × TextsOf (block_at one_hot_width layout.now.model (row - 1)) (variables layout.now.model 1) texts.now × Room (lines_of (row_of layout.now.model bound row)) out.old at }
-    ensures { Wrote (lines_of (row_of layout.now.model bound row)) out.old out.new at result × (length words.new ≡ length words.old) }
+    requires { (bound ≤ 64) × (row ≤ bound + 1) × TextsOf (block_at one_hot_width layout.now.model (row - 1)) (variables layout.now.model 1) texts.now × Room (lines_of (row_of layout.now.model bound row)) out.old at }
+    ensures { Wrote (lines_of (row_of layout.now.model bound row)) out.old out.new at result }
 {
     let mut end = at;
     for p in 0..row_pieces(layout, bound, row) {
@@ -115,12 +115,12 @@ fn put_cut_row(
 fn put_cut_rows(
     layout: &Layout,
     bound: usize,
-    words: &mut [i32],
+    words: &mut [i32; WORDS],
     texts: &mut [u64],
     out: &mut [u8],
     at: usize,
 ) -> usize
-    requires { (bound ≤ 64) × (most_piece_words ≤ length words.old) × (length texts.old ≡ entry_count) × Room (lines_of (clauses layout.now.model bound)) out.old at }
+    requires { (bound ≤ 64) × (length texts.old ≡ entry_count) × Room (lines_of (clauses layout.now.model bound)) out.old at }
     ensures { Wrote (lines_of (clauses layout.now.model bound)) out.old out.new at result }
 {
     let mut end = at;
@@ -132,9 +132,15 @@ fn put_cut_rows(
 }
 
 // The words of row `row`, as at the first block. Of a step after a step they are there: the first `held` ones.
-fn put_row_words(layout: &Layout, bound: usize, row: usize, held: usize, words: &mut [i32]) -> usize
-    requires { (row ≤ bound + 1) × FewWords layout.now.model × (most_piece_words ≤ length words.old) × (follows_step bound row ≡ true → Holds (row_of layout.now.model 1 1) words.old held) }
-    ensures { Holds (row_of layout.now.model (base_bound bound row) (base_row row)) words.new result × (length words.new ≡ length words.old) }
+fn put_row_words(
+    layout: &Layout,
+    bound: usize,
+    row: usize,
+    held: usize,
+    words: &mut [i32; WORDS],
+) -> usize
+    requires { (row ≤ bound + 1) × FewWords layout.now.model × (follows_step bound row ≡ true → Holds (row_of layout.now.model 1 1) words.old held) }
+    ensures { Holds (row_of layout.now.model (base_bound bound row) (base_row row)) words.new result }
 {
     if follows_step(bound, row) {
         return held;
@@ -146,12 +152,12 @@ fn put_row_words(layout: &Layout, bound: usize, row: usize, held: usize, words: 
 fn put_whole_rows(
     layout: &Layout,
     bound: usize,
-    words: &mut [i32],
+    words: &mut [i32; WORDS],
     texts: &mut [u64],
     out: &mut [u8],
     at: usize,
 ) -> usize
-    requires { (bound ≤ 64) × FewWords layout.now.model × (most_piece_words ≤ length words.old) × (length texts.old ≡ entry_count) × Room (lines_of (clauses layout.now.model bound)) out.old at }
+    requires { (bound ≤ 64) × FewWords layout.now.model × (length texts.old ≡ entry_count) × Room (lines_of (clauses layout.now.model bound)) out.old at }
     ensures { Wrote (lines_of (clauses layout.now.model bound)) out.old out.new at result }
 {
     let mut end = at;
@@ -170,11 +176,11 @@ pub fn put_file(
     n: ListCounts,
     one: ListCounts,
     bound: usize,
-    words: &mut [i32],
+    words: &mut [i32; WORDS],
     texts: &mut [u64],
     out: &mut [u8],
 ) -> usize
-    requires { KnownCounts layout.now.model bound n × KnownCounts layout.now.model 1 one × (bound ≤ 64) × (most_piece_words ≤ length words.old) × (length texts.old ≡ entry_count) × Room (file layout.now.model bound) out.old 0 }
+    requires { KnownCounts layout.now.model bound n × KnownCounts layout.now.model 1 one × (bound ≤ 64) × (length texts.old ≡ entry_count) × Room (file layout.now.model bound) out.old 0 }
     ensures { Wrote (file layout.now.model bound) out.old out.new 0 result }
 {
     let start = put_first_line(n.variables, n.clauses, out, 0);
@@ -189,11 +195,11 @@ fn cut_row_bytes(
     layout: &Layout,
     bound: usize,
     row: usize,
-    words: &mut [i32],
+    words: &mut [i32; WORDS],
     texts: &[u64],
 ) -> usize
-    requires { (bound ≤ 64) × (row ≤ bound + 1) × (most_piece_words ≤ length words.old) × TextsOf (block_at one_hot_width layout.now.model (row - 1)) (variables layout.now.model 1) texts.now }
-    ensures { (result ≡ length (lines_of (row_of layout.now.model bound row))) × (length words.new ≡ length words.old) }
+    requires { (bound ≤ 64) × (row ≤ bound + 1) × TextsOf (block_at one_hot_width layout.now.model (row - 1)) (variables layout.now.model 1) texts.now }
+    ensures { (result ≡ length (lines_of (row_of layout.now.model bound row))) }
 {
     let mut bytes: usize = 0;
     for piece in 0..row_pieces(layout, bound, row) {
@@ -209,11 +215,11 @@ fn row_bytes(
     one: ListCounts,
     bound: usize,
     row: usize,
-    words: &mut [i32],
+    words: &mut [i32; WORDS],
     texts: &mut [u64],
 ) -> usize
-    requires { KnownCounts layout.now.model 1 one × (bound ≤ 64) × (row ≤ bound + 1) × (most_piece_words ≤ length words.old) × (length texts.old ≡ entry_count) }
-    ensures { (result ≡ length (lines_of (row_of layout.now.model bound row))) × (length words.new ≡ length words.old) × (length texts.new ≡ entry_count) }
+    requires { KnownCounts layout.now.model 1 one × (bound ≤ 64) × (row ≤ bound + 1) × (length texts.old ≡ entry_count) }
+    ensures { (result ≡ length (lines_of (row_of layout.now.model bound row))) × (length texts.new ≡ entry_count) }
 {
     fill_row(layout, row, texts);
     if one.words <= WORDS {
@@ -243,11 +249,11 @@ fn next_row_bytes(
     bound: usize,
     row: usize,
     last: usize,
-    words: &mut [i32],
+    words: &mut [i32; WORDS],
     texts: &mut [u64],
 ) -> usize
-    requires { KnownCounts layout.now.model 1 one × (bound ≤ 64) × (row ≤ bound + 1) × (most_piece_words ≤ length words.old) × (length texts.old ≡ entry_count) × (1 ≤ row → last ≡ length (lines_of (row_of layout.now.model bound (row - 1)))) }
-    ensures { (result ≡ length (lines_of (row_of layout.now.model bound row))) × (length words.new ≡ length words.old) × (length texts.new ≡ entry_count) }
+    requires { KnownCounts layout.now.model 1 one × (bound ≤ 64) × (row ≤ bound + 1) × (length texts.old ≡ entry_count) × (1 ≤ row → last ≡ length (lines_of (row_of layout.now.model bound (row - 1)))) }
+    ensures { (result ≡ length (lines_of (row_of layout.now.model bound row))) × (length texts.new ≡ entry_count) }
 {
     if repeats_row(layout, bound, row) {
         return last;
@@ -261,11 +267,11 @@ pub fn file_bytes(
     n: ListCounts,
     one: ListCounts,
     bound: usize,
-    words: &mut [i32],
+    words: &mut [i32; WORDS],
     texts: &mut [u64],
 ) -> usize
-    requires { KnownCounts layout.now.model bound n × KnownCounts layout.now.model 1 one × (bound ≤ 64) × (most_piece_words ≤ length words.old) × (length texts.old ≡ entry_count) }
-    ensures { (result ≡ length (file layout.now.model bound)) × (length words.new ≡ length words.old) × (length texts.new ≡ entry_count) }
+    requires { KnownCounts layout.now.model bound n × KnownCounts layout.now.model 1 one × (bound ≤ 64) × (length texts.old ≡ entry_count) }
+    ensures { (result ≡ length (file layout.now.model bound)) × (length texts.new ≡ entry_count) }
 {
     let mut bytes = first_line_bytes(n.variables, n.clauses);
     let mut last: usize = 0;

@@ -5,7 +5,7 @@ use Rattle.model.proofs.IndexedLaws.{T_true}
 use Rattle.dimacs.proofs.write_if_it_fits.Goals as goal
 
 pub bytes_needed-needed-requires : goal.bytes_needed-needed-requires
-bytes_needed-needed-requires c = (c.list_counts-n.ensures, c.list_counts-one.ensures, c.requires, omega arith, omega arith)
+bytes_needed-needed-requires c = (c.list_counts-n.ensures, c.list_counts-one.ensures, c.requires, omega arith)
 
 pub returns-then-out-needed : goal.returns-then-out-needed
 returns-then-out-needed c =
@@ -21,7 +21,7 @@ put_file-requires c =
     let l = a.layout.now in
     let needed = c.bytes_needed-needed in
     let room = has_room l.model a.bound a.out.now ((T_true _).0 l.formed) c.requires needed.result needed.ensures.0 c.if-out-needed.false in
-    (c.list_counts-n.ensures, c.list_counts-one.ensures, c.requires, omega (arith, needed.ensures.1), needed.ensures.2, room)
+    (c.list_counts-n.ensures, c.list_counts-one.ensures, c.requires, needed.ensures.1, room)
 
 pub returns : goal.returns
 returns c =

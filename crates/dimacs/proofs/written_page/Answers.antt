@@ -10,7 +10,7 @@ put_page-requires c =
     let p = c.requires in
     let l = a.layout.now in
     let most = page_most l.model l.formed a.bound p.0 a.row a.p p.1 p.2 in
-    (c.list_counts-n.ensures, p.0, p.1, p.2, omega arith, omega arith, page_room most p.3)
+    (c.list_counts-n.ensures, p.0, p.1, p.2, omega arith, page_room most p.3)
 
 pub returns : goal.returns
 returns c =

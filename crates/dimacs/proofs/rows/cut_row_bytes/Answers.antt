@@ -1,5 +1,5 @@
 -- cut_row_bytes: the bytes of a piece a turn.
-use Rattle.std.proofs.Common.{arith, refl, sym, ap, ◌≡◌, ◌∙◌, ◌<◌, ℕ, length, List}
+use Rattle.std.proofs.Common.{arith, sym, ap, ◌≡◌, ◌∙◌, ◌<◌, ℕ, length, List}
 use lib.ListN.{length-append}
 use lib.Seq.{length-take-le}
 use Rattle.model.specs.Indexed.{each}
@@ -13,11 +13,11 @@ use Rattle.dimacs.proofs.PageLaws.{piece_most}
 use Rattle.dimacs.proofs.rows.cut_row_bytes.Goals as goal
 
 pub loop-piece-init : goal.loop-piece-init
-loop-piece-init c = (sym (ap length (each_zero _)), omega arith, refl)
+loop-piece-init c = (sym (ap length (each_zero _)), omega arith)
 
 pub put_base_piece-count-requires : goal.put_base_piece-count-requires
 put_base_piece-count-requires c =
-    (c.requires.1, omega (arith, c.loop-piece-test.true, c.row_pieces-piece-end.ensures), omega (arith, c.loop-piece.invariant.2, c.requires.2))
+    (c.requires.1, omega (arith, c.loop-piece-test.true, c.row_pieces-piece-end.ensures))
 
 pub words_bytes-bytes-requires : goal.words_bytes-bytes-requires
 words_bytes-bytes-requires c =
@@ -26,10 +26,10 @@ words_bytes-bytes-requires c =
     let l = a.layout.now in
     let p = c.loop-piece.piece in
     let in_row : p < row_pieces l.model a.bound a.row = omega (arith, c.loop-piece-test.true, c.row_pieces-piece-end.ensures) in
-    let held = c.put_base_piece-count.ensures.0 in
-    let texts = piece_texts l.model l.formed a.bound a.row pre.0 pre.1 pre.3 p in_row held.front in
+    let held = c.put_base_piece-count.ensures in
+    let texts = piece_texts l.model l.formed a.bound a.row pre.0 pre.1 pre.2 p in_row held.front in
     let most = held_piece_most l.model l.formed a.bound a.row p in_row held in
-    (omega (arith, most, length-take-le _ c.put_base_piece-count.new.words held.fits), pre.3.long, texts)
+    (omega (arith, most, length-take-le _ c.put_base_piece-count.new.words held.fits), pre.2.long, texts)
 
 pub overflow_add-bytes : goal.overflow_add-bytes
 overflow_add-bytes c =
@@ -40,8 +40,8 @@ overflow_add-bytes c =
     let r = a.row in
     let p = c.loop-piece.piece in
     let in_row : p < row_pieces l.model k r = omega (arith, c.loop-piece-test.true, c.row_pieces-piece-end.ensures) in
-    let held = c.put_base_piece-count.ensures.0 in
-    let text = piece_lines l.model l.formed k r pre.0 pre.1 pre.3 p in_row held.front in
+    let held = c.put_base_piece-count.ensures in
+    let text = piece_lines l.model l.formed k r pre.0 pre.1 pre.2 p in_row held.front in
     let most = piece_most l.model l.formed k pre.0 r p pre.1 in_row in
     omega (arith, c.words_bytes-bytes.ensures, ap length text, most, c.loop-piece.invariant.1, row_pieces_most l.model l.formed k r, in_row)
 
@@ -56,12 +56,11 @@ loop-piece-preserved c =
     let f : ℕ → List ℕ = λ i. lines_of (piece_of l.model k r i) in
     let in_row : p < row_pieces l.model k r = omega (arith, c.loop-piece-test.true, c.row_pieces-piece-end.ensures) in
     let held = c.put_base_piece-count.ensures in
-    let text = piece_lines l.model l.formed k r pre.0 pre.1 pre.3 p in_row held.0.front in
+    let text = piece_lines l.model l.formed k r pre.0 pre.1 pre.2 p in_row held.front in
     let most = piece_most l.model l.formed k pre.0 r p pre.1 in_row in
     let bytes = c.words_bytes-bytes.ensures in (
       omega (arith, c.loop-piece.invariant.0, bytes, ap length text, ap length (each_more p f), length-append (each p f) (f p)),
       omega (arith, c.loop-piece.invariant.1, bytes, ap length text, most),
-      held.1 ∙ c.loop-piece.invariant.2,
     )
 
 pub returns : goal.returns
@@ -69,4 +68,4 @@ returns c =
     let a = c.args in
     let m = a.layout.now.model in
     let done : c.loop-piece.piece ≡ row_pieces m a.bound a.row = omega (arith, c.row_pieces-piece-end.ensures, c.loop-piece-test.false) in
-    (rw done at c.loop-piece.invariant.0 ∙ ap length (sym (row_pieces_joined m a.bound a.row)), c.loop-piece.invariant.2)
+    rw done at c.loop-piece.invariant.0 ∙ ap length (sym (row_pieces_joined m a.bound a.row))

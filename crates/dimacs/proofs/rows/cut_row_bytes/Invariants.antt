@@ -9,4 +9,4 @@ use Rattle.dimacs.proofs.rows.cut_row_bytes.Given as goal
 abbrev pub invariant-loop-piece : goal.invariant-loop-piece
 invariant-loop-piece l =
     (l.bytes ≡ length (each l.piece (λ i. lines_of (piece_of l.layout.model l.bound l.row i))))
-    × (l.bytes ≤ l.piece * most_page_bytes) × (length l.words ≡ length l.initial.words)
+    × (l.bytes ≤ l.piece * most_page_bytes)

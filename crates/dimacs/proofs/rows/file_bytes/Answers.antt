@@ -1,5 +1,5 @@
 -- file_bytes: the bytes of a row a turn, after those of the first line.
-use Rattle.std.proofs.Common.{arith, refl, ap, ◌≡◌, ◌∙◌, ◌+◌, ◌-◌, ℕ, length, List}
+use Rattle.std.proofs.Common.{arith, ap, ◌≡◌, ◌∙◌, ◌+◌, ◌-◌, ℕ, length, List}
 use lib.ListN.{length-append}
 use Rattle.model.specs.Indexed.{each}
 use Rattle.model.proofs.IndexedLaws.{each_zero}
@@ -18,15 +18,14 @@ loop-row-init c =
     let first = first_line_is m k c.args.n c.requires.0 in (
       omega (arith, c.first_line_bytes-bytes.ensures, ap length first, ap length (each_zero (λ r. lines_of (row_of m k r)))),
       λ h. absurd (omega (arith, h)),
-      refl,
-      c.requires.4,
+      c.requires.3,
     )
 
 pub next_row_bytes-last-requires : goal.next_row_bytes-last-requires
 next_row_bytes-last-requires c =
     let pre = c.requires in
     let loop = c.loop-row.invariant in
-    (pre.1, pre.2, omega (arith, c.loop-row-test.true), omega (arith, loop.2, pre.3), loop.3, loop.1)
+    (pre.1, pre.2, omega (arith, c.loop-row-test.true), loop.2, loop.1)
 
 pub overflow_add-bytes : goal.overflow_add-bytes
 overflow_add-bytes c =
@@ -58,8 +57,7 @@ loop-row-preserved c =
     let back : r ≡ r + 1 - 1 = omega arith in (
       omega (arith, c.loop-row.invariant.0, row.0, ap length (each_more r f), length-append (each r f) (f r)),
       λ h. row.0 ∙ ap (λ (i : ℕ). length (f i)) back,
-      row.1 ∙ c.loop-row.invariant.2,
-      row.2,
+      row.1,
     )
 
 pub returns : goal.returns
@@ -69,4 +67,4 @@ returns c =
     let f : ℕ → List ℕ = λ i. lines_of (row_of m k i) in
     let done : c.loop-row.row ≡ k + 2 = omega (arith, c.loop-row-test.false) in
     let all : c.loop-row.bytes ≡ length (file m k) = omega (arith, c.loop-row.invariant.0, ap (λ (i : ℕ). length (each i f)) done, file_long m k) in
-    (all, c.loop-row.invariant.2, c.loop-row.invariant.3)
+    (all, c.loop-row.invariant.2)

@@ -12,5 +12,5 @@ abbrev pub invariant-loop-row : goal.invariant-loop-row
 invariant-loop-row l =
     (l.bytes ≡ length (first_line (variables l.layout.model l.bound) (length (clauses l.layout.model l.bound)))
     + length (each l.row (λ r. lines_of (row_of l.layout.model l.bound r))))
-    × (1 ≤ l.row → l.last ≡ length (lines_of (row_of l.layout.model l.bound (l.row - 1)))) × (length l.words ≡ length l.initial.words)
+    × (1 ≤ l.row → l.last ≡ length (lines_of (row_of l.layout.model l.bound (l.row - 1))))
     × (length l.texts ≡ entry_count)

@@ -14,10 +14,10 @@ put_piece-requires c =
     let near = c.base_row.ensures in
     let pieces : row_pieces m c.base_bound.result c.base_row.result ≡ row_pieces m a.bound a.row =
     (λ i. row_pieces m (reach i) (near i)) ∙ base_pieces m a.bound a.row in
-    (omega (arith, reach, base_bound_most a.bound a.row), omega (arith, near, base_row_first a.row), omega (arith, pre.1, pieces), pre.2)
+    (omega (arith, reach, base_bound_most a.bound a.row), omega (arith, near, base_row_first a.row), omega (arith, pre.1, pieces), omega arith)
 
 pub returns : goal.returns
 returns c =
     let a = c.args in
     let w = rw (c.base_bound.ensures, c.base_row.ensures) at c.put_piece.ensures in
-    (wrote_holds (piece_of a.layout.now.model (base_bound a.bound a.row) (base_row a.row) a.p) w, w.words.long)
+    wrote_holds (piece_of a.layout.now.model (base_bound a.bound a.row) (base_row a.row) a.p) w

@@ -17,7 +17,7 @@ put_rows-requires c =
     let same = ap (λ (cs : List Clause). length (words_of cs)) (one_row l.model a.bound a.row reach near) in (
       omega (arith, reach, base_bound_most a.bound a.row),
       omega (arith, near, base_row_first a.row),
-      record { words = record { room = omega (arith, few, same, c.requires.2) } },
+      record { words = record { room = omega (arith, few, same) } },
     )
 
 pub returns : goal.returns
@@ -25,4 +25,4 @@ returns c =
     let a = c.args in
     let m = a.layout.now.model in
     let w = wrote_as (sym (one_row m a.bound a.row c.base_bound.ensures c.base_row.ensures)) c.put_rows.ensures in
-    (wrote_holds (row_of m (base_bound a.bound a.row) (base_row a.row)) w, w.words.long)
+    wrote_holds (row_of m (base_bound a.bound a.row) (base_row a.row)) w

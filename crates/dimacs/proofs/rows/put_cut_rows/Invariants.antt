@@ -10,4 +10,4 @@ use Rattle.dimacs.proofs.rows.put_cut_rows.Given as goal
 abbrev pub invariant-loop-row : goal.invariant-loop-row
 invariant-loop-row l =
     Wrote (each l.row (λ r. lines_of (row_of l.layout.model l.bound r))) l.initial.out l.out l.at l.end
-    × (length l.words ≡ length l.initial.words) × (length l.texts ≡ entry_count)
+    × (length l.texts ≡ entry_count)

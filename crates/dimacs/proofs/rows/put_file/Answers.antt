@@ -11,15 +11,15 @@ pub put_first_line-start-requires : goal.put_first_line-start-requires
 put_first_line-start-requires c =
     let pre = c.requires in
     let m = c.args.layout.now.model in
-    room_first (lines_of (clauses m c.args.bound)) (room_as (file_parts m c.args.bound c.args.n pre.0) pre.5)
+    room_first (lines_of (clauses m c.args.bound)) (room_as (file_parts m c.args.bound c.args.n pre.0) pre.4)
 
 pub put_whole_rows-requires : goal.put_whole_rows-requires
 put_whole_rows-requires c =
     let pre = c.requires in
     let m = c.args.layout.now.model in
     let few : FewWords m = omega (arith, pre.1.words, c.if-one-le-WORDS.true) in
-    let rest = room_then c.put_first_line-start.ensures (room_as (file_parts m c.args.bound c.args.n pre.0) pre.5) in
-    (pre.2, few, pre.3, pre.4, rest)
+    let rest = room_then c.put_first_line-start.ensures (room_as (file_parts m c.args.bound c.args.n pre.0) pre.4) in
+    (pre.2, few, pre.3, rest)
 
 pub returns-then-one-le-WORDS : goal.returns-then-one-le-WORDS
 returns-then-one-le-WORDS c =
@@ -29,8 +29,8 @@ returns-then-one-le-WORDS c =
 pub put_cut_rows-requires : goal.put_cut_rows-requires
 put_cut_rows-requires c =
     let pre = c.requires in
-    let rest = room_then c.put_first_line-start.ensures (room_as (file_parts c.args.layout.now.model c.args.bound c.args.n pre.0) pre.5) in
-    (pre.2, pre.3, pre.4, rest)
+    let rest = room_then c.put_first_line-start.ensures (room_as (file_parts c.args.layout.now.model c.args.bound c.args.n pre.0) pre.4) in
+    (pre.2, pre.3, rest)
 
 pub returns : goal.returns
 returns c =

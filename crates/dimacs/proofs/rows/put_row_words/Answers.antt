@@ -1,5 +1,5 @@
 -- put_row_words: a step after a step has the same words.
-use Rattle.std.proofs.Common.{arith, refl, sym, ◌∙◌, List}
+use Rattle.std.proofs.Common.{arith, sym, ◌∙◌, List}
 use mathlib.Core.Path.{subst}
 use Rattle.list.specs.Clauses.{Clause}
 use Rattle.dimacs.specs.Rows.{Holds}
@@ -13,4 +13,4 @@ returns-then-follows_step c =
     let e = sym c.follows_step.ensures ∙ c.if-follows_step.true in
     let f = follows m a.bound a.row e in
     let base = step_base m a.bound a.row (λ q. omega (arith, f.0)) f.1 in
-    (subst (λ (cs : List Clause). Holds cs a.words.now a.held) (sym base) (c.requires.3 e), refl)
+    subst (λ (cs : List Clause). Holds cs a.words.now a.held) (sym base) (c.requires.2 e)

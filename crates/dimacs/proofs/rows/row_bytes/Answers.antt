@@ -11,7 +11,7 @@ words_bytes-requires c =
     let pre = c.requires in
     let l = a.layout.now in
     let few : FewWords l.model = omega (arith, pre.0.words, c.if-one-le-WORDS.true) in
-    let held = c.put_base_row-count.ensures.0 in
+    let held = c.put_base_row-count.ensures in
     let most = held_row_most l.model l.formed a.bound a.row few held in
     let texts = c.fill_row.ensures in (
       omega (arith, most, length-take-le _ c.put_base_row-count.new.words held.fits),
@@ -26,5 +26,5 @@ returns-then-one-le-WORDS c =
     let l = a.layout.now in
     let held = c.put_base_row-count.ensures in
     let texts = c.fill_row.ensures in
-    let text = row_lines l.model l.formed a.bound a.row pre.1 pre.2 texts held.0.front in
-    (c.words_bytes.ensures ∙ ap length text, held.1, texts.long)
+    let text = row_lines l.model l.formed a.bound a.row pre.1 pre.2 texts held.front in
+    (c.words_bytes.ensures ∙ ap length text, texts.long)
