@@ -9,12 +9,13 @@ ghost use Rattle.encode.specs.EncodeCall.{encode_report, encode_left};
 ghost use Rattle.decode.specs.DecodeCall.{decode_report, decode_left};
 ghost use Rattle.counts.specs.CountsCall.{list_report};
 ghost use Rattle.dimacs.specs.DimacsCall.{file_report, file_left};
+ghost use Rattle.compose.specs.ComposeCall.{compose_report};
 ghost use Rattle.compose.specs.Parts.{parts_report};
 ghost use Rattle.emission.specs.EmitCall.{emit_report, emit_left};
 ghost use Rattle.refute.specs.RefuteCall.{refute_report};
 ghost use Rattle.sizing.specs.SizeCall.{refused_sizes, emitted_sizes, size_told};
 ghost use Rattle.wirdoku.specs.TextCall.{answer_told, counted_sizes, shape_of, refused_shape, file_reply, refused_file, state_answer, zero_state, step_answer, refute_reply, refused_refute};
-ghost use Rattle.wirdoku.specs.PairCall.{if_both, both_read, text_refused, both_told, pair_report, if_pair, pair_refusal, pair_told, pair_answer, parts_answer, refused_parts};
+ghost use Rattle.wirdoku.specs.PairCall.{if_both, both_read, text_refused, both_told, pair_report, pair_composed, if_pair, pair_refusal, pair_told, pair_answer, parts_answer, refused_parts};
 
 use crate::calls::{
     counted, decoded, encoded, filed, refused_file, refused_refute, refused_shape, refused_sizes,
@@ -89,17 +90,34 @@ impl PairRefusal {
 fn read_both(first: &[u8], second: &[u8]) -> Result<(Model, Model), PairRefusal>
     ensures { both_told result ≡ if_both (read_report first.now) (read_report second.now) both_read text_refused }
 {
-    let a = read_model(first).map_err(PairRefusal::First)?;
-    let b = read_model(second).map_err(PairRefusal::Second)?;
-    Ok((a, b))
+    let a = match read_model(first) {
+        Ok(model) => model,
+        Err(refusal) => return Err(PairRefusal::First(refusal)),
+    };
+    match read_model(second) {
+        Ok(b) => Ok((a, b)),
+        Err(refusal) => Err(PairRefusal::Second(refusal)),
+    }
+}
+
+// Two models as one: 38.
+fn composed(a: Model, b: Model) -> Result<Model, PairRefusal>
+    ensures { pair_told result ≡ pair_composed (compose_report a b) }
+{
+    match compose(a, b) {
+        Ok(model) => Ok(model),
+        Err(refusal) => Err(PairRefusal::NotComposed(refusal)),
+    }
 }
 
 // The composed model of both texts: the first text, the second, 38.
 fn read_pair(first: &[u8], second: &[u8]) -> Result<Model, PairRefusal>
     ensures { pair_told result ≡ pair_report (read_report first.now) (read_report second.now) }
 {
-    let (a, b) = read_both(first, second)?;
-    compose(a, b).map_err(PairRefusal::NotComposed)
+    match read_both(first, second) {
+        Ok((a, b)) => composed(a, b),
+        Err(refusal) => Err(refusal),
+    }
 }
 
 // Reads both texts and composes their models: the first text, the second, 38.
