@@ -8,7 +8,7 @@ use mathlib.Core.Path.{◌≡◌}
 use mathlib.Core.Logic.{◌↔◌}
 use mathlib.Core.List.{List, [], ◌∷◌, ◌++◌}
 use mathlib.Core.Bool.{true}
-use Rattle.std.specs.Prelude.{Some}
+use Rattle.std.specs.Prelude.{Option, Some}
 use Prim.Native.Nat.{ℕ, ◌-◌, ◌≤◌, ◌<◌, max}
 use lib.Dec.{T}
 use lib.IntN.{ℤ}
@@ -218,7 +218,7 @@ text_shortest = Texts.text_shortest
 pub output_satisfiable : (n : ℕ) (t : List ℕ) → SaysSatisfiable t n ↔ NamesOnce n t
 output_satisfiable = OutputClaims.satisfiable_iff
 
-pub output_unsatisfiable : (n : ℕ) (t : List ℕ) → (output_report t n ≡ output_accepted 20) ↔ (forms_in (tokens_of literal_of t) ≡ Unsatisfiable ∷ [])
+pub output_unsatisfiable : (n : ℕ) (t : List ℕ) → (output_report t n ≡ output_accepted 20) ↔ (forms_in (tokens_of literal_of t) ≡ Some Unsatisfiable ∷ [])
 output_unsatisfiable = OutputClaims.unsatisfiable_iff
 
 -- Accepted, a variable's byte is 1 exactly if its literal is bare, and 0 exactly if it has a minus; else the buffer is what it was.
@@ -350,7 +350,7 @@ refutes_never_20 = Pairs.refutes_never_20
 -- ---- updates in their written order
 -- The counters after the updates of an edge are the fold over the items of its set line, as they are written: each reads what those before it left, and
 -- the first that leaves its range refuses the edge.
-pub written_order : (vars : ℕ) (items : List SetRead) → vars ≤ 4 → fault_number (set_faults vars items) ≡ 0
+pub written_order : (vars : ℕ) (items : List (Option SetRead)) → vars ≤ 4 → fault_number (set_faults vars items) ≡ 0
     → (x : Edge) → x.updates ≡ update_slots items → x.order ≡ order_slots items
     → (counters : List Counter) (vs : List ℕ) → updated counters x vs (listed x) ≡ after_items counters vs items
 written_order = Written.updated_items

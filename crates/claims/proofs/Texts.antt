@@ -30,8 +30,6 @@ use Rattle.refutation.specs.Refutation.{refutes}
 use Rattle.refute.specs.RefuteCall.{checked_report, refute_reported, refute_report}
 use Rattle.text.specs.bytes.Ascii.{ascii}
 use Rattle.text.specs.bytes.Bytes.{first_at, starts_with, is_due, value_of, number_of, digits_of, split_on, is_hyphen, items_of}
-use Rattle.text.specs.declared.bytes.NumberRead.{NumberRead}
-use Rattle.text.specs.declared.bytes.NumberRead.TheVariants.{Malformed, Number}
 use Rattle.text.specs.bytes.Faulty.{fault_number, line_number, any_of, rises_from}
 use Rattle.text.specs.declared.bytes.Faults.{Faults}
 use Rattle.text.specs.atoms.Atoms.{relation_at, atom_of, atom_faults, atom_slots, inv_items, when_items}
@@ -344,9 +342,9 @@ bound_number : (input : List ℕ) → (bound_report input).number ≤ 9
 unfolding bound_report
 bound_number input = go (is_due (ascii "bound=") input) (number_of (value_of (ascii "bound=") input)) (first_at 10 input + 1)
   where
-    go : (d : Bool) (x : NumberRead) (next : ℕ) → (cond d (bound_in x next) bound_refused).number ≤ 9
-    go true Malformed next = omega arith
-    go true (Number n) next = omega arith
+    go : (d : Bool) (x : Option ℕ) (next : ℕ) → (cond d (bound_in x next) bound_refused).number ≤ 9
+    go true None next = omega arith
+    go true (Some n) next = omega arith
     go false x next = omega arith
 
 size_not : (input : List ℕ) (room : ℕ) → Not20 (size_report input room).number
