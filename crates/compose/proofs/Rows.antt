@@ -45,7 +45,8 @@ place_of n (suc m) k l = omega arith
 
 pub row_at : {A : Type 0} (g : ℕ → ℕ → A) (d : A) (n m k : ℕ) → k < n * m → get_or (each n (λ i. list_below (g i) m)) k d ≡ g (k / m) (k % m)
 row_at g d n m k l =
-    ap (λ (i : ℕ). get_or (each n (λ i. list_below (g i) m)) i d) (sym (place_of n m k l)) ∙ each_at g m d n (k / m) (k % m) (row_lt n m k l) (column_lt n m k l)
+    ap (λ (i : ℕ). get_or (each n (λ i. list_below (g i) m)) i d) (sym (place_of n m k l))
+    ∙ each_at g m d n (k / m) (k % m) (row_lt n m k l) (column_lt n m k l)
 
 pub row_none : {A : Type 0} (g : ℕ → ℕ → A) (d : A) (n m k : ℕ) → n * m ≤ k → get_or (each n (λ i. list_below (g i) m)) k d ≡ d
 row_none g d n m k l = get_or-eq_default (each n (λ i. list_below (g i) m)) d (omega (arith, l, length_rows g m n))

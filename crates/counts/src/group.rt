@@ -24,5 +24,8 @@ pub fn group_count(n: usize) -> Count
 pub fn groups_count(l: &Layout) -> Count
     ensures { (o : ℕ) → Counted (each l.now.table.groups (group_piece l.now.table o)) result.clauses result.words }
 {
-    Count::sum(l.table.groups, |g| group_count(l.table.group(g).size as usize))
+    Count::sum(
+        l.table.groups,
+        |g| group_count(l.table.group(g).size as usize),
+    )
 }

@@ -93,13 +93,15 @@ place_most a b (suc n) = go (bit a b) (place_most a (b + 1) n)
     go false h = omega (arith, h)
 
 pub place_found : (a : List ℕ) (b n k : ℕ) {r : Option ℕ} → b + n ≤ length a → k ≡ n
-    → r ≡ cond (ltb (position_or_len (λ x. eqb x 1) (take k (drop b a))) (length (take k (drop b a)))) (Some (position_or_len (λ x. eqb x 1) (take k (drop b a)))) None
+    → r ≡ cond (ltb (position_or_len (λ x. eqb x 1) (take k (drop b a))) (length (take k (drop b a))))
+    (Some (position_or_len (λ x. eqb x 1) (take k (drop b a)))) None
     → unwrap_or r n ≡ place_of_true a b n
 place_found a b n k {r} h e q =
     let long : length (take n (drop b a)) ≡ n = length-take-le n (drop b a) (omega (arith, length-drop b a, h)) in
     ap (λ (o : Option ℕ). unwrap_or o n)
     (q
-    ∙ ap (λ (j : ℕ). cond {A = Option ℕ} (ltb (position_or_len (λ x. eqb x 1) (take j (drop b a))) (length (take j (drop b a)))) (Some (position_or_len (λ x. eqb x 1) (take j (drop b a)))) None) e
+    ∙ ap (λ (j : ℕ). cond {A = Option ℕ} (ltb (position_or_len (λ x. eqb x 1) (take j (drop b a))) (length (take j (drop b a))))
+    (Some (position_or_len (λ x. eqb x 1) (take j (drop b a)))) None) e
     ∙ ap₂ (λ (p l : ℕ). cond {A = Option ℕ} (ltb p l) (Some p) None) (place_is a b n h) long)
     ∙ by (ltb (place_of_true a b n) n) refl
   where

@@ -59,7 +59,8 @@ module _ (m : Model) (k : ℕ) (a old : List ℕ) where
   left_accepted h = rw h
 
   -- a record or a bound that is refused
-  pub refused_list : (r : ListRefusal) → Err r ≡ bound_checked m k → (decode_refusal (list_refused r) ≡ decode_report m k a (length old)) × (old ≡ decode_left m k a old)
+  pub refused_list : (r : ListRefusal) → Err r ≡ bound_checked m k → (decode_refusal (list_refused r) ≡ decode_report m k a (length old)) ×
+      (old ≡ decode_left m k a old)
   refused_list MalformedRecord e = refused (report_20 m k a (length old) (bound_20 m k e)) refl
   refused_list LargeBound e = let w = bound_21 m k e in refused (report_21 m k a (length old) w.0 (lt-ltb 64 k w.1)) refl
 

@@ -77,7 +77,15 @@ pub wrote_copy : {p new old : List ℕ} {at e : ℕ} → e ≡ at + length p →
 wrote_copy {p} {new} {old} {at} {e} q is h =
     let list : put_mid at (e - at) old new ≡ take at old ++ (p ++ drop e old) = λ i. take at old ++ (is i ++ Post-is at e old (omega (arith, q)) i) in
     let parts : length (take at old ++ (p ++ drop e old)) ≡ length old =
-    omega (arith, length-append (take at old) (p ++ drop e old), length-append p (drop e old), length-take-le at old (omega (arith, q, h)), length-drop e old, q, h) in
+    omega (
+      arith,
+      length-append (take at old) (p ++ drop e old),
+      length-append p (drop e old),
+      length-take-le at old (omega (arith, q, h)),
+      length-drop e old,
+      q,
+      h,
+    ) in
     record { ends = q; fits = h; long = ap length list ∙ parts; list = list ∙ sym (append_assoc (take at old) p (drop e old)) }
 
 -- ---- entries that are made

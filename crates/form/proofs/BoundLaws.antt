@@ -1,10 +1,9 @@
 -- What the tests of a record and a bound tell.
-use Rattle.std.proofs.Common.{ℕ, ◌≡◌, ◌≤◌, ◌<◌, T, true, false, not, leb, Ok, Err, arith}
+use Rattle.std.proofs.Common.{ℕ, ◌≡◌, ◌≤◌, ◌<◌, true, false, Ok, Err, arith}
 use Rattle.std.proofs.lemmas.Grind.{common_steps}
 use Rattle.model.specs.declared.Model.{Model}
 use Rattle.model.specs.Form.{well_formed}
 use Rattle.form.specs.BoundCheck.{bound_checked}
-use Rattle.form.specs.declared.ListRefusal.{ListRefusal}
 use Rattle.form.specs.declared.ListRefusal.TheVariants.{NotWellFormed, BoundTooLarge}
 
 -- a well-formed record and a bound up to 64

@@ -22,7 +22,9 @@ fn atom_formed(a: Atom, clocks: u8, vars: u8) -> bool
             clock < clocks && constant <= Model::CLOCK_CONSTANT && relation != Relation::NotEqual
         }
         Atom::OnCounter {
-            counter, constant, ..
+            counter,
+            constant,
+            ..
         } => counter < vars && constant <= Model::COUNTER_VALUE,
     }
 }
@@ -44,9 +46,7 @@ fn no_gap(before: Atom, after: Atom) -> bool
 fn each_formed(atoms: [Atom; Model::ATOMS], clocks: u8, vars: u8) -> bool
     ensures { result ≡ each_formed clocks vars atoms }
 {
-    atoms
-        .iter()
-        .all(|atom| atom_formed(*atom, clocks, vars))
+    atoms.iter().all(|atom| atom_formed(*atom, clocks, vars))
 }
 
 fn filled_from_first(atoms: [Atom; Model::ATOMS]) -> bool
@@ -93,12 +93,7 @@ fn counters_formed(counters: [Counter; Model::COUNTERS], vars: u8) -> bool
         .all(|(i, counter)| counter_slot_formed(*counter, i, vars))
 }
 
-fn invariant_slot_formed(
-    atoms: [Atom; Model::ATOMS],
-    l: usize,
-    locations: u8,
-    clocks: u8,
-) -> bool
+fn invariant_slot_formed(atoms: [Atom; Model::ATOMS], l: usize, locations: u8, clocks: u8) -> bool
     ensures { result ≡ cond (ltb l locations) (atoms_formed clocks 0 atoms) (atoms_formed 0 0 atoms) }
 {
     if l < locations as usize {
@@ -111,10 +106,12 @@ fn invariant_slot_formed(
 fn invariants_formed(m: Model) -> bool
     ensures { result ≡ invariants_formed m }
 {
-    m.invariants
-        .iter()
-        .enumerate()
-        .all(|(l, invariant)| invariant_slot_formed(invariant.atoms, l, m.locations, m.clocks))
+    m.invariants.iter().enumerate().all(|(l, invariant)| invariant_slot_formed(
+        invariant.atoms,
+        l,
+        m.locations,
+        m.clocks,
+    ))
 }
 
 fn update_formed(u: Update, vars: u8) -> bool
@@ -230,10 +227,14 @@ fn edge_slot_formed(edge: Edge, e: usize, used: u8, locations: u8, clocks: u8, v
 fn edges_formed(m: Model) -> bool
     ensures { result ≡ edges_formed m }
 {
-    m.edges
-        .iter()
-        .enumerate()
-        .all(|(e, edge)| edge_slot_formed(*edge, e, m.used, m.locations, m.clocks, m.vars))
+    m.edges.iter().enumerate().all(|(e, edge)| edge_slot_formed(
+        *edge,
+        e,
+        m.used,
+        m.locations,
+        m.clocks,
+        m.vars,
+    ))
 }
 
 fn head_formed(m: Model) -> bool
@@ -252,10 +253,7 @@ fn head_formed(m: Model) -> bool
 pub fn well_formed(m: Model) -> bool
     ensures { result ≡ well_formed m }
 {
-    head_formed(m)
-        && counters_formed(m.counters, m.vars)
-        && invariants_formed(m)
-        && edges_formed(m)
+    head_formed(m) && counters_formed(m.counters, m.vars) && invariants_formed(m) && edges_formed(m)
 }
 
 // Why a record and a bound are refused.
@@ -300,8 +298,12 @@ fn slot_in_group(declared: u8, greatest: usize, v: u8, i: usize) -> bool
 fn counters_in_group(s: State, vars: u8, counters: [Counter; Model::COUNTERS]) -> bool
     ensures { result ≡ counters_in_group vars counters s }
 {
-    (0..Model::COUNTERS)
-        .all(|i| slot_in_group(vars, counters[i].greatest as usize, s.counters[i], i))
+    (0..Model::COUNTERS).all(|i| slot_in_group(
+        vars,
+        counters[i].greatest as usize,
+        s.counters[i],
+        i,
+    ))
 }
 
 fn clocks_in_group(s: State, clocks: u8, top: usize) -> bool

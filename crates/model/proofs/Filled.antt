@@ -9,7 +9,8 @@ use Rattle.model.specs.Indexed.{list_below}
 use Rattle.model.proofs.IndexedLaws.{list_more}
 
 -- one more element is stored
-pub filled : {A : Type 0} (f : ℕ → A) (l : List A) (i : ℕ) (v : A) → i < length l → take i l ≡ list_below f i → v ≡ f i → take (i + 1) (set l i v) ≡ list_below f (i + 1)
+pub filled : {A : Type 0} (f : ℕ → A) (l : List A) (i : ℕ) (v : A) → i < length l → take i l ≡ list_below f i → v ≡ f i → take (i + 1) (set l i v) ≡
+    list_below f (i + 1)
 filled {A} f l i v p e q =
     ap (λ (n : ℕ). take n (set l i v)) (add-one i) ∙ take-suc-set l i v p ∙ ap₂ (λ (a : List A) (b : A). a ++ (b ∷ [])) e q ∙ sym (list_more f i)
 

@@ -60,9 +60,7 @@ impl Model {
         let counters = self.counters_size();
         Totals {
             ceiling,
-            state: self.locations as usize
-                + counters
-                + self.clocks as usize * (ceiling + 1),
+            state: self.locations as usize + counters + self.clocks as usize * (ceiling + 1),
             choices: ceiling + 1 + self.used as usize,
         }
     }

@@ -133,8 +133,9 @@ impl State {
     {
         let values = e.updated(m.counters, self.counters)?;
         let next = self.after_edge(e, values);
-        let allowed =
-            self.location == e.source && all_hold(e.guard, self) && m.invariant_holds(next);
+        let allowed = self.location == e.source
+            && all_hold(e.guard, self)
+            && m.invariant_holds(next);
         allowed.then_some(next)
     }
 }

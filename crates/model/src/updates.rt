@@ -13,12 +13,7 @@ impl Update {
         matches!(self, Update::Keep)
     }
 
-    pub(crate) fn next(
-        self,
-        own: u8,
-        values: [u8; Model::COUNTERS],
-        greatest: u8,
-    ) -> Option<u8>
+    pub(crate) fn next(self, own: u8, values: [u8; Model::COUNTERS], greatest: u8) -> Option<u8>
         ensures { result ≡ new_counter (λ w. get_or values w 0) greatest own self }
     {
         match self {

@@ -1,11 +1,11 @@
 -- What follows emission, by its answer: a refusal, or the outcome of the check.
-use Rattle.std.proofs.Common.{ℕ, ◌≡◌, List, length, refl, ap, ◌∙◌, Ok, Err}
+use Rattle.std.proofs.Common.{ℕ, ◌≡◌, List, length, refl, ◌∙◌, Err}
 use Rattle.std.specs.Prelude.{ℤ, Result}
 use Rattle.model.specs.declared.Model.{Model}
 use Rattle.counts.specs.declared.ListCounts.{ListCounts}
 use Rattle.emission.specs.declared.EmitRefusal.{EmitRefusal}
 use Rattle.emission.specs.declared.EmitRefusal.TheVariants.{NotWellFormed, BoundTooLarge, BufferTooShort}
-use Rattle.emission.specs.EmitCall.{EmitReport, emit_report, emit_left, emit_told}
+use Rattle.emission.specs.EmitCall.{emit_report, emit_left, emit_told}
 use Rattle.refute.specs.RefuteCall.{RefuteReport, after_emission, refute_report, refute_told}
 
 -- nothing is checked after a refusal

@@ -8,7 +8,8 @@ use Rattle.text.specs.Text.{ReadReport}
 use Rattle.sizing.specs.SizeCall.{SizeReport, emitted_sizes, text_sizes, text_left, size_report, program_words, program_report}
 
 -- nothing but the number and the words is told of a refusal
-pub refusal_is : (e : EmitRefusal) → record { number = (emit_told (Err e)).number; line = 0; variables = 0; clauses = 0; words = (emit_told (Err e)).words } ≡ emitted_sizes (emit_told (Err e))
+pub refusal_is : (e : EmitRefusal) → record
+    { number = (emit_told (Err e)).number; line = 0; variables = 0; clauses = 0; words = (emit_told (Err e)).words } ≡ emitted_sizes (emit_told (Err e))
 refusal_is NotWellFormed = refl
 refusal_is BoundTooLarge = refl
 refusal_is (BufferTooShort w) = refl

@@ -65,11 +65,7 @@ pub fn emitted(e: Result<ListCounts, EmitRefusal>) -> SizeAnswer
 }
 
 // What was read of a text, then 21, then 22.
-fn read_sizes(
-    read: Result<Model, ReadRefusal>,
-    bound: usize,
-    out: &mut [i32],
-) -> SizeAnswer
+fn read_sizes(read: Result<Model, ReadRefusal>, bound: usize, out: &mut [i32]) -> SizeAnswer
     ensures { (size_told result ≡ text_sizes (read_told read) bound (length out.old)) × (out.new ≡ text_left (read_told read) bound out.old) }
 {
     match read {

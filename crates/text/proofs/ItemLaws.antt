@@ -81,12 +81,22 @@ module _ (t : List ℕ) (at : ℕ) where
       pub rest_left : r.at < length t → read_told (Err (BytesLeft r.line)) ≡ read_report (drop at t)
       unfolding read_report read_ended
       rest_left l =
-          rw (le-ltb 8192 (length (drop at t)) (omega (arith, length-drop at t, h)), ← p.is, lt-ltb 0 (length (drop r.at t)) (omega (arith, length-drop r.at t, l)))
+          rw (
+            le-ltb 8192 (length (drop at t)) (omega (arith, length-drop at t, h)),
+            ← p.is,
+            lt-ltb 0 (length (drop r.at t))
+                (omega (arith, length-drop r.at t, l)),
+          )
 
       pub rest_read : length t ≤ r.at → read_told (Ok r.model) ≡ read_report (drop at t)
       unfolding read_report read_ended
       rest_read l =
-          rw (le-ltb 8192 (length (drop at t)) (omega (arith, length-drop at t, h)), ← p.is, le-ltb 0 (length (drop r.at t)) (omega (arith, length-drop r.at t, l)))
+          rw (
+            le-ltb 8192 (length (drop at t)) (omega (arith, length-drop at t, h)),
+            ← p.is,
+            le-ltb 0 (length (drop r.at t))
+                (omega (arith, length-drop r.at t, l)),
+          )
 
 -- ---- what one reader finds from a place on
 module _ (t : List ℕ) (at : ℕ) (b : Option BoundLine) (is : bound_told b ≡ bound_report (drop at t)) where

@@ -5,7 +5,6 @@ use Rattle.model.specs.declared.Model.{Model}
 use Rattle.text.specs.Text.{ReadReport, if_read, outcome_number}
 use Rattle.text.specs.declared.ReadRefusal.{ReadRefusal}
 use Rattle.text.specs.declared.ReadRefusal.TheVariants.{TooLong, NotDue, NotOfItsForm, TooManyItems, OutOfRange, NotDeclared, SetTwiceOrNotRising, BytesLeft}
-use Rattle.compose.specs.declared.ComposeRefusal.{ComposeRefusal}
 use Rattle.compose.specs.declared.ComposeRefusal.TheVariants as compose
 use Rattle.wirdoku.specs.PairCall.{PairReport, if_both, both_read, text_refused, if_pair, refused_pair, pair_refusal, pair_told}
 use Rattle.wirdoku.specs.declared.pairs.PairRefusal.{PairRefusal}
@@ -13,21 +12,25 @@ use Rattle.wirdoku.specs.declared.pairs.PairRefusal.TheVariants.{First, Second, 
 
 -- ---- two texts, of which r and s are told
 module _ {A : Type 0} (call : Model → Model → A) (refused : ℕ → ℕ → ℕ → A) (r s : ReadReport) where
-  pub both_ok : {m n : Model} → ◌≡◌ {A = Result (Model × Model) (ℕ × ℕ × ℕ)} (Ok (m, n)) (if_both r s both_read text_refused) → call m n ≡ if_both r s call refused
+  pub both_ok : {m n : Model} → ◌≡◌ {A = Result (Model × Model) (ℕ × ℕ × ℕ)} (Ok (m, n)) (if_both r s both_read text_refused) → call m n ≡ if_both r
+      s call refused
   unfolding if_both if_read
   both_ok {m} {n} e = go (eqb r.number 0) (eqb s.number 0) e
     where
-      go : (a b : Bool) → ◌≡◌ {A = Result (Model × Model) (ℕ × ℕ × ℕ)} (Ok (m, n)) (cond a (cond b (Ok (r.model, s.model)) (Err (2, s.number, s.line))) (Err (1, r.number, r.line)))
+      go : (a b : Bool) → ◌≡◌ {A = Result (Model × Model) (ℕ × ℕ × ℕ)} (Ok (m, n))
+          (cond a (cond b (Ok (r.model, s.model)) (Err (2, s.number, s.line))) (Err (1, r.number, r.line)))
           → call m n ≡ cond a (cond b (call r.model s.model) (refused 2 s.number s.line)) (refused 1 r.number r.line)
       go true true e = let p : ◌≡◌ {A = Model × Model} (m, n) (r.model, s.model) = cc in ap (λ (x : Model × Model). call x.0 x.1) p
       go true false e = cc
       go false b e = cc
 
-  pub both_err : {t n l : ℕ} → ◌≡◌ {A = Result (Model × Model) (ℕ × ℕ × ℕ)} (Err (t, n, l)) (if_both r s both_read text_refused) → refused t n l ≡ if_both r s call refused
+  pub both_err : {t n l : ℕ} → ◌≡◌ {A = Result (Model × Model) (ℕ × ℕ × ℕ)} (Err (t, n, l)) (if_both r s both_read text_refused) → refused t n l ≡
+      if_both r s call refused
   unfolding if_both if_read
   both_err {t} {n} {l} e = go (eqb r.number 0) (eqb s.number 0) e
     where
-      go : (a b : Bool) → ◌≡◌ {A = Result (Model × Model) (ℕ × ℕ × ℕ)} (Err (t, n, l)) (cond a (cond b (Ok (r.model, s.model)) (Err (2, s.number, s.line))) (Err (1, r.number, r.line)))
+      go : (a b : Bool) → ◌≡◌ {A = Result (Model × Model) (ℕ × ℕ × ℕ)} (Err (t, n, l))
+          (cond a (cond b (Ok (r.model, s.model)) (Err (2, s.number, s.line))) (Err (1, r.number, r.line)))
           → refused t n l ≡ cond a (cond b (call r.model s.model) (refused 2 s.number s.line)) (refused 1 r.number r.line)
       go true true e = cc
       go true false e = let p : ◌≡◌ {A = ℕ × ℕ × ℕ} (t, n, l) (2, s.number, s.line) = cc in ap (λ (x : ℕ × ℕ × ℕ). refused x.0 x.1 x.2) p

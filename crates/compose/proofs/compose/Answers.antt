@@ -10,7 +10,8 @@ use Rattle.compose.proofs.compose.Goals as goal
 pub returns-in_err-new : goal.returns-in_err-new
 unfolding compose_report
 returns-in_err-new c =
-    let told = refused c.args.a c.args.b (λ n. compose_reported n blank_model) (compose_reported 0 (composed c.args.a c.args.b)) c.in_err-new.field-0.0 c.in_err-new.ensures.err in
+    let told = refused c.args.a c.args.b (λ n. compose_reported n blank_model) (compose_reported 0 (composed c.args.a c.args.b))
+    c.in_err-new.field-0.0 c.in_err-new.ensures.err in
     grind (arith, common_steps, told)
 
 pub returns : goal.returns
@@ -18,4 +19,6 @@ unfolding compose_report
 returns c =
     let p = c.in_ok-new.field-0 in
     let same = c.in_ok-new.ensures.ok in
-    ap (compose_reported 0) c.composed.ensures ∙ taken p.a.model p.b.model (λ n. compose_reported n blank_model) _ p.a.formed p.b.formed p.held ∙ (λ i. compose_report (same.0 i) (same.1 i))
+    ap (compose_reported 0) c.composed.ensures
+    ∙ taken p.a.model p.b.model (λ n. compose_reported n blank_model) _ p.a.formed p.b.formed p.held
+    ∙ (λ i. compose_report (same.0 i) (same.1 i))

@@ -10,7 +10,7 @@ use Rattle.counts.proofs.CountLaws.{clauses_le, words_le, counted_is}
 use Rattle.counts.proofs.CountedList.{list_counted, list_words, known_variables}
 use Rattle.counts.proofs.PieceBounds.{state_most, moves_most, list_most}
 use Rattle.counts.proofs.list_counts.Goals as goal
-use Rattle.counts.proofs.list_counts.Goals.{After-add-step, After-add-all}
+use Rattle.counts.proofs.list_counts.Goals.{After-add-step}
 
 -- the bound times a step, by the counts of its two parts
 steps : (c : After-add-step) → let n = c.args.bound in let s = c.state_count-state.result in let t = c.moves_count.result in
@@ -58,8 +58,7 @@ add-requires-2 c =
 
 pub add-all-requires : goal.add-all-requires
 add-all-requires c =
-    let k = (goal.at.add-all-requires c).After-add-step in
-    (
+    let k = (goal.at.add-all-requires c).After-add-step in (
       omega (arith, (most k).0, (steps k).0, c.add.ensures.0, c.times.ensures.0, c.add-2.ensures.0),
       omega (arith, (most k).1, (steps k).1, c.add.ensures.1, c.times.ensures.1, c.add-2.ensures.1),
     )
@@ -81,8 +80,8 @@ returns c =
     let k = (goal.at.returns c).After-add-step in
     let m = list_most l.model l.formed c.args.bound c.requires in
     let n = counted_is (list_counted (known_of_layout l) c.args.bound c.state_count-state.ensures c.moves_count.ensures)
-        (omega (arith, (steps k).0, c.add.ensures.0, c.times.ensures.0, c.add-2.ensures.0, c.add-all.ensures.0))
-        (omega (arith, (steps k).1, c.add.ensures.1, c.times.ensures.1, c.add-2.ensures.1, c.add-all.ensures.1)) in
+    (omega (arith, (steps k).0, c.add.ensures.0, c.times.ensures.0, c.add-2.ensures.0, c.add-all.ensures.0))
+    (omega (arith, (steps k).1, c.add.ensures.1, c.times.ensures.1, c.add-2.ensures.1, c.add-all.ensures.1)) in
     record {
       variables = known_variables l.model l.totals (totals_of_layout l) c.args.bound;
       clauses = n.clauses_are;

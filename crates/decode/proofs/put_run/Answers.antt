@@ -15,8 +15,11 @@ pub loop-t-init : goal.loop-t-init
 loop-t-init c = record { long = length-take-le _ _ c.requires.3; bytes_are = sym (list_none _) }
 
 pub variable_number-choice-requires : goal.variable_number-choice-requires
-variable_number-choice-requires c =
-    (omega (arith, c.loop-t-test.true, length-take-le c.args.bound c.args.run.now c.requires.3, c.requires.1), omega (arith, choice_in_layout c.new-layout.result))
+variable_number-choice-requires c = (
+  omega (arith, c.loop-t-test.true, length-take-le c.args.bound c.args.run.now c.requires.3, c.requires.1),
+  omega
+      (arith, choice_in_layout c.new-layout.result),
+)
 
 pub overflow_sub-choice : goal.overflow_sub-choice
 overflow_sub-choice c =
@@ -28,7 +31,8 @@ place_of_true-requires c =
     let layout = c.new-layout.result in
     let known = totals_of_layout layout in
     let l : c.loop-t.t < c.args.bound = omega (arith, c.loop-t-test.true, length-take-le c.args.bound c.args.run.now c.requires.3) in
-    let long : length c.args.a.now ≡ variables layout.model c.args.bound = c.requires.2 ∙ ap (λ (m : Model). variables m c.args.bound) (sym c.new-layout.ensures) in
+    let long : length c.args.a.now ≡ variables layout.model c.args.bound = c.requires.2
+    ∙ ap (λ (m : Model). variables m c.args.bound) (sym c.new-layout.ensures) in
     omega (
       arith,
       c.variable_number-choice.ensures,

@@ -10,7 +10,8 @@ clock_groups-clocks-requires c = omega (arith, c.requires.1, (formed _ c.require
 
 pub put_group-after_location-requires : goal.put_group-after_location-requires
 put_group-after_location-requires c =
-    room_first _ (room_first _ (room_as (state_is c.args.m c.args.s c.args.top c.requires.0 c.requires.1 c.counter_groups-counters.ensures c.clock_groups-clocks.ensures) c.requires.2))
+    room_first _ (room_first _ (room_as
+    (state_is c.args.m c.args.s c.args.top c.requires.0 c.requires.1 c.counter_groups-counters.ensures c.clock_groups-clocks.ensures) c.requires.2))
 
 pub slice_bounds-counters-end : goal.slice_bounds-counters-end
 slice_bounds-counters-end c = omega (arith, (formed _ c.requires.0).vars_le, length_shown _ _ c.counter_groups-counters.ensures)
@@ -21,7 +22,8 @@ slice_bounds-put_groups-end c = sym (length_first _ _ _ (formed _ c.requires.0).
 pub put_groups-after_counters-requires : goal.put_groups-after_counters-requires
 put_groups-after_counters-requires c =
     room_then c.put_group-after_location.ensures
-    (room_first _ (room_as (state_is c.args.m c.args.s c.args.top c.requires.0 c.requires.1 c.counter_groups-counters.ensures c.clock_groups-clocks.ensures) c.requires.2))
+    (room_first _ (room_as (state_is c.args.m c.args.s c.args.top c.requires.0 c.requires.1 c.counter_groups-counters.ensures
+    c.clock_groups-clocks.ensures) c.requires.2))
 
 pub slice_bounds-clocks-end : goal.slice_bounds-clocks-end
 slice_bounds-clocks-end c = omega (arith, (formed _ c.requires.0).clocks_le, length_shown _ _ c.clock_groups-clocks.ensures)

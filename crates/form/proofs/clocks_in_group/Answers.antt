@@ -13,5 +13,6 @@ unfolding clocks_in_group
 returns c =
     let a = c.args in
     let slots = a.s.clocks in
-    all_from_yields_List (λ q. slot_in_group a.clocks a.top q.1 q.0) _ _ _ c.all.ensures.ran (YieldsList-from_enumerate (YieldsList-from_slice slots cc) cc) (λ x b q k. search (rules, tests))
+    all_from_yields_List (λ q. slot_in_group a.clocks a.top q.1 q.0) _ _ _ c.all.ensures.ran
+    (YieldsList-from_enumerate (YieldsList-from_slice slots cc) cc) (λ x b q k. search (rules, tests))
     ∙ rw (clocks_long a.s _ c.well_formed.0) at (all_enumerated 0 (λ i x. slot_in_group a.clocks a.top x i) slots)

@@ -13,5 +13,6 @@ pub returns : goal.returns
 unfolding counters_in_group
 returns c =
     let a = c.args in
-    all_from_yields_List (λ i. slot_in_group a.vars (get_or a.counters i blank_counter).greatest (value a.s (counter i)) i) _ _ _ c.all.ensures.ran (YieldsList-from_range 0 4 4 (cc) (omega arith)) (λ x b q k. search (rules, tests))
+    all_from_yields_List (λ i. slot_in_group a.vars (get_or a.counters i blank_counter).greatest (value a.s (counter i)) i) _ _ _ c.all.ensures.ran
+    (YieldsList-from_range 0 4 4 (cc) (omega arith)) (λ x b q k. search (rules, tests))
     ∙ all_range (λ i. slot_in_group a.vars (get_or a.counters i blank_counter).greatest (value a.s (counter i)) i) 4

@@ -13,5 +13,6 @@ unfolding resets_formed
 returns c =
     let a = c.args in
     let slots = a.slots in
-    all_from_yields_List (λ q. reset_slot_formed a.clocks q.1 q.0) _ _ _ c.all.ensures.ran (YieldsList-from_enumerate (YieldsList-from_slice slots cc) cc) (λ x b q k. search (rules, tests))
+    all_from_yields_List (λ q. reset_slot_formed a.clocks q.1 q.0) _ _ _ c.all.ensures.ran
+    (YieldsList-from_enumerate (YieldsList-from_slice slots cc) cc) (λ x b q k. search (rules, tests))
     ∙ rw c.well_formed.0.1.0.1 at (all_enumerated blank_reset (λ i x. reset_slot_formed a.clocks x i) slots)

@@ -11,7 +11,7 @@ returns-in-Ok c =
     let list = c.in-Ok.list in
     record {
       result_value = after_is a.m a.bound a.words.now _ a.hints.now (Ok list) (ap emit_told (sym c.in-Ok.is) ∙ c.emit.ensures.0) c.emit.ensures.1
-        (ap (λ (b : Bool). checked_report b list.words) c.refuted.ensures);
+          (ap (λ (b : Bool). checked_report b list.words) c.refuted.ensures);
       words_after = c.emit.ensures.1;
     }
 
@@ -20,6 +20,6 @@ returns-in-Err c =
     let a = c.args in
     record {
       result_value = after_is a.m a.bound a.words.now _ a.hints.now (Err c.in-Err.refusal) (ap emit_told (sym c.in-Err.is) ∙ c.emit.ensures.0) c.emit.ensures.1
-        (refused_is c.in-Err.refusal _ _);
+          (refused_is c.in-Err.refusal _ _);
       words_after = c.emit.ensures.1;
     }

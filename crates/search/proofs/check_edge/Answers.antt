@@ -12,14 +12,23 @@ use Rattle.search.proofs.StepLaws.{edge_checked, part_fits}
 use Rattle.search.proofs.check_edge.Goals as goal
 
 pub overflow_add-edges_at : goal.overflow_add-edges_at
-overflow_add-edges_at c = record { fits = omega (arith, (known_bounded (known_of_layout c.args.layout.now)).state_le, (known_bounded (known_of_layout c.args.layout.now)).top_le) }
+overflow_add-edges_at c = record
+    { fits = omega (arith, (known_bounded (known_of_layout c.args.layout.now)).state_le, (known_bounded (known_of_layout c.args.layout.now)).top_le) }
 
 pub overflow_add-edges_at-2 : goal.overflow_add-edges_at-2
-overflow_add-edges_at-2 c = record { fits = omega (arith, (known_bounded (known_of_layout c.args.layout.now)).state_le, (known_bounded (known_of_layout c.args.layout.now)).top_le) }
+overflow_add-edges_at-2 c = record
+    { fits = omega (arith, (known_bounded (known_of_layout c.args.layout.now)).state_le, (known_bounded (known_of_layout c.args.layout.now)).top_le) }
 
 pub overflow_add-x : goal.overflow_add-x
 overflow_add-x c =
-    record { fits = omega (arith, (known_bounded (known_of_layout c.args.layout.now)).state_le, (known_bounded (known_of_layout c.args.layout.now)).top_le, c.requires.2) }
+    record {
+      fits = omega (
+        arith,
+        (known_bounded (known_of_layout c.args.layout.now)).state_le,
+        (known_bounded (known_of_layout c.args.layout.now)).top_le,
+        c.requires.2,
+      );
+    }
 
 pub overflow_add-x-2 : goal.overflow_add-x-2
 overflow_add-x-2 c =

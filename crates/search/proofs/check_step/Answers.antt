@@ -26,8 +26,13 @@ returns-in_err-front c =
 pub check_edges-requires : goal.check_edges-requires
 check_edges-requires c =
     let at-o = c.block_start-o.ensures in
-    let pre = c.requires in
-    (pre.1, omega (arith, step_small (known_of_layout c.args.layout.now) _ c.args.t at-o pre.2), omega (arith, at-o, pre.3), omega (arith, c.in_ok-front.ensures.most, pre.4))
+    let pre = c.requires in (
+      pre.1,
+      omega (arith, step_small (known_of_layout c.args.layout.now) _ c.args.t at-o pre.2),
+      omega (arith, at-o, pre.3),
+      omega
+          (arith, c.in_ok-front.ensures.most, pre.4),
+    )
 
 pub returns-in_err-count : goal.returns-in_err-count
 returns-in_err-count c =

@@ -88,7 +88,8 @@ module _ (clocks vars : ℕ) (p : clocks < 256) (q : vars < 256) where
       (any_tail (is_undeclared clocks vars) a l u)
       ∙ rw (lt-ltb s.count 4 small, next, append_assoc front (slot_of a ∷ []) (map slot_of l))
 
-  filled : (items : List (Option AtomRead)) → fault_number (atom_faults clocks vars items) ≡ 0 → (foldl (absorbed clocks vars) no_atoms items).atoms ≡ atom_slots items
+  filled : (items : List (Option AtomRead)) → fault_number (atom_faults clocks vars items) ≡ 0 → (foldl (absorbed clocks vars) no_atoms items).atoms
+      ≡ atom_slots items
   unfolding atom_faults atom_slots no_atoms
   filled items h =
       let g = passed (atom_faults clocks vars items) h in

@@ -50,7 +50,9 @@ module _ (key : List ℕ) (faults : Model → List ℕ → Faults) (put : Model 
         → (e : ReadRefusal) → (outcome_number e ≡ line_told k) × (outcome_line e ≡ r.line) → Reads (read_line key faults put) t r (Err e)
     unfolding read_line line_number
     line_fault k f e q =
-        let n : fault_number (faults r.model (value_of key (drop r.at t))) ≡ line_told k = ap (λ (v : List ℕ). fault_number (faults r.model v)) (sym due.value_is) ∙ f in
+        let n : fault_number (faults r.model (value_of key (drop r.at t))) ≡ line_told k = ap (λ (v : List ℕ). fault_number (faults r.model v))
+        (sym due.value_is)
+        ∙ f in
         rw (due.due, n, fault_told k) (record { number_is = q.0; line_is = q.1 })
 
     -- no fault: the line is read
@@ -58,7 +60,8 @@ module _ (key : List ℕ) (faults : Model → List ℕ → Faults) (put : Model 
         → Reads (read_line key faults put) t r (Ok (record { line = r.line + 1; at = d.end + 1; model = m }))
     unfolding read_line line_number
     line_read p m f =
-        let n : fault_number (faults r.model (value_of key (drop r.at t))) ≡ 0 = ap (λ (v : List ℕ). fault_number (faults r.model v)) (sym due.value_is) ∙ f.0 in
+        let n : fault_number (faults r.model (value_of key (drop r.at t))) ≡ 0 = ap (λ (v : List ℕ). fault_number (faults r.model v)) (sym due.value_is)
+        ∙ f.0 in
         let model : m ≡ put r.model (value_of key (drop r.at t)) = f.1 ∙ ap (put r.model) due.value_is in
         let place : d.end + 1 ≡ r.at + (first_at 10 (drop r.at t) + 1) = omega (arith, due.end_is) in
         let rest : drop (d.end + 1) t ≡ after 10 (drop r.at t) =

@@ -39,7 +39,8 @@ module _ (clocks : ℕ) (p : clocks < 256) where
   stored_is (Some (ToZero x)) u = refl
   stored_is (Some (ToCopy x w)) u = rw (lt-ltb w 256 (omega (arith, leb-false clocks w (or_right (leb clocks x) (leb clocks w) u))))
 
-  filled : (items : List (Option ResetRead)) → fault_number (reset_faults clocks items) ≡ 0 → (foldl (absorbed clocks) no_resets items).resets ≡ reset_slots items
+  filled : (items : List (Option ResetRead)) → fault_number (reset_faults clocks items) ≡ 0 → (foldl (absorbed clocks) no_resets items).resets ≡
+      reset_slots items
   unfolding reset_slots no_resets absorbed put
   filled items h =
       let slot : ClockUpdate → ClockUpdate = λ u. u in

@@ -28,7 +28,8 @@ module _ (t : List ℕ) where
     pub unread_placed : Placed t r
     unread_placed = rw (e, p) (record { counted = omega arith; within = omega arith })
 
-    pub read_from : (q : Result Reading ReadRefusal) → Reads (λ p. read_edges (edges_line (read_invariants (read_counters (read_head p))))) t r q → ReadsFrom t at q
+    pub read_from : (q : Result Reading ReadRefusal) → Reads (λ p. read_edges (edges_line (read_invariants (read_counters (read_head p))))) t r q →
+        ReadsFrom t at q
     unfolding read_lines
     read_from q h =
         let s : progress t r ≡ unread (drop at t) = ap (progress t) e ∙ rw (p, drop_within at) in

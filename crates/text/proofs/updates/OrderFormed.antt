@@ -104,7 +104,8 @@ set_line vars items few h =
       once = λ i p. leb→le (times_set i items) 1 (each i p);
     }
 
-module _ (items : List (Option SetRead)) (line : SetLine items) (x : Edge) (updates : x.updates ≡ update_slots items) (order : x.order ≡ order_slots items) where
+module _ (items : List (Option SetRead)) (line : SetLine items) (x : Edge) (updates : x.updates ≡ update_slots items)
+    (order : x.order ≡ order_slots items) where
   pub slot_is : (k : ℕ) → k < 4 → counter_in x.order k ≡ counter_at items k
   unfolding order_slots
   slot_is k p = ap (λ (l : List ℕ). get_or l k 0) order ∙ get_d_list 0 (counter_at items) 4 k p

@@ -104,8 +104,15 @@ module _ (vars : ℕ) (p : vars < 256) where
 
     pub by_stages : Checked {A = Unit {0}} s.faults tt (Ok tt) → SetsOf vars items (Ok (record { updates = s.updates; order = s.order }))
     by_stages h =
-        let clean : fault_number (set_faults vars items) ≡ 0 = ap fault_number (sym same_faults_as) ∙ h.0 in
-        (clean, λ i. record { updates = (ap (λ (x : SetsRead). x.updates) e ∙ filled items clean) i; order = (ap (λ (x : SetsRead). x.order) e ∙ listed items clean) i })
+        let clean : fault_number (set_faults vars items) ≡ 0 = ap fault_number (sym same_faults_as) ∙ h.0 in (
+          clean,
+          λ i. record {
+            updates = (ap (λ (x : SetsRead). x.updates) e
+                ∙ filled items clean) i;
+            order = (ap (λ (x : SetsRead). x.order) e
+                ∙ listed items clean) i;
+          },
+        )
 
     pub by_fault : (fault : LineFault) → Checked {A = Unit {0}} s.faults tt (Err fault) → SetsOf vars items (Err fault)
     by_fault fault h = ap fault_number (sym same_faults_as) ∙ h

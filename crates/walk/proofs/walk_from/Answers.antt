@@ -20,7 +20,8 @@ pub returns-then-z-byte : goal.returns-then-z-byte
 returns-then-z-byte c =
     let h = left _ _ _ _ _ c.loop-t-test.true c.loop-t.invariant in
     let z = choices_of_totals _ _ c.totals-z.ensures in
-    let b = at_27 c.args.m (c.loop-t.t + 1) c.loop-t.s (get_or c.args.run.now c.loop-t.t 0) (drop (c.loop-t.t + 1) c.args.run.now) (le-leb _ _ (omega (arith, z, c.if-z-byte.true))) in
+    let b = at_27 c.args.m (c.loop-t.t + 1) c.loop-t.s (get_or c.args.run.now c.loop-t.t 0) (drop (c.loop-t.t + 1) c.args.run.now)
+    (le-leb _ _ (omega (arith, z, c.if-z-byte.true))) in
     sym (h ∙ b)
 
 pub overflow_cast-z : goal.overflow_cast-z
@@ -34,7 +35,7 @@ returns-in_default c =
     let h = left _ _ _ _ _ c.loop-t-test.true c.loop-t.invariant in
     let z = choices_of_totals _ _ c.totals-z.ensures in
     let b = at_28 c.args.m (c.loop-t.t + 1) c.loop-t.s (get_or c.args.run.now c.loop-t.t 0) (drop (c.loop-t.t + 1) c.args.run.now)
-      (lt-leb _ _ (omega (arith, z, c.if-z-byte.false))) (sym c.in_default.ensures) in
+    (lt-leb _ _ (omega (arith, z, c.if-z-byte.false))) (sym c.in_default.ensures) in
     sym (h ∙ b)
 
 pub loop-t-preserved : goal.loop-t-preserved
@@ -42,10 +43,14 @@ loop-t-preserved c =
     let h = left _ _ _ _ _ c.loop-t-test.true c.loop-t.invariant in
     let z = choices_of_totals _ _ c.totals-z.ensures in
     h ∙ goes_on c.args.m (c.loop-t.t + 1) c.loop-t.s (get_or c.args.run.now c.loop-t.t 0) (drop (c.loop-t.t + 1) c.args.run.now)
-      (lt-leb _ _ (omega (arith, z, c.if-z-byte.false))) (sym c.in-Some.ensures)
+    (lt-leb _ _ (omega (arith, z, c.if-z-byte.false))) (sym c.in-Some.ensures)
 
 pub returns-then-s-m : goal.returns-then-s-m
-returns-then-s-m c = sym (c.loop-t.invariant ∙ ap (walk_steps _ _ _) (drop_of_length-le c.args.run.now {i = c.loop-t.t} c.loop-t-test.false) ∙ end_30 _ _ _ (ne_eqb _ _ c.if-s-m.true))
+returns-then-s-m c = sym (c.loop-t.invariant
+    ∙ ap (walk_steps _ _ _) (drop_of_length-le c.args.run.now {i = c.loop-t.t} c.loop-t-test.false)
+    ∙ end_30 _ _ _ (ne_eqb _ _ c.if-s-m.true))
 
 pub returns : goal.returns
-returns c = sym (c.loop-t.invariant ∙ ap (walk_steps _ _ _) (drop_of_length-le c.args.run.now {i = c.loop-t.t} c.loop-t-test.false) ∙ end_0 _ _ _ (eq-eqb _ _ c.if-s-m.false))
+returns c = sym (c.loop-t.invariant
+    ∙ ap (walk_steps _ _ _) (drop_of_length-le c.args.run.now {i = c.loop-t.t} c.loop-t-test.false)
+    ∙ end_0 _ _ _ (eq-eqb _ _ c.if-s-m.false))

@@ -1,6 +1,5 @@
 -- `walk_from`: the report from the start equals the report of the bytes left from the state reached, turn by turn.
 use Rattle.std.proofs.Common.{◌≡◌, ◌+◌, drop}
-use Rattle.model.specs.Automaton.{choices, ceiling}
 use Rattle.walk.specs.Walker.{walk_steps}
 use Rattle.walk.proofs.walk_from.Given as goal
 

@@ -14,4 +14,5 @@ returns c =
     let b = c.args.b.model in
     let room = λ (v : Invariant). leb (c.args.n + atom_count v.atoms) 4 in
     all_from_yields_List room _ _ _ c.all.ensures.ran (YieldsList-from_slice _ cc) (λ x b q k. search (rules, tests))
-    ∙ front_all past_invariant room b.locations b.invariants (omega (arith, (long_of c.args.b _ c.well_formed.1.0).invariants, (formed b (form_of c.args.b)).locations_le))
+    ∙ front_all past_invariant room b.locations b.invariants
+    (omega (arith, (long_of c.args.b _ c.well_formed.1.0).invariants, (formed b (form_of c.args.b)).locations_le))

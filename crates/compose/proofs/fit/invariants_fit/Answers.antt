@@ -18,4 +18,5 @@ returns c =
     let b = c.args.b.model in
     let row = λ (v : Invariant). all_below (λ j. leb (atom_count v.atoms + atom_count (invariant_at b j)) 4) b.locations in
     all_from_yields_List row _ _ _ c.all.ensures.ran (YieldsList-from_slice _ cc) (λ x b q k. search (rules, tests))
-    ∙ front_all past_invariant row a.locations a.invariants (omega (arith, (long_of c.args.a _ c.well_formed.0).invariants, (formed a (form_of c.args.a)).locations_le))
+    ∙ front_all past_invariant row a.locations a.invariants
+    (omega (arith, (long_of c.args.a _ c.well_formed.0).invariants, (formed a (form_of c.args.a)).locations_le))

@@ -19,8 +19,10 @@ pub returns : goal.returns
 unfolding atom_count
 returns c =
     let atoms = c.args.atoms in
-    let g = count_from_yields_List _ _ c.count.ensures.ran (YieldsList-from_filter _ (λ x. not (is_blank x)) (YieldsList-from_slice atoms cc) c.filter.ensures.closure (λ x r q k. search (rules, tests))) in
+    let g = count_from_yields_List _ _ c.count.ensures.ran
+    (YieldsList-from_filter _ (λ x. not (is_blank x)) (YieldsList-from_slice atoms cc) c.filter.ensures.closure (λ x r q k. search (rules, tests))) in
     let is : c.count.result ≡ atom_count atoms =
     g ∙ length-filter (λ x. not (is_blank x)) atoms ∙ rw c.well_formed.0.1.0.1 at (sum_by_index blank_atom (λ x. cond (not (is_blank x)) 1 0) atoms)
-    ∙ sum_same (λ k. cond (not (is_blank (atom_at atoms k))) 1 0) (λ k. cond (is_blank (atom_at atoms k)) 0 1) 4 (λ k l. one_or_none (is_blank (atom_at atoms k))) in
+    ∙ sum_same (λ k. cond (not (is_blank (atom_at atoms k))) 1 0) (λ k. cond (is_blank (atom_at atoms k)) 0 1) 4
+    (λ k l. one_or_none (is_blank (atom_at atoms k))) in
     (is, omega (arith, is, atom_count_le atoms))

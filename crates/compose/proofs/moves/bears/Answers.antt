@@ -15,4 +15,5 @@ unfolding bears
 returns c =
     let m = c.args.m.model in
     any_from_yields_List (λ (e : Edge). eqb e.label c.args.label) _ _ _ c.any.ensures.ran (YieldsList-from_slice _ cc) (λ x b q k. search (rules, tests))
-    ∙ front_any past_edge (λ (e : Edge). eqb e.label c.args.label) m.used m.edges (omega (arith, (long_of c.args.m _ c.well_formed.0).edges, (formed m (form_of c.args.m)).used_le))
+    ∙ front_any past_edge (λ (e : Edge). eqb e.label c.args.label) m.used m.edges
+    (omega (arith, (long_of c.args.m _ c.well_formed.0).edges, (formed m (form_of c.args.m)).used_le))

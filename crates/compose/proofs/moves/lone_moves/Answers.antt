@@ -30,7 +30,8 @@ loop-e-preserved g c =
       | then-not-shared r ↦ (
         omega (arith, r.alone-moves.ensures.count, ap (λ (m : Moves). m.count) r.moves-is, w.locations_le),
         λ f h.
-            each_turn c.args.list (lone own other f) loop.e-counter _ (loop.invariant.1 f h) (r.moves-is ∙ r.alone-moves.ensures.moves (f loop.e-counter) (λ j x l p. search (rules, h)))
+            each_turn c.args.list (lone own other f) loop.e-counter _ (loop.invariant.1 f h) (r.moves-is
+            ∙ r.alone-moves.ensures.moves (f loop.e-counter) (λ j x l p. search (rules, h)))
             (lone_here own other f loop.e-counter (told ∙ r.if-not-shared.true)),
       )
       | else-not-shared r ↦ (

@@ -27,4 +27,5 @@ sum-requires-clause-small c g r p q =
 
 pub returns : goal.returns
 returns c o = c.sum.ensures _ (λ g r l e.
-    let n : (first : ℕ) → Counted (group_clauses first (size_at c.args.l.now.table g)) r.clauses r.words = search (rules, tests) in n (o + first_at c.args.l.now.table g))
+    let n : (first : ℕ) → Counted (group_clauses first (size_at c.args.l.now.table g)) r.clauses r.words = search (rules, tests) in n
+    (o + first_at c.args.l.now.table g))

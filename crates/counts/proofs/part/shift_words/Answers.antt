@@ -23,9 +23,9 @@ returns c =
     let lands : ℕ → Bool = λ v. is_some (shifted a.offset a.greatest v) in
     let landing : ℕ → ℕ = λ v. cond (lands v) 1 0 in
     let here : c.count-landing.result ≡ length (filter lands (range_with_len 0 a.n)) =
-        count_from_yields_List _ _ c.count-landing.ensures.ran
-        (YieldsList-from_filter _ lands (YieldsList-from_range 0 a.n a.n (cc) (omega arith)) c.filter.ensures.closure (λ x r q k. search (rules, tests))) in
+    count_from_yields_List _ _ c.count-landing.ensures.ran
+    (YieldsList-from_filter _ lands (YieldsList-from_range 0 a.n a.n (cc) (omega arith)) c.filter.ensures.closure (λ x r q k. search (rules, tests))) in
     let words : sum_below (rule_words (Shift a.offset a.greatest)) a.n ≡ sum_below (λ v. 3 + landing v) a.n =
-        sum_same _ _ a.n (λ v l. one_more (shifted a.offset a.greatest v)) in
+    sum_same _ _ a.n (λ v l. one_more (shifted a.offset a.greatest v)) in
     let same : sum_below (λ v. landing (0 + v)) a.n ≡ sum_below landing a.n = sum_same _ _ a.n (λ v l. ap landing (omega arith)) in
     omega (arith, here ∙ length-filter lands (range_with_len 0 a.n) ∙ sum_by_range landing 0 a.n ∙ same, words, sum_add (λ _. 3) landing a.n, sum_const a.n 3)

@@ -14,5 +14,6 @@ returns c =
     let l = c.args.l.now in
     let m = l.model in
     table_made (formed m l.formed).locations_le
-      (λ o. made_by_index _ _ (slot_of (invariant_of one_hot_width m o) m.locations) 0 (λ k y q h. search (rules, tests)) c.from_fn.result 16 c.from_fn.ensures.items)
-      (λ i p. let h = (invariant_most m l.formed 0 i p).clauses_most in omega (arith, h))
+    (λ o. made_by_index _ _ (slot_of (invariant_of one_hot_width m o) m.locations) 0 (λ k y q h. search (rules, tests)) c.from_fn.result 16
+    c.from_fn.ensures.items)
+    (λ i p. let h = (invariant_most m l.formed 0 i p).clauses_most in omega (arith, h))

@@ -18,8 +18,12 @@ put_ahead-end-requires c =
     let texts = c.args.texts.now in
     let parts = c.split_at.ensures.by_index.0 in
     let long = ap length (parts_text texts c.split_at.result.0.now c.split_at.result.1.now parts) in
-    let both = length-append (entries_text texts c.split_at.result.0.now) (entries_text texts c.split_at.result.1.now) in
-    (c.requires.0, (parts_all texts _ _ parts c.requires.1).0, omega (arith, c.requires.2.room, long, both, least (goal.at.put_ahead-end-requires c).After-split_at))
+    let both = length-append (entries_text texts c.split_at.result.0.now) (entries_text texts c.split_at.result.1.now) in (
+      c.requires.0,
+      (parts_all texts _ _ parts c.requires.1).0,
+      omega
+          (arith, c.requires.2.room, long, both, least (goal.at.put_ahead-end-requires c).After-split_at),
+    )
 
 pub put_exact-requires-2 : goal.put_exact-requires-2
 put_exact-requires-2 c =
@@ -32,4 +36,5 @@ put_exact-requires-2 c =
 
 pub returns : goal.returns
 returns c =
-    wrote_as (parts_text c.args.texts.now _ _ c.split_at.ensures.by_index.0) (ahead_then c.put_ahead-end.ensures c.put_exact-2.ensures (least (goal.at.returns c).After-split_at))
+    wrote_as (parts_text c.args.texts.now _ _ c.split_at.ensures.by_index.0)
+    (ahead_then c.put_ahead-end.ensures c.put_exact-2.ensures (least (goal.at.returns c).After-split_at))

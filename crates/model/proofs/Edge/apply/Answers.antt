@@ -1,3 +1,4 @@
+-- `apply`: within the slots by the new value, past them nothing is set.
 use Rattle.std.proofs.Common.{arith, sym, length, ◌≡◌}
 use Rattle.model.proofs.NewValues.{past_slots}
 use Rattle.model.proofs.Known.{updates_long}

@@ -1,5 +1,5 @@
 -- `updated`: the counters after the listed updates so far; the first that leaves its range makes the answer.
-use Rattle.std.proofs.Common.{◌+◌, arith, sym, ap, ◌∙◌, ◌≡◌, ◌≤◌, ◌<◌, length, take, get_or, List, ℕ}
+use Rattle.std.proofs.Common.{◌+◌, arith, sym, ap, ◌∙◌, ◌≡◌, ◌<◌, length, take, ℕ}
 use Rattle.std.proofs.lemmas.List.{get_or-take, length-take-le}
 use Rattle.model.specs.declared.Edge.{Edge}
 use Rattle.model.specs.Automaton.{listed, applied}
@@ -27,7 +27,7 @@ loop-counter-preserved c =
     let n = within a.self _ c.listed.ensures (order_long a.self _ c.well_formed.0) in
     let here : i < c.listed.result = omega (arith, n, c.loop-counter-test.true) in
     updated_next a.counters a.self a.values c.loop-counter.now i c.loop-counter.invariant
-      (ap (applied a.counters a.self c.loop-counter.now) (sym (get_or-take c.listed.result a.self.order i 0 here)) ∙ sym c.in_ok-now.ensures)
+    (ap (applied a.counters a.self c.loop-counter.now) (sym (get_or-take c.listed.result a.self.order i 0 here)) ∙ sym c.in_ok-now.ensures)
 
 pub returns-in_err-now : goal.returns-in_err-now
 returns-in_err-now c =
@@ -36,7 +36,7 @@ returns-in_err-now c =
     let n = within a.self _ c.listed.ensures (order_long a.self _ c.well_formed.0) in
     let here : i < c.listed.result = omega (arith, n, c.loop-counter-test.true) in
     let stop = updated_next a.counters a.self a.values c.loop-counter.now i c.loop-counter.invariant
-      (ap (applied a.counters a.self c.loop-counter.now) (sym (get_or-take c.listed.result a.self.order i 0 here)) ∙ sym c.in_err-now.ensures) in
+    (ap (applied a.counters a.self c.loop-counter.now) (sym (get_or-take c.listed.result a.self.order i 0 here)) ∙ sym c.in_err-now.ensures) in
     let none = updated_stays a.counters a.self a.values (i + 1) (listed a.self) stop (omega (arith, here, c.listed.ensures)) in
     cc
 

@@ -1,3 +1,4 @@
+-- `guard_constant`: the greatest over the edges, by their indexes.
 use Rattle.std.proofs.Common.{rules, tests, max, ◌∙◌}
 use Rattle.std.proofs.lemmas.Iterator.{YieldsList-from_slice}
 use Rattle.std.proofs.lemmas.Iterator.Consumers.{fold_from_yields_List}
@@ -12,5 +13,5 @@ pub returns : goal.returns
 returns c =
     let m = c.args.self in
     fold_from_yields_List _ (λ a (e : Edge). max a (greatest_constant e.guard)) 0 _ c.fold.ensures.ran (YieldsList-from_slice m.edges cc)
-      (λ a x b q k. search (rules, tests))
+    (λ a x b q k. search (rules, tests))
     ∙ rw (lengths m _ c.well_formed.0).edges at (max_by_index past_edge (λ e. greatest_constant e.guard) m.edges)

@@ -1,3 +1,4 @@
+-- `initial_counters`: each counter's initial value.
 use Rattle.std.proofs.Common.{rules, tests}
 use Rattle.model.specs.Record.{blank_counter}
 use Rattle.model.specs.declared.Counter.{Counter}

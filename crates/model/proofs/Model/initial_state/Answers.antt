@@ -1,3 +1,4 @@
+-- `initial_state`, field by field.
 use Rattle.model.specs.Indexed.{list_below}
 use Rattle.model.specs.Automaton.{initial_state}
 use Rattle.model.proofs.Model.initial_state.Goals as goal

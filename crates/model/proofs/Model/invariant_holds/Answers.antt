@@ -1,11 +1,10 @@
-use Rattle.std.proofs.Common.{rules, arith, length, ◌≤◌}
+-- `invariant_holds`: the invariant of the location, and none past the last.
+use Rattle.std.proofs.Common.{arith, length, ◌≤◌}
 use lib.ListN.{get_or-eq_default}
 use Rattle.std.proofs.lemmas.Grind.{common_steps}
-use Rattle.std.proofs.lemmas.Option.{get_or_from_slice_get}
 use Rattle.model.specs.Record.{past_invariant}
 use Rattle.model.specs.Indexed.{all_below}
 use Rattle.model.specs.Automaton.{all_hold, invariant_holds}
-use Rattle.model.proofs.Known.{lengths}
 use Rattle.model.proofs.Model.invariant_holds.Goals as goal
 
 pub returns-in-Some : goal.returns-in-Some

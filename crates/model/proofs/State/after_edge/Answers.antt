@@ -1,3 +1,4 @@
+-- `after_edge`, field by field.
 use Rattle.model.specs.Automaton.{after_edge}
 use Rattle.model.proofs.State.after_edge.Goals as goal
 

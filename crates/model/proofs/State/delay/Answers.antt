@@ -1,4 +1,5 @@
-use Rattle.std.proofs.Common.{rules, arith}
+-- `delay`: the later state, if its invariant holds.
+use Rattle.std.proofs.Common.{arith}
 use Rattle.std.proofs.lemmas.Grind.{common_steps}
 use Rattle.model.specs.Automaton.{delay_step}
 use Rattle.model.proofs.State.delay.Goals as goal

@@ -1,3 +1,4 @@
+-- `next_clocks`: each clock by its index.
 use Rattle.std.proofs.Common.{rules, tests}
 use Rattle.model.specs.Automaton.{next_clock}
 use Rattle.model.proofs.ByIndex.{made_by_index}

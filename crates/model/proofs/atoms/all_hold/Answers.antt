@@ -1,4 +1,5 @@
-use Rattle.std.proofs.Common.{rules, tests, sym, ◌∙◌}
+-- `all_hold`: all of the slots, by their indexes.
+use Rattle.std.proofs.Common.{rules, tests, ◌∙◌}
 use Rattle.std.proofs.lemmas.Iterator.{YieldsList-from_slice}
 use Rattle.std.proofs.lemmas.Iterator.Search.{all_from_yields_List}
 use Rattle.model.specs.Automaton.{all_hold, atom_holds}

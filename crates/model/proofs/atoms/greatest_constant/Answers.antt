@@ -1,3 +1,4 @@
+-- `greatest_constant`: the greatest over the slots, by their indexes.
 use Rattle.std.proofs.Common.{rules, tests, max, ◌∙◌}
 use Rattle.std.proofs.lemmas.Iterator.{YieldsList-from_slice}
 use Rattle.std.proofs.lemmas.Iterator.Consumers.{fold_from_yields_List}

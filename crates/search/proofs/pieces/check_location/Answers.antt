@@ -26,7 +26,8 @@ pub returns-then-not-is_true : goal.returns-then-not-is_true
 returns-then-not-is_true c =
     let k = known_of_layout c.args.layout.now in
     let pre = c.requires in
-    checked_passed (passed_over (location_true k c.args.a.now c.args.o c.args.l (sym c.if-not-is_true.ensures)) (location_clauses k c.args.o c.args.l pre.1 pre.0) refl)
+    checked_passed (passed_over (location_true k c.args.a.now c.args.o c.args.l (sym c.if-not-is_true.ensures))
+    (location_clauses k c.args.o c.args.l pre.1 pre.0) refl)
     (omega (arith, pre.0.few c.args.l pre.1))
 
 pub offset_bounds-layout-l : goal.offset_bounds-layout-l

@@ -47,6 +47,7 @@ pub returns : goal.returns
 returns c =
     let k = known_of_layout c.args.layout.now in
     let groups = checked_as (groups_piece_of k c.args.o) c.in_ok-count.ensures in
-    let invariants = upto_done c.loop-l.invariant (16 * most_invariant_clauses) c.loop-l-test.false (omega (arith, c.loop-l.invariant.le, (wf k).locations_le)) in
+    let invariants = upto_done c.loop-l.invariant (16 * most_invariant_clauses) c.loop-l-test.false
+    (omega (arith, c.loop-l.invariant.le, (wf k).locations_le)) in
     checked_as (sym (state_piece_lem c.args.layout.now.model c.args.o))
     (checked_then most_state_clauses (passed_check groups) (checked_as (invariants_piece_of k c.args.o) invariants) (omega (arith, groups.most)))

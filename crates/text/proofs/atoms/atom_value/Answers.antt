@@ -15,7 +15,8 @@ returns-in_err-check c =
     let step = absorbed c.args.clocks c.args.vars in
     let items = items_of c.args.v.now in
     let read : c.absorbed-read.result ≡ foldl step no_atoms (map (item_of c.args.counters) items) =
-    c.absorbed-read.ensures (λ s x. step s ((item_of c.args.counters) x)) (λ s x r q k. search (rules, tests)) ∙ folds_each step (item_of c.args.counters) no_atoms items in
+    c.absorbed-read.ensures (λ s x. step s ((item_of c.args.counters) x)) (λ s x r q k. search (rules, tests))
+    ∙ folds_each step (item_of c.args.counters) no_atoms items in
     rw e (by_fault c.args.clocks c.args.vars (search rules) (search rules) _ _ read _ c.in_err-check.ensures)
 
 pub returns : goal.returns
@@ -24,5 +25,6 @@ returns c =
     let step = absorbed c.args.clocks c.args.vars in
     let items = items_of c.args.v.now in
     let read : c.absorbed-read.result ≡ foldl step no_atoms (map (item_of c.args.counters) items) =
-    c.absorbed-read.ensures (λ s x. step s ((item_of c.args.counters) x)) (λ s x r q k. search (rules, tests)) ∙ folds_each step (item_of c.args.counters) no_atoms items in
+    c.absorbed-read.ensures (λ s x. step s ((item_of c.args.counters) x)) (λ s x r q k. search (rules, tests))
+    ∙ folds_each step (item_of c.args.counters) no_atoms items in
     by_stages c.args.clocks c.args.vars (search rules) (search rules) _ _ read c.in_ok-check.ensures

@@ -18,4 +18,7 @@ returns-else-is_hyphen g c =
     (YieldsList-from_slice_split _ (λ x. x == 44) c.args.v.now c.split.ensures.rest c.split.ensures.done c.split.ensures.closure
     (λ x b q k. search (rules, tests)))
     act
-    ∙ folds h c.args.start (slice_split (λ x. x == 44) c.args.v.now) ∙ ap (foldl h c.args.start) (parts_are 44 c.args.v.now ∙ sym (items_some _ (sym c.is_hyphen.ensures ∙ c.if-is_hyphen.false)))
+    ∙ folds h c.args.start (slice_split (λ x. x == 44) c.args.v.now)
+    ∙ ap (foldl h c.args.start) (parts_are 44 c.args.v.now
+    ∙ sym (items_some _ (sym c.is_hyphen.ensures
+    ∙ c.if-is_hyphen.false)))

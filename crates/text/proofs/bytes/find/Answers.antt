@@ -10,13 +10,17 @@ use Rattle.text.proofs.bytes.find.Goals as goal
 pub returns-in_err-place : goal.returns-in_err-place
 returns-in_err-place c =
     let a = c.args in
-    let p = position_from_yields_List (λ x. x == a.b) _ _ c.position.result c.position.ensures.ran (YieldsList-from_slice (drop a.at a.s.now) (c.iter.ensures.rest ∙ part_to_end a.s.now a.at))
+    let p = position_from_yields_List (λ x. x == a.b) _ _ c.position.result c.position.ensures.ran
+    (YieldsList-from_slice (drop a.at a.s.now) (c.iter.ensures.rest
+    ∙ part_to_end a.s.now a.at))
     (λ x b q k. search (rules, tests)) in
     subst (Found a.b a.at a.s.now) (sym c.from_residual.ensures) (found_none a.b a.at a.s.now c.requires p c.in_err-place.was)
 
 pub returns : goal.returns
 returns c =
     let a = c.args in
-    let p = position_from_yields_List (λ x. x == a.b) _ _ c.position.result c.position.ensures.ran (YieldsList-from_slice (drop a.at a.s.now) (c.iter.ensures.rest ∙ part_to_end a.s.now a.at))
+    let p = position_from_yields_List (λ x. x == a.b) _ _ c.position.result c.position.ensures.ran
+    (YieldsList-from_slice (drop a.at a.s.now) (c.iter.ensures.rest
+    ∙ part_to_end a.s.now a.at))
     (λ x b q k. search (rules, tests)) in
     found_some a.b a.at a.s.now c.requires p c.in_ok-place.was

@@ -8,4 +8,5 @@ use Rattle.text.proofs.edges.from_line.Goals as goal
 
 pub returns : goal.returns
 unfolding from_line
-returns c = c.line.ensures (λ m v. reference_faults m.locations (number_of v)) (λ m v. with_source m c.args.e (number_in (number_of v))) (λ x m r k. search rules)
+returns c = c.line.ensures (λ m v. reference_faults m.locations (number_of v)) (λ m v. with_source m c.args.e (number_in (number_of v)))
+    (λ x m r k. search rules)

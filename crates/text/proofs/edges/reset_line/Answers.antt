@@ -7,4 +7,5 @@ use Rattle.text.proofs.edges.reset_line.Goals as goal
 
 pub returns : goal.returns
 unfolding reset_line reset_items
-returns c = c.line.ensures (λ m v. reset_faults m.clocks (reset_items v)) (λ m v. with_resets m c.args.e (reset_slots (reset_items v))) (λ x m r k. search rules)
+returns c = c.line.ensures (λ m v. reset_faults m.clocks (reset_items v)) (λ m v. with_resets m c.args.e (reset_slots (reset_items v)))
+    (λ x m r k. search rules)

@@ -7,4 +7,5 @@ use Rattle.text.proofs.edges.set_line.Goals as goal
 
 pub returns : goal.returns
 unfolding set_line set_items
-returns c = c.line.ensures (λ m v. set_faults m.vars (set_items v)) (λ m v. with_updates m c.args.e (update_slots (set_items v)) (order_slots (set_items v))) (λ x m r k. search rules)
+returns c = c.line.ensures (λ m v. set_faults m.vars (set_items v))
+    (λ m v. with_updates m c.args.e (update_slots (set_items v)) (order_slots (set_items v))) (λ x m r k. search rules)

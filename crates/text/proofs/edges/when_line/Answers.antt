@@ -7,4 +7,5 @@ use Rattle.text.proofs.edges.when_line.Goals as goal
 
 pub returns : goal.returns
 unfolding when_line when_items
-returns c = c.line.ensures (λ m v. atom_faults m.clocks m.vars (when_items v)) (λ m v. with_guard m c.args.e (atom_slots (when_items v))) (λ x m r k. search rules)
+returns c = c.line.ensures (λ m v. atom_faults m.clocks m.vars (when_items v)) (λ m v. with_guard m c.args.e (atom_slots (when_items v)))
+    (λ x m r k. search rules)

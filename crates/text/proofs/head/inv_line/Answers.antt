@@ -7,4 +7,5 @@ use Rattle.text.proofs.head.inv_line.Goals as goal
 
 pub returns : goal.returns
 unfolding inv_line inv_items
-returns c = c.line.ensures (λ m v. atom_faults m.clocks m.vars (inv_items v)) (λ m v. with_invariant m c.args.l (atom_slots (inv_items v))) (λ x m r k. search rules)
+returns c = c.line.ensures (λ m v. atom_faults m.clocks m.vars (inv_items v)) (λ m v. with_invariant m c.args.l (atom_slots (inv_items v)))
+    (λ x m r k. search rules)

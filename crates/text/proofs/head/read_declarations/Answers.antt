@@ -18,7 +18,8 @@ returns-in_err-b c =
 pub returns-in_err-c : goal.returns-in_err-c
 returns-in_err-c c =
     let e : c.from_residual-in_err-c.result ≡ Err c.in_err-c.field-0.0 = search rules in
-    rw (e, ← c.in_ok-a.ensures.is, ← c.in_ok-b.ensures.is) (stop read_invariants (λ p. edges_line p) c.args.text.now c.in_ok-b.b _ c.in_err-c.ensures edges_line_stays)
+    rw (e, ← c.in_ok-a.ensures.is, ← c.in_ok-b.ensures.is)
+    (stop read_invariants (λ p. edges_line p) c.args.text.now c.in_ok-b.b _ c.in_err-c.ensures edges_line_stays)
 
 pub returns : goal.returns
 returns c = rw (← c.in_ok-a.ensures.is, ← c.in_ok-b.ensures.is, ← c.in_ok-c.ensures.is) c.edges_line.ensures

@@ -21,13 +21,15 @@ pub returns-in_err-c : goal.returns-in_err-c
 unfolding read_head
 returns-in_err-c c =
     let e : c.from_residual-in_err-c.result ≡ Err c.in_err-c.field-0.0 = search rules in
-    rw (e, ← c.in_ok-a.ensures.is, ← c.in_ok-b.ensures.is) (stop target_line (λ p. vars_line (clocks_line p)) c.args.text.now c.in_ok-b.b _ c.in_err-c.ensures after_target)
+    rw (e, ← c.in_ok-a.ensures.is, ← c.in_ok-b.ensures.is)
+    (stop target_line (λ p. vars_line (clocks_line p)) c.args.text.now c.in_ok-b.b _ c.in_err-c.ensures after_target)
 
 pub returns-in_err-d : goal.returns-in_err-d
 unfolding read_head
 returns-in_err-d c =
     let e : c.from_residual-in_err-d.result ≡ Err c.in_err-d.field-0.0 = search rules in
-    rw (e, ← c.in_ok-a.ensures.is, ← c.in_ok-b.ensures.is, ← c.in_ok-c.ensures.is) (stop clocks_line (λ p. vars_line p) c.args.text.now c.in_ok-c.c _ c.in_err-d.ensures vars_stays)
+    rw (e, ← c.in_ok-a.ensures.is, ← c.in_ok-b.ensures.is, ← c.in_ok-c.ensures.is)
+    (stop clocks_line (λ p. vars_line p) c.args.text.now c.in_ok-c.c _ c.in_err-d.ensures vars_stays)
 
 pub returns : goal.returns
 unfolding read_head

@@ -7,4 +7,5 @@ use Rattle.text.proofs.head.var_line.Goals as goal
 
 pub returns : goal.returns
 unfolding var_line
-returns c = c.line.ensures (λ m v. counter_faults (greatest_of v) (initial_of v)) (λ m v. with_counter m c.args.i (counter_in (greatest_of v) (initial_of v))) (λ x m r k. search rules)
+returns c = c.line.ensures (λ m v. counter_faults (greatest_of v) (initial_of v))
+    (λ m v. with_counter m c.args.i (counter_in (greatest_of v) (initial_of v))) (λ x m r k. search rules)

@@ -16,7 +16,8 @@ unfolding clock_set
 returns-in_err-source c =
     let named : assigns (following c.args.s.now) ≡ true = rw (← c.leading-clock.ensures.1, ← c.assigns.ensures) c.if-assigns.true in
     let clock : leading c.args.s.now ≡ Some c.in_ok-clock.clock = sym c.leading-clock.ensures.0 ∙ c.in_ok-clock.was in
-    let source : source_of (drop 2 (following c.args.s.now)) ≡ None = rw (← c.leading-clock.ensures.1, ← c.tail.ensures, ← c.source.ensures) c.in_err-source.was in
+    let source : source_of (drop 2 (following c.args.s.now)) ≡ None = rw (← c.leading-clock.ensures.1, ← c.tail.ensures, ← c.source.ensures)
+    c.in_err-source.was in
     rw (c.from_residual-in_err-source.ensures, named, clock, source)
 
 pub returns-in_err-number : goal.returns-in_err-number
@@ -31,7 +32,8 @@ unfolding clock_set
 returns-in_ok-source c =
     let named : assigns (following c.args.s.now) ≡ true = rw (← c.leading-clock.ensures.1, ← c.assigns.ensures) c.if-assigns.true in
     let clock : leading c.args.s.now ≡ Some c.in_ok-clock.clock = sym c.leading-clock.ensures.0 ∙ c.in_ok-clock.was in
-    let source : source_of (drop 2 (following c.args.s.now)) ≡ Some c.in_ok-source.source = rw (← c.leading-clock.ensures.1, ← c.tail.ensures, ← c.source.ensures) c.in_ok-source.was in
+    let source : source_of (drop 2 (following c.args.s.now)) ≡ Some c.in_ok-source.source = rw
+    (← c.leading-clock.ensures.1, ← c.tail.ensures, ← c.source.ensures) c.in_ok-source.was in
     rw (named, clock, source)
 
 pub returns-in_ok-number : goal.returns-in_ok-number

@@ -8,7 +8,8 @@ use Rattle.wirdoku.proofs.pairs.read_pair.Goals as goal
 
 pub returns-in-Ok : goal.returns-in-Ok
 unfolding pair_report
-returns-in-Ok c = c.composed.ensures ∙ both_ok (λ m n. pair_composed (compose_report m n)) refused_pair (read_report c.args.first.now) (read_report c.args.second.now) c.in-Ok.ensures
+returns-in-Ok c = c.composed.ensures
+    ∙ both_ok (λ m n. pair_composed (compose_report m n)) refused_pair (read_report c.args.first.now) (read_report c.args.second.now) c.in-Ok.ensures
 
 pub returns-in-Err : goal.returns-in-Err
 unfolding pair_report

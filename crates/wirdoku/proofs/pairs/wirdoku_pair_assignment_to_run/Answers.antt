@@ -12,14 +12,19 @@ pub returns-in-Ok : goal.returns-in-Ok
 returns-in-Ok c =
     let a = c.args in
     record {
-      result_value = c.decoded.ensures.result_value ∙ pair_ok (λ (m : Model). decode_report m a.bound a.assignment.now (length a.run.now)) refusal c.read_pair.result _ c.read_pair.ensures c.in-Ok.is;
-      run_after = c.decoded.ensures.run_after ∙ pair_ok (λ (m : Model). decode_left m a.bound a.assignment.now a.run.now) (λ n l. a.run.now) c.read_pair.result _ c.read_pair.ensures c.in-Ok.is;
+      result_value = c.decoded.ensures.result_value
+          ∙ pair_ok (λ (m : Model). decode_report m a.bound a.assignment.now (length a.run.now)) refusal c.read_pair.result _ c.read_pair.ensures c.in-Ok.is;
+      run_after = c.decoded.ensures.run_after
+          ∙ pair_ok (λ (m : Model). decode_left m a.bound a.assignment.now a.run.now) (λ n l. a.run.now) c.read_pair.result _ c.read_pair.ensures c.in-Ok.is;
     }
 
 pub returns-in-Err : goal.returns-in-Err
 returns-in-Err c =
     let a = c.args in
     record {
-      result_value = ap answer_told c.told.ensures ∙ pair_err (λ (m : Model). decode_report m a.bound a.assignment.now (length a.run.now)) refusal c.read_pair.result _ c.read_pair.ensures c.in-Err.is c.number.ensures c.line.ensures;
-      run_after = pair_err (λ (m : Model). decode_left m a.bound a.assignment.now a.run.now) (λ n l. a.run.now) c.read_pair.result _ c.read_pair.ensures c.in-Err.is c.number.ensures c.line.ensures;
+      result_value = ap answer_told c.told.ensures
+          ∙ pair_err (λ (m : Model). decode_report m a.bound a.assignment.now (length a.run.now)) refusal c.read_pair.result _ c.read_pair.ensures
+          c.in-Err.is c.number.ensures c.line.ensures;
+      run_after = pair_err (λ (m : Model). decode_left m a.bound a.assignment.now a.run.now) (λ n l. a.run.now) c.read_pair.result _
+          c.read_pair.ensures c.in-Err.is c.number.ensures c.line.ensures;
     }

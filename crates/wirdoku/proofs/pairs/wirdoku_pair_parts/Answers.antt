@@ -9,7 +9,8 @@ use Rattle.wirdoku.proofs.pairs.wirdoku_pair_parts.Goals as goal
 pub returns-in-Ok : goal.returns-in-Ok
 returns-in-Ok c =
     let a = c.args in
-    c.parts_of.ensures ∙ both_ok (λ m n. parts_answer (parts_report m n a.byte)) (λ t. refused_parts) (read_report a.first.now) (read_report a.second.now) c.in-Ok.ensures
+    c.parts_of.ensures
+    ∙ both_ok (λ m n. parts_answer (parts_report m n a.byte)) (λ t. refused_parts) (read_report a.first.now) (read_report a.second.now) c.in-Ok.ensures
 
 pub returns-in-Err : goal.returns-in-Err
 returns-in-Err c =

@@ -1,5 +1,5 @@
 -- `wirdoku_pair_refute`: what is told of a refusal, or what the call on the model answers and leaves.
-use Rattle.std.proofs.Common.{ap, ◌∙◌}
+use Rattle.std.proofs.Common.{◌∙◌}
 use Rattle.model.specs.declared.Model.{Model}
 use Rattle.wirdoku.specs.TextCall.{refute_reply, refused_refute}
 use Rattle.refute.specs.RefuteCall.{refute_report}
@@ -12,14 +12,21 @@ pub returns-in-Ok : goal.returns-in-Ok
 returns-in-Ok c =
     let a = c.args in
     record {
-      value = c.refuted.ensures.result_value ∙ pair_ok (λ (m : Model). refute_reply (refute_report m a.bound a.words.now a.hints.now)) refused_refute c.read_pair.result _ c.read_pair.ensures c.in-Ok.is;
-      words_after = c.refuted.ensures.words_after ∙ pair_ok (λ (m : Model). emit_left m a.bound (length a.words.now) a.words.now) (λ n l. a.words.now) c.read_pair.result _ c.read_pair.ensures c.in-Ok.is;
+      value = c.refuted.ensures.result_value
+          ∙ pair_ok (λ (m : Model). refute_reply (refute_report m a.bound a.words.now a.hints.now)) refused_refute c.read_pair.result _
+          c.read_pair.ensures c.in-Ok.is;
+      words_after = c.refuted.ensures.words_after
+          ∙ pair_ok (λ (m : Model). emit_left m a.bound (length a.words.now) a.words.now) (λ n l. a.words.now) c.read_pair.result _
+          c.read_pair.ensures c.in-Ok.is;
     }
 
 pub returns-in-Err : goal.returns-in-Err
 returns-in-Err c =
     let a = c.args in
     record {
-      value = c.refused_refute.ensures ∙ pair_err (λ (m : Model). refute_reply (refute_report m a.bound a.words.now a.hints.now)) refused_refute c.read_pair.result _ c.read_pair.ensures c.in-Err.is c.number.ensures c.line.ensures;
-      words_after = pair_err (λ (m : Model). emit_left m a.bound (length a.words.now) a.words.now) (λ n l. a.words.now) c.read_pair.result _ c.read_pair.ensures c.in-Err.is c.number.ensures c.line.ensures;
+      value = c.refused_refute.ensures
+          ∙ pair_err (λ (m : Model). refute_reply (refute_report m a.bound a.words.now a.hints.now)) refused_refute c.read_pair.result _
+          c.read_pair.ensures c.in-Err.is c.number.ensures c.line.ensures;
+      words_after = pair_err (λ (m : Model). emit_left m a.bound (length a.words.now) a.words.now) (λ n l. a.words.now) c.read_pair.result _
+          c.read_pair.ensures c.in-Err.is c.number.ensures c.line.ensures;
     }

@@ -8,7 +8,13 @@ use Rattle.wirdoku.proofs.PairLaws.{pair_ok, pair_err}
 use Rattle.wirdoku.proofs.pairs.wirdoku_pair_walk.Goals as goal
 
 pub returns-in-Ok : goal.returns-in-Ok
-returns-in-Ok c = let a = c.args in c.walked.ensures ∙ pair_ok (λ (m : Model). walk_report m a.run.now) refusal c.read_pair.result _ c.read_pair.ensures c.in-Ok.is
+returns-in-Ok c =
+    let a = c.args in
+    c.walked.ensures
+    ∙ pair_ok (λ (m : Model). walk_report m a.run.now) refusal c.read_pair.result _ c.read_pair.ensures c.in-Ok.is
 
 pub returns-in-Err : goal.returns-in-Err
-returns-in-Err c = let a = c.args in ap answer_told c.told.ensures ∙ pair_err (λ (m : Model). walk_report m a.run.now) refusal c.read_pair.result _ c.read_pair.ensures c.in-Err.is c.number.ensures c.line.ensures
+returns-in-Err c =
+    let a = c.args in
+    ap answer_told c.told.ensures
+    ∙ pair_err (λ (m : Model). walk_report m a.run.now) refusal c.read_pair.result _ c.read_pair.ensures c.in-Err.is c.number.ensures c.line.ensures

@@ -12,4 +12,5 @@ pub returns : goal.returns
 unfolding joined_atoms
 returns c =
     let a = c.args in
-    rw c.atom_count.ensures.0 at (c.joined.ensures (atom_at a.first) (λ k. shifted_atom a.self.clocks a.self.vars (atom_at a.second k)) (λ k x l h. search (rules, tests)) (λ k x l h. search (rules, tests)))
+    rw c.atom_count.ensures.0 at (c.joined.ensures (atom_at a.first) (λ k. shifted_atom a.self.clocks a.self.vars (atom_at a.second k))
+    (λ k x l h. search (rules, tests)) (λ k x l h. search (rules, tests)))

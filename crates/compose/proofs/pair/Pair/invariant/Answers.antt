@@ -31,7 +31,8 @@ returns-then-n-a c =
     let a = c.args.self.a.model in
     let b = c.args.self.b.model in
     let by = c.new.ensures in
-    let is = c.atoms-atoms.ensures ∙ (λ i. joined_atoms (by.0 i) (by.1 i) (invariant_at a (c.args.n / b.locations)) (invariant_at b (c.args.n % b.locations))) in
+    let is = c.atoms-atoms.ensures
+    ∙ (λ i. joined_atoms (by.0 i) (by.1 i) (invariant_at a (c.args.n / b.locations)) (invariant_at b (c.args.n % b.locations))) in
     (λ i. record { atoms = is i }) ∙ sym (row_at (joined_invariant a b) blank_invariant a.locations b.locations c.args.n c.if-n-a.true)
 
 pub returns-else-n-a : goal.returns-else-n-a

@@ -68,5 +68,9 @@ returns c =
     let first = c.ceiling-top.ensures.is in
     let second = c.ceiling-other_top.ensures.is in
     move_steps a b c.args.byte (omega (arith, c.if-byte-z.false, choices_of a b is known)) (omega (arith, c.if-byte-z-2.false, top_of a b is known))
-    (c.edge_byte-first.ensures ∙ ap (λ (x : Option ℕ). stays (edge_byte c.ceiling-top.result x)) c.first_edge.ensures ∙ (λ i. stays (edge_byte (first i) (first_edge (move i)))))
-    (c.edge_byte-second.ensures ∙ ap (λ (x : Option ℕ). stays (edge_byte c.ceiling-other_top.result x)) c.second_edge.ensures ∙ (λ i. stays (edge_byte (second i) (second_edge (move i)))))
+    (c.edge_byte-first.ensures
+    ∙ ap (λ (x : Option ℕ). stays (edge_byte c.ceiling-top.result x)) c.first_edge.ensures
+    ∙ (λ i. stays (edge_byte (first i) (first_edge (move i)))))
+    (c.edge_byte-second.ensures
+    ∙ ap (λ (x : Option ℕ). stays (edge_byte c.ceiling-other_top.result x)) c.second_edge.ensures
+    ∙ (λ i. stays (edge_byte (second i) (second_edge (move i)))))

@@ -9,5 +9,6 @@ pub returns : goal.returns
 unfolding absorbed pushed
 returns c =
     let s = c.args.self in
-    let atoms : c.put.new.slots ≡ pushed s.atoms s.count c.stored.result = c.put.ensures ∙ sym (put_is s.atoms s.count 4 c.stored.result c.well_formed.0.1.1.1.1.0.1.0.1) in
+    let atoms : c.put.new.slots ≡ pushed s.atoms s.count c.stored.result = c.put.ensures
+    ∙ sym (put_is s.atoms s.count 4 c.stored.result c.well_formed.0.1.1.1.1.0.1.0.1) in
     rw (atoms, c.next_count.ensures, c.stored.ensures, c.is_undeclared.ensures, c.is_outside.ensures, missing c.args.item _ c.is_none.ensures)

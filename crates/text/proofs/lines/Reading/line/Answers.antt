@@ -18,7 +18,8 @@ returns-in-Ok g c =
     λ faults put stores.
     let p = form_read c.at.result c.due_at.result c.ok_or.ensures.value c.in_ok-due.was in
     let due = subst (DueLine c.args.key.now c.args.text.now c.args.self.at) p c.due_at.ensures in
-    line_read c.args.key.now faults put c.args.text.now c.args.self c.in_ok-due.due due c.requires.placed c.in-Ok.model (stores c.in_ok-due.due.value c.args.self.model (Ok c.in-Ok.model) c.in-Ok.ensures)
+    line_read c.args.key.now faults put c.args.text.now c.args.self c.in_ok-due.due due c.requires.placed c.in-Ok.model
+    (stores c.in_ok-due.due.value c.args.self.model (Ok c.in-Ok.model) c.in-Ok.ensures)
 
 pub returns-in-Err : goal.returns-in-Err
 returns-in-Err g c =
