@@ -7,11 +7,7 @@ use Rattle.model.specs.Indexed.{all_below}
 use Rattle.model.specs.Form.{well_formed}
 use Rattle.model.proofs.ByIndex.{all_by_index}
 use Rattle.model.proofs.IndexedLaws.{T_true}
-use Rattle.model.proofs.Known.{Lengths, lengths}
-use mir.Val.{Val}
-use denote.Laws.{Is}
 use Rattle.compose.specs.declared.formed.Formed.{Formed}
-use Rattle.compose.specs.contracts.formed.Formed as FormedT
 
 pub all_same : (p q : ℕ → Bool) (n : ℕ) → ((i : ℕ) → i < n → p i ≡ q i) → all_below p n ≡ all_below q n
 unfolding all_below
@@ -40,7 +36,3 @@ front_any d p n xs l = any_not d p (take n xs) ∙ ap not (front_all d (λ x. no
 -- a well-formed model
 pub form_of : (f : Formed) → T (well_formed f.model)
 form_of f = (T_true _).1 f.formed
-
--- what owning a well-formed model tells of its arrays
-pub long_of : (f : Formed) (vs : List Val) → Is FormedT.the_row f vs → Lengths f.model
-long_of f vs g = lengths f.model _ g.1.1.0

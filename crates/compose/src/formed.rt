@@ -1,5 +1,5 @@
 // A well-formed model.
-ghost use Rattle.std.specs.Prelude.{◌≡◌, true, take};
+ghost use Rattle.std.specs.Prelude.{◌≡◌, true, take, length};
 ghost use Rattle.model.specs.Form.{well_formed};
 
 use crate::ComposeRefusal;
@@ -10,6 +10,8 @@ use model::{Edge, Invariant, Model};
 pub(crate) struct Formed {
     pub(crate) model: Model,
     ghost formed: { well_formed model ≡ true },
+    ghost invariants_long: { length model.invariants ≡ 16 },
+    ghost edges_long: { length model.edges ≡ 32 },
 }
 
 impl Formed {

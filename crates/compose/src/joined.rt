@@ -57,8 +57,8 @@ pub(crate) struct Shift {
 }
 
 impl Shift {
-    pub(crate) fn new(a: Formed, b: Formed) -> Shift
-        ensures { (result.clocks ≡ a.model.clocks) × (result.vars ≡ a.model.vars) × (result.locations ≡ b.model.locations) }
+    pub(crate) fn new(a: &Formed, b: &Formed) -> Shift
+        ensures { (result.clocks ≡ a.now.model.clocks) × (result.vars ≡ a.now.model.vars) × (result.locations ≡ b.now.model.locations) }
     {
         Shift {
             clocks: a.model.clocks,

@@ -74,22 +74,22 @@ fn add(list: Moves, way: Move) -> Moves
 }
 
 // Whether an edge of the model bears the label.
-fn bears(m: Formed, label: u8) -> bool
-    ensures { result ≡ bears m.model label }
+fn bears(m: &Formed, label: u8) -> bool
+    ensures { result ≡ bears m.now.model label }
 {
     m.edges().iter().any(|edge| edge.label == label)
 }
 
 // A label other than 0 borne by edges of both models is shared.
-fn shared(a: Formed, b: Formed, label: u8) -> bool
-    ensures { result ≡ shared a.model b.model label }
+fn shared(a: &Formed, b: &Formed, label: u8) -> bool
+    ensures { result ≡ shared a.now.model b.now.model label }
 {
     label != 0 && bears(a, label) && bears(b, label)
 }
 
 // Whether an edge of the first model and an edge of the second move in a pair.
-pub(crate) fn paired(a: Formed, b: Formed, e: Edge, f: Edge) -> bool
-    ensures { result ≡ shared a.model b.model e.label && eqb e.label f.label }
+pub(crate) fn paired(a: &Formed, b: &Formed, e: Edge, f: Edge) -> bool
+    ensures { result ≡ shared a.now.model b.now.model e.label && eqb e.label f.label }
 {
     shared(a, b, e.label) && e.label == f.label
 }
@@ -109,10 +109,10 @@ fn alone<F: Fn(u8) -> Move>(list: Moves, locations: u8, way: F) -> Moves
 }
 
 // A model's lone edges: `way` is the move of an edge while the other model stays in a location.
-fn lone_moves<F: Fn(u8, u8) -> Move>(list: Moves, own: Formed, other: Formed, way: F) -> Moves
+fn lone_moves<F: Fn(u8, u8) -> Move>(list: Moves, own: &Formed, other: &Formed, way: F) -> Moves
     requires few { list.count ≤ 512 }
     requires way { F.IsAlwaysCallable way }
-    ensures { (f : ℕ → ℕ → Move) → ((e j : ℕ) (x : Move) → e < 256 → j < 256 → F.post way e j x → x ≡ f e j) → result ≡ added list (each own.model.used (λ e. cond (shared own.model other.model (label_at own.model e)) [] (list_below (f e) other.model.locations))) }
+    ensures { (f : ℕ → ℕ → Move) → ((e j : ℕ) (x : Move) → e < 256 → j < 256 → F.post way e j x → x ≡ f e j) → result ≡ added list (each own.now.model.used (λ e. cond (shared own.now.model other.now.model (label_at own.now.model e)) [] (list_below (f e) other.now.model.locations))) }
 {
     let mut moves = list;
     for e in 0..own.model.used {
@@ -124,9 +124,9 @@ fn lone_moves<F: Fn(u8, u8) -> Move>(list: Moves, own: Formed, other: Formed, wa
 }
 
 // The pairs of an edge of the first model.
-fn pairs_of(list: Moves, a: Formed, b: Formed, e: u8) -> Moves
-    requires { (list.count ≤ 2048) × (e < a.model.used) }
-    ensures { result ≡ added list (pairs_of a.model b.model e) }
+fn pairs_of(list: Moves, a: &Formed, b: &Formed, e: u8) -> Moves
+    requires { (list.count ≤ 2048) × (e < a.now.model.used) }
+    ensures { result ≡ added list (pairs_of a.now.model b.now.model e) }
 {
     let mut moves = list;
     let edge = a.model.edges[e as usize];
@@ -145,9 +145,9 @@ fn pairs_of(list: Moves, a: Formed, b: Formed, e: u8) -> Moves
 }
 
 // Pairs, in lexicographic order.
-fn pair_moves(list: Moves, a: Formed, b: Formed) -> Moves
+fn pair_moves(list: Moves, a: &Formed, b: &Formed) -> Moves
     requires { list.count ≤ 1024 }
-    ensures { result ≡ added list (each a.model.used (pairs_of a.model b.model)) }
+    ensures { result ≡ added list (each a.now.model.used (pairs_of a.now.model b.now.model)) }
 {
     let mut moves = list;
     for e in 0..a.model.used {
@@ -157,8 +157,8 @@ fn pair_moves(list: Moves, a: Formed, b: Formed) -> Moves
 }
 
 // All moves, in the order of the composed model's edges.
-pub(crate) fn moves_of(a: Formed, b: Formed) -> Moves
-    ensures { result ≡ added no_moves (moves a.model b.model) }
+pub(crate) fn moves_of(a: &Formed, b: &Formed) -> Moves
+    ensures { result ≡ added no_moves (moves a.now.model b.now.model) }
 {
     let none = no_moves();
     let first = lone_moves(none, a, b, |edge, stays| Move::FirstAlone { edge, stays });
@@ -167,9 +167,9 @@ pub(crate) fn moves_of(a: Formed, b: Formed) -> Moves
 }
 
 // The edge of a move.
-pub(crate) fn edge_of(a: Formed, b: Formed, way: Move) -> Edge
-    requires { MoveOf a.model b.model way }
-    ensures { result ≡ edge_of a.model b.model way }
+pub(crate) fn edge_of(a: &Formed, b: &Formed, way: Move) -> Edge
+    requires { MoveOf a.now.model b.now.model way }
+    ensures { result ≡ edge_of a.now.model b.now.model way }
 {
     let shift = Shift::new(a, b);
     match way {

@@ -41,66 +41,66 @@ impl Pair {
     {
         let a = Formed::new(a)?;
         let b = Formed::new(b)?;
-        let list = moves_of(a, b);
-        if fits(a, b, list.count) {
+        let list = moves_of(&a, &b);
+        if fits(&a, &b, list.count) {
             Ok(Pair { a, b, list })
         } else {
             Err(ComposeRefusal::TooLarge)
         }
     }
 
-    fn counters(self) -> [Counter; Model::COUNTERS]
-        ensures { result ≡ joined_counters self.a.model self.b.model }
+    fn counters(&self) -> [Counter; Model::COUNTERS]
+        ensures { result ≡ joined_counters self.now.a.model self.now.b.model }
     {
-        let (a, b) = (self.a.model, self.b.model);
+        let (a, b) = (&self.a.model, &self.b.model);
         joined(a.vars as usize, |i| a.counters[i], |i| b.counters[i])
     }
 
     // Slot `n` of the invariants: that of the location with number `n`, and blank past the last.
-    fn invariant(self, n: usize) -> Invariant
-        ensures { result ≡ get_or (joined_invariants self.a.model self.b.model) n blank_invariant }
+    fn invariant(&self, n: usize) -> Invariant
+        ensures { result ≡ get_or (joined_invariants self.now.a.model self.now.b.model) n blank_invariant }
     {
-        let (a, b) = (self.a.model, self.b.model);
+        let (a, b) = (&self.a.model, &self.b.model);
         let row = b.locations as usize;
         let atoms = if n < a.locations as usize * row {
             let first = a.invariants[n / row].atoms;
             let second = b.invariants[n % row].atoms;
-            Shift::new(self.a, self.b).atoms(first, second)
+            Shift::new(&self.a, &self.b).atoms(first, second)
         } else {
             [Atom::Blank; Model::ATOMS]
         };
         Invariant { atoms }
     }
 
-    fn invariants(self) -> [Invariant; Model::LOCATIONS]
-        ensures { result ≡ placed (replicate 16 blank_invariant) 0 (joined_invariants self.a.model self.b.model) }
+    fn invariants(&self) -> [Invariant; Model::LOCATIONS]
+        ensures { result ≡ placed (replicate 16 blank_invariant) 0 (joined_invariants self.now.a.model self.now.b.model) }
     {
         array::from_fn(|n| self.invariant(n))
     }
 
     // Slot `n` of the edges: that of move `n`, and blank past the last.
-    fn edge(self, n: usize) -> Edge
+    fn edge(&self, n: usize) -> Edge
         requires { n < 32 }
-        ensures { result ≡ composed_edge self.a.model self.b.model n }
+        ensures { result ≡ composed_edge self.now.a.model self.now.b.model n }
     {
         if n < self.list.count {
-            edge_of(self.a, self.b, self.list.slots[n])
+            edge_of(&self.a, &self.b, self.list.slots[n])
         } else {
             standing(0)
         }
     }
 
-    fn edges(self) -> [Edge; Model::EDGES]
-        ensures { result ≡ list_below (composed_edge self.a.model self.b.model) 32 }
+    fn edges(&self) -> [Edge; Model::EDGES]
+        ensures { result ≡ list_below (composed_edge self.now.a.model self.now.b.model) 32 }
     {
         array::from_fn(|n| self.edge(n))
     }
 
     // The composed model.
-    pub(crate) fn composed(self) -> Model
-        ensures { result ≡ composed self.a.model self.b.model }
+    pub(crate) fn composed(&self) -> Model
+        ensures { result ≡ composed self.now.a.model self.now.b.model }
     {
-        let (a, b) = (self.a.model, self.b.model);
+        let (a, b) = (&self.a.model, &self.b.model);
         Model {
             locations: a.locations * b.locations,
             initial: a.initial * b.locations + b.initial,
@@ -115,8 +115,8 @@ impl Pair {
     }
 
     // A step byte of the composed model in each part: 27.
-    pub(crate) fn steps(self, byte: u8) -> Result<PartSteps, PartsRefusal>
-        ensures { parts_told result ≡ steps_report self.a.model self.b.model byte }
+    pub(crate) fn steps(&self, byte: u8) -> Result<PartSteps, PartsRefusal>
+        ensures { parts_told result ≡ steps_report self.now.a.model self.now.b.model byte }
     {
         let z = self.composed().totals();
         if byte as usize >= z.choices {

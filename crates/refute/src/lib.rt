@@ -1,7 +1,7 @@
 // A refutation of the list for a bound: the list is written in front of the lemmas that the caller has put into the lent words.
 #![tactic(auto)]
 
-ghost use Rattle.std.specs.Prelude.{◌≡◌, length};
+ghost use Rattle.std.specs.Prelude.{◌≡◌, length, Ok};
 ghost use Rattle.emission.specs.EmitCall.{emit_left};
 ghost use Rattle.refute.specs.RefuteCall.{refute_report, refute_told};
 
@@ -14,6 +14,15 @@ use refutation::refuted;
 pub struct Refutation {
     pub refuted: bool,
     pub words: usize,
+}
+
+impl Refutation {
+    // 1 refuted, 2 not refuted.
+    pub fn outcome(self) -> u8
+        ensures { result ≡ (refute_told (Ok self)).outcome }
+    {
+        if self.refuted { 1 } else { 2 }
+    }
 }
 
 // Writes the list for a bound in front of the lemmas and follows the hints: 20, 21, 22, and then the words are as they were.

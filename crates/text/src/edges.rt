@@ -17,11 +17,10 @@ fn with_edge<F: FnOnce(Edge) -> Edge>(m: Model, e: usize, change: F) -> Model
     requires { F.IsAlwaysCallable change }
     ensures { (h : Edge → Edge) → ((x r : Edge) → F.post change x r → r ≡ h x) → result ≡ with_edge m e (h (edge_at m e)) }
 {
-    if Model::EDGES <= e {
-        return m;
-    }
     let mut next = m;
-    next.edges[e] = change(m.edges[e]);
+    if e < Model::EDGES {
+        next.edges[e] = change(next.edges[e]);
+    }
     next
 }
 

@@ -95,6 +95,16 @@ pub fn read_bound(text: &[u8]) -> Option<BoundLine>
     reader::placed(text, 0).bound()
 }
 
+// The number of what was read as a bound line: 0, or 9 where there is none.
+pub fn bound_number(read: Option<BoundLine>) -> u8
+    ensures { result ≡ (bound_told read).number }
+{
+    match read {
+        Some(_) => 0,
+        None => 9,
+    }
+}
+
 // A bound line and the model text that follows it, read by one reader.
 pub fn read_item(input: &[u8]) -> ItemRead
     ensures { item_told result ≡ item_report input.now }

@@ -204,7 +204,7 @@ pub fn refuted(m: Model, bound: usize, words: &mut [i32], hints: &[u32]) -> Refu
             number: 0,
             line: 0,
             words: r.words,
-            outcome: if r.refuted { 1 } else { 2 },
+            outcome: r.outcome(),
         },
         Err(refusal) => RefuteReply {
             number: refusal.number(),

@@ -8,15 +8,15 @@ use Rattle.model.specs.Record.{past_invariant, invariant_at}
 use Rattle.model.proofs.FormLaws.{formed}
 use Rattle.compose.specs.Composed.{invariants_fit}
 use Rattle.compose.specs.Joined.{atom_count}
-use Rattle.compose.proofs.Fronts.{front_all, form_of, long_of}
+use Rattle.compose.proofs.Fronts.{front_all, form_of}
 use Rattle.compose.proofs.fit.invariants_fit.Goals as goal
 
 pub returns : goal.returns
 unfolding invariants_fit
 returns c =
-    let a = c.args.a.model in
-    let b = c.args.b.model in
+    let a = c.args.a.now.model in
+    let b = c.args.b.now.model in
     let row = λ (v : Invariant). all_below (λ j. leb (atom_count v.atoms + atom_count (invariant_at b j)) 4) b.locations in
     all_from_yields_List row _ _ _ c.all.ensures.ran (YieldsList-from_slice _ cc) (λ x b q k. search (rules, tests))
     ∙ front_all past_invariant row a.locations a.invariants
-    (omega (arith, (long_of c.args.a _ c.well_formed.0).invariants, (formed a (form_of c.args.a)).locations_le))
+    (omega (arith, c.args.a.now.invariants_long, (formed a (form_of c.args.a.now)).locations_le))

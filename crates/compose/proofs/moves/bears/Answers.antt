@@ -7,13 +7,13 @@ use Rattle.model.specs.declared.Edge.{Edge}
 use Rattle.model.specs.Record.{past_edge}
 use Rattle.model.proofs.FormLaws.{formed}
 use Rattle.compose.specs.Moves.{bears}
-use Rattle.compose.proofs.Fronts.{front_any, form_of, long_of}
+use Rattle.compose.proofs.Fronts.{front_any, form_of}
 use Rattle.compose.proofs.moves.bears.Goals as goal
 
 pub returns : goal.returns
 unfolding bears
 returns c =
-    let m = c.args.m.model in
+    let m = c.args.m.now.model in
     any_from_yields_List (λ (e : Edge). eqb e.label c.args.label) _ _ _ c.any.ensures.ran (YieldsList-from_slice _ cc) (λ x b q k. search (rules, tests))
     ∙ front_any past_edge (λ (e : Edge). eqb e.label c.args.label) m.used m.edges
-    (omega (arith, (long_of c.args.m _ c.well_formed.0).edges, (formed m (form_of c.args.m)).used_le))
+    (omega (arith, c.args.m.now.edges_long, (formed m (form_of c.args.m.now)).used_le))

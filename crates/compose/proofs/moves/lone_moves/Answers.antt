@@ -11,20 +11,20 @@ pub loop-e-init : goal.loop-e-init
 loop-e-init g c = (omega arith, λ f h. each_start _ _)
 
 pub bounds-own-e : goal.bounds-own-e
-bounds-own-e g c = omega (arith, (formed c.args.own.model (form_of c.args.own)).used_le)
+bounds-own-e g c = omega (arith, (formed c.args.own.now.model (form_of c.args.own.now)).used_le)
 
 pub alone-moves-requires-clause-few : goal.alone-moves-requires-clause-few
 alone-moves-requires-clause-few g c =
-    let v = formed c.args.own.model (form_of c.args.own) in
-    let w = formed c.args.other.model (form_of c.args.other) in
+    let v = formed c.args.own.now.model (form_of c.args.own.now) in
+    let w = formed c.args.other.now.model (form_of c.args.other.now) in
     (omega (arith, c.requires.few, v.used_le), w.locations_le)
 
 pub loop-e-preserved : goal.loop-e-preserved
 loop-e-preserved g c =
     let loop = c.loop-e in
-    let own = c.args.own.model in
-    let other = c.args.other.model in
-    let w = formed other (form_of c.args.other) in
+    let own = c.args.own.now.model in
+    let other = c.args.other.now.model in
+    let w = formed other (form_of c.args.other.now) in
     let told = sym c.shared.ensures in
     elim c.if-not-shared.branch [
       | then-not-shared r ↦ (
@@ -44,5 +44,5 @@ loop-e-preserved g c =
 
 pub returns : goal.returns
 returns g c =
-    let e : c.loop-e.e-counter ≡ c.args.own.model.used = omega arith in
+    let e : c.loop-e.e-counter ≡ c.args.own.now.model.used = omega arith in
     λ f h. rw e at (c.loop-e.invariant.1 f h)

@@ -30,17 +30,17 @@ module _ (a b : Model) where
 
 pub lone_moves-alone-requires-clause-few : goal.lone_moves-alone-requires-clause-few
 lone_moves-alone-requires-clause-few c =
-    let a = c.args.a.model in
-    let b = c.args.b.model in
-    first_few a b (formed a (form_of c.args.a)).used_le (formed b (form_of c.args.b)).locations_le
+    let a = c.args.a.now.model in
+    let b = c.args.b.now.model in
+    first_few a b (formed a (form_of c.args.a.now)).used_le (formed b (form_of c.args.b.now)).locations_le
     (first_is a b c.no_moves-none.ensures (c.lone_moves-first.ensures FirstAlone (λ e j x p q h. search rules)))
 
 pub pair_moves-requires : goal.pair_moves-requires
 pair_moves-requires c =
-    let a = c.args.a.model in
-    let b = c.args.b.model in
-    let v = formed a (form_of c.args.a) in
-    let w = formed b (form_of c.args.b) in
+    let a = c.args.a.now.model in
+    let b = c.args.b.now.model in
+    let v = formed a (form_of c.args.a.now) in
+    let w = formed b (form_of c.args.b.now) in
     second_few a b c.lone_moves-first.result w.used_le v.locations_le
     (first_few a b v.used_le w.locations_le (first_is a b c.no_moves-none.ensures (c.lone_moves-first.ensures FirstAlone (λ e j x p q h. search rules))))
     (second_is a b c.lone_moves-first.result (c.lone_moves-alone.ensures SecondAlone (λ e j x p q h. search rules)))
@@ -48,8 +48,8 @@ pair_moves-requires c =
 pub returns : goal.returns
 unfolding moves
 returns c =
-    let a = c.args.a.model in
-    let b = c.args.b.model in
+    let a = c.args.a.now.model in
+    let b = c.args.b.now.model in
     let first = first_is a b c.no_moves-none.ensures (c.lone_moves-first.ensures FirstAlone (λ e j x p q h. search rules)) in
     let second = second_is a b c.lone_moves-first.result (c.lone_moves-alone.ensures SecondAlone (λ e j x p q h. search rules)) in
     let alone = added_on no_moves (each a.used (first_alone a b)) (each b.used (second_alone a b)) first second refl in

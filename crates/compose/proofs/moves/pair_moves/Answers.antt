@@ -14,17 +14,17 @@ loop-e-init c = each_start _ _
 pub pairs_of-moves-requires : goal.pairs_of-moves-requires
 pairs_of-moves-requires c =
     let e = c.loop-e.e in
-    let a = c.args.a.model in
-    let b = c.args.b.model in
-    let v = formed a (form_of c.args.a) in
-    let w = formed b (form_of c.args.b) in
+    let a = c.args.a.now.model in
+    let b = c.args.b.now.model in
+    let v = formed a (form_of c.args.a.now) in
+    let w = formed b (form_of c.args.b.now) in
     let few = each_most e 32 (pairs_of a b) (λ e. omega (arith, pairs_most a b e, w.used_le)) in
     (omega (arith, c.requires, v.used_le, counted c.args.list (each e (pairs_of a b)) c.loop-e.invariant, few), c.loop-e-test.true)
 
 pub loop-e-preserved : goal.loop-e-preserved
 loop-e-preserved c =
-    each_turn c.args.list (pairs_of c.args.a.model c.args.b.model) c.loop-e.e _ c.loop-e.invariant c.pairs_of-moves.ensures refl
+    each_turn c.args.list (pairs_of c.args.a.now.model c.args.b.now.model) c.loop-e.e _ c.loop-e.invariant c.pairs_of-moves.ensures refl
 
 pub returns : goal.returns
-returns c = let e : c.loop-e.e ≡ c.args.a.model.used = omega arith in
+returns c = let e : c.loop-e.e ≡ c.args.a.now.model.used = omega arith in
     rw e at c.loop-e.invariant

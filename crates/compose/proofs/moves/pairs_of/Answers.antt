@@ -13,15 +13,15 @@ pub loop-f-init : goal.loop-f-init
 loop-f-init c = each_start _ _
 
 pub bounds-a-e : goal.bounds-a-e
-bounds-a-e c = omega (arith, c.requires.1, (formed c.args.a.model (form_of c.args.a)).used_le)
+bounds-a-e c = omega (arith, c.requires.1, (formed c.args.a.now.model (form_of c.args.a.now)).used_le)
 
 pub bounds-b-f : goal.bounds-b-f
-bounds-b-f c = omega (arith, (formed c.args.b.model (form_of c.args.b)).used_le)
+bounds-b-f c = omega (arith, (formed c.args.b.now.model (form_of c.args.b.now)).used_le)
 
 pub add-moves-requires : goal.add-moves-requires
 add-moves-requires c =
-    let a = c.args.a.model in
-    let b = c.args.b.model in
+    let a = c.args.a.now.model in
+    let b = c.args.b.now.model in
     let pairs = pair_of a b c.args.e in
     omega (arith, c.requires.0, counted c.args.list (each c.loop-f.f pairs) c.loop-f.invariant, some_pairs_most a b c.args.e c.loop-f.f)
 
@@ -29,8 +29,8 @@ pub loop-f-preserved : goal.loop-f-preserved
 unfolding paired
 loop-f-preserved c =
     let loop = c.loop-f in
-    let a = c.args.a.model in
-    let b = c.args.b.model in
+    let a = c.args.a.now.model in
+    let b = c.args.b.now.model in
     let e = c.args.e in
     let told = sym c.paired.ensures in
     elim c.if-paired.branch [
@@ -41,5 +41,5 @@ loop-f-preserved c =
 
 pub returns : goal.returns
 unfolding pairs_of
-returns c = let e : c.loop-f.f ≡ c.args.b.model.used = omega arith in
+returns c = let e : c.loop-f.f ≡ c.args.b.now.model.used = omega arith in
     rw e at c.loop-f.invariant

@@ -5,6 +5,6 @@ use Rattle.compose.proofs.joined.Shift.new.Goals as goal
 
 pub invariant_of-result : goal.invariant_of-result
 invariant_of-result c =
-    let v = formed c.args.a.model (form_of c.args.a) in
-    let w = formed c.args.b.model (form_of c.args.b) in
+    let v = formed c.args.a.now.model (form_of c.args.a.now) in
+    let w = formed c.args.b.now.model (form_of c.args.b.now) in
     record { clocks_le = v.clocks_le; vars_le = v.vars_le; locations_le = w.locations_le }

@@ -6,5 +6,5 @@ use Rattle.compose.proofs.pair.Pair.counters.Goals as goal
 
 pub returns : goal.returns
 unfolding joined_counters
-returns c = c.joined.ensures (counter_at c.args.self.a.model) (counter_at c.args.self.b.model) (λ k x l h. search (rules, tests))
+returns c = c.joined.ensures (counter_at c.args.self.now.a.model) (counter_at c.args.self.now.b.model) (λ k x l h. search (rules, tests))
     (λ k x l h. search (rules, tests))

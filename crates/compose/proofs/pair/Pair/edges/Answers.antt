@@ -6,4 +6,6 @@ use Rattle.compose.proofs.MadeBelow.{made_below}
 use Rattle.compose.proofs.pair.Pair.edges.Goals as goal
 
 pub returns : goal.returns
-returns c = made_below _ _ (composed_edge c.args.self.a.model c.args.self.b.model) past_edge 32 (λ k y q h p. search (rules, tests)) _ c.from_fn.ensures.items
+returns c =
+    let p = c.args.self.now in
+    made_below _ _ (composed_edge p.a.model p.b.model) past_edge 32 (λ k y q h p. search (rules, tests)) _ c.from_fn.ensures.items

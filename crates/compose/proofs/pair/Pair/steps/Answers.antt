@@ -10,19 +10,19 @@ use Rattle.compose.proofs.pair.Pair.steps.Goals as goal
 
 pub returns-then-byte-z : goal.returns-then-byte-z
 returns-then-byte-z c =
-    let p = c.args.self in
+    let p = c.args.self.now in
     let all = choices_of p.a.model p.b.model c.composed.ensures c.totals-z.ensures in
     no_choice p.a.model p.b.model c.args.byte (omega (arith, c.if-byte-z.true, all))
 
 pub overflow_cast-top : goal.overflow_cast-top
-overflow_cast-top c = record { fits = omega (arith, c.ceiling-top.ensures.is, (first_of c.args.self).ceiling_le) }
+overflow_cast-top c = record { fits = omega (arith, c.ceiling-top.ensures.is, (first_of c.args.self.now).ceiling_le) }
 
 pub overflow_cast-other_top : goal.overflow_cast-other_top
-overflow_cast-other_top c = record { fits = omega (arith, c.ceiling-other_top.ensures.is, (second_of c.args.self).ceiling_le) }
+overflow_cast-other_top c = record { fits = omega (arith, c.ceiling-other_top.ensures.is, (second_of c.args.self.now).ceiling_le) }
 
 pub returns-then-byte-z-2 : goal.returns-then-byte-z-2
 returns-then-byte-z-2 c =
-    let p = c.args.self in
+    let p = c.args.self.now in
     let is = c.composed.ensures in
     let all = choices_of p.a.model p.b.model is c.totals-z.ensures in
     let top = top_of p.a.model p.b.model is c.totals-z.ensures in
@@ -32,13 +32,13 @@ returns-then-byte-z-2 c =
 
 pub bounds-self-byte : goal.bounds-self-byte
 bounds-self-byte c =
-    let p = c.args.self in
+    let p = c.args.self.now in
     let low = byte_below p.a.model p.b.model c.composed.ensures c.totals-z.ensures c.args.byte c.if-byte-z-2.false c.if-byte-z.false in
     omega (arith, low, (held_of p).moves_le)
 
 pub edge_byte-first-requires : goal.edge_byte-first-requires
 edge_byte-first-requires c =
-    let p = c.args.self in
+    let p = c.args.self.now in
     let n = c.args.byte - (c.totals-z.result.ceiling + 1) in
     let low = byte_below p.a.model p.b.model c.composed.ensures c.totals-z.ensures c.args.byte c.if-byte-z-2.false c.if-byte-z.false in
     let move = move_in p.a.model p.b.model p.listed no_move n (omega (arith, low, (held_of p).moves_le)) in (
@@ -48,7 +48,7 @@ edge_byte-first-requires c =
 
 pub edge_byte-second-requires : goal.edge_byte-second-requires
 edge_byte-second-requires c =
-    let p = c.args.self in
+    let p = c.args.self.now in
     let n = c.args.byte - (c.totals-z.result.ceiling + 1) in
     let low = byte_below p.a.model p.b.model c.composed.ensures c.totals-z.ensures c.args.byte c.if-byte-z-2.false c.if-byte-z.false in
     let move = move_in p.a.model p.b.model p.listed no_move n (omega (arith, low, (held_of p).moves_le)) in (
@@ -58,7 +58,7 @@ edge_byte-second-requires c =
 
 pub returns : goal.returns
 returns c =
-    let p = c.args.self in
+    let p = c.args.self.now in
     let a = p.a.model in
     let b = p.b.model in
     let is = c.composed.ensures in
